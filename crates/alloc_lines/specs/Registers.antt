@@ -30,28 +30,29 @@ abbrev pub operand_in : (registers : List ℕ) → (k : ℕ) → SecondOperand �
 operand_in registers k (operand.Temp t) = operand.Temp (register_at registers k)
 operand_in registers k (operand.Literal n) = operand.Literal n
 
-abbrev pub with_registers : (registers : List ℕ) → TempInsn → TempInsn
-with_registers registers (Address op destination base plus) =
+abbrev pub with_stated_registers : (registers : List ℕ) → TempInsn → TempInsn
+with_stated_registers registers (Address op destination base plus) =
     Address op (register_at registers (source_count base)) (source_in registers 0 base) plus
-with_registers registers (ObjectAddress destination place plus) = ObjectAddress (register_at registers 0) place plus
-with_registers registers (Load op destination pointer plus) =
+with_stated_registers registers (ObjectAddress destination place plus) =
+    ObjectAddress (register_at registers 0) place plus
+with_stated_registers registers (Load op destination pointer plus) =
     Load op (register_at registers 1) (register_at registers 0) plus
-with_registers registers (Store op value pointer plus) =
+with_stated_registers registers (Store op value pointer plus) =
     Store op (source_in registers 0 value) (register_at registers (source_count value)) plus
-with_registers registers (Operate op destination left right) =
+with_stated_registers registers (Operate op destination left right) =
     Operate op (register_at registers (source_count left + operand_count right)) (source_in registers 0 left)
     (operand_in registers (source_count left) right)
-with_registers registers (Extend op destination source) =
+with_stated_registers registers (Extend op destination source) =
     Extend op (register_at registers (operand_count source)) (operand_in registers 0 source)
-with_registers registers (ToFixed register source) = ToFixed register (register_at registers 0)
-with_registers registers (FromFixed destination register) = FromFixed (register_at registers 0) register
-with_registers registers (WriteArgument number source) = WriteArgument number (register_at registers 0)
-with_registers registers (ReadArgument destination number) = ReadArgument (register_at registers 0) number
-with_registers registers (Branch op source block) = Branch op (register_at registers 0) block
-with_registers registers (SetFixed register number) = SetFixed register number
-with_registers registers (Jump block) = Jump block
-with_registers registers (Call function arguments) = Call function arguments
-with_registers registers (Divide routine) = Divide routine
-with_registers registers (Serve service) = Serve service
-with_registers registers (Return with_value) = Return with_value
-with_registers registers Mark = Mark
+with_stated_registers registers (ToFixed register source) = ToFixed register (register_at registers 0)
+with_stated_registers registers (FromFixed destination register) = FromFixed (register_at registers 0) register
+with_stated_registers registers (WriteArgument number source) = WriteArgument number (register_at registers 0)
+with_stated_registers registers (ReadArgument destination number) = ReadArgument (register_at registers 0) number
+with_stated_registers registers (Branch op source block) = Branch op (register_at registers 0) block
+with_stated_registers registers (SetFixed register number) = SetFixed register number
+with_stated_registers registers (Jump block) = Jump block
+with_stated_registers registers (Call function arguments) = Call function arguments
+with_stated_registers registers (Divide routine) = Divide routine
+with_stated_registers registers (Serve service) = Serve service
+with_stated_registers registers (Return with_value) = Return with_value
+with_stated_registers registers Mark = Mark

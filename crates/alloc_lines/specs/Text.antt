@@ -2,7 +2,7 @@
 use Rattle.std.specs.Prelude.{ℕ, ◌+◌, List, [], ◌∷◌, ◌++◌, length, slice_index_or, flat_map, codes, decimal}
 use Rattle.suifvm_ir.specs.Text.{block_name}
 use Rattle.temp_ir.specs.declared.insn.TempInsn.{TempInsn}
-use Rattle.temp_ir.specs.Text.{register_text, insn_text}
+use Rattle.temp_ir.specs.Text.{register_name, insn_text}
 use Rattle.alloc_model.specs.declared.allocation.Loc.{Loc}
 use Rattle.alloc_model.specs.declared.allocation.Loc.TheVariants as loc
 use Rattle.alloc_model.specs.declared.allocation.TempPlace.{TempPlace}
@@ -12,18 +12,18 @@ use Rattle.alloc_model.specs.declared.allocation.Event.{Event}
 use Rattle.alloc_model.specs.declared.allocation.Event.TheVariants as event
 use Rattle.alloc_model.specs.declared.allocation.EdgeCode.{EdgeCode}
 use Rattle.alloc_model.specs.declared.allocation.Allocation.{Allocation}
-use Rattle.alloc_lines.specs.Registers.{with_registers}
+use Rattle.alloc_lines.specs.Registers.{with_stated_registers}
 
 -- ---- transfers and events
 
 -- a word, a temporary and its register
 abbrev pub move_line : (word : List ℕ) → (temp register : ℕ) → List ℕ
 move_line word temp register =
-    word ++ codes " t" ++ decimal temp ++ codes " " ++ register_text register ++ codes "\n"
+    word ++ codes " t" ++ decimal temp ++ codes " " ++ register_name register ++ codes "\n"
 
 abbrev pub shift_line : (temp from to : ℕ) → List ℕ
 shift_line temp from to =
-    codes "move t" ++ decimal temp ++ codes " " ++ register_text from ++ codes " " ++ register_text to ++ codes "\n"
+    codes "move t" ++ decimal temp ++ codes " " ++ register_name from ++ codes " " ++ register_name to ++ codes "\n"
 
 abbrev pub transfer_line : Transfer → List ℕ
 transfer_line (Store temp register) = move_line (codes "store") temp register
@@ -48,7 +48,7 @@ events_text events = flat_map event_line events
 -- ---- maps
 
 abbrev pub place_text : Loc → List ℕ
-place_text (loc.Reg register) = register_text register
+place_text (loc.Reg register) = register_name register
 place_text (loc.Slot temp) = codes "s" ++ decimal temp
 
 -- a temporary with its place, and a blank before it
@@ -68,7 +68,8 @@ map_line block word standings = block_name block ++ word ++ standings_text stand
 -- an instruction with a number, and the transfers before it
 abbrev pub insn_lines : (number : ℕ) → List Transfer → (registers : List ℕ) → TempInsn → List ℕ
 insn_lines number transfers registers insn =
-    transfers_text transfers ++ decimal number ++ codes " " ++ insn_text (codes "$") (with_registers registers insn)
+    transfers_text transfers ++ decimal number ++ codes " " ++ insn_text (codes "$")
+    (with_stated_registers registers insn)
     ++ codes "\n"
 
 -- the instructions from a place in linear order on; before the first of the function stand so many others

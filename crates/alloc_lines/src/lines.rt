@@ -1,7 +1,7 @@
 //! The lines of transfers, events, maps and edges.
 
 ghost use Rattle.std.specs.Prelude.{◌≡◌, ◌++◌, OnOk};
-ghost use Rattle.temp_ir.specs.Text.{register_text};
+ghost use Rattle.temp_ir.specs.Text.{register_name};
 ghost use Rattle.alloc_lines.specs.Text as text;
 
 use alloc_model::allocation::{EdgeCode, Event, Loc, TempPlace, Transfer};
@@ -10,7 +10,7 @@ use temp_ir::text_parts::{put, put_block, put_number};
 
 /// Puts a register.
 fn put_register(out: &mut Vec<u8>, register: u8) -> Result<(), AllocError>
-    ensures { OnOk result (out.new.items ≡ out.old.items ++ register_text register) }
+    ensures { OnOk result (out.new.items ≡ out.old.items ++ register_name register) }
 {
     put(out, "$")?;
     put_number(out, u64::from(register))

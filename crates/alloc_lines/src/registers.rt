@@ -59,7 +59,7 @@ fn operand_in(registers: &[u8], k: usize, operand: SecondOperand) -> SecondOpera
 
 /// An instruction with these registers for its temporaries: those that it reads, in order, then those that it writes.
 pub(crate) fn with_registers(registers: &[u8], insn: &TempInsn) -> TempInsn
-    ensures { result ≡ stated.with_registers registers.now insn.now }
+    ensures { result ≡ stated.with_stated_registers registers.now insn.now }
 {
     match insn {
         TempInsn::Address { op, base, plus, .. } => TempInsn::Address {

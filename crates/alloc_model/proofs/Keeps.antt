@@ -6,7 +6,7 @@ use Rattle.std.proofs.lemmas.Option.{slice_get-map, slice_get_within}
 use Rattle.mem_model.specs.World.{World, Rooms}
 use Rattle.mem_model.specs.Ending.{Ending}
 use Rattle.machine_model.specs.Code.{Site, Point}
-use Rattle.machine_model.specs.Machine.{Next, Goes, Over, start}
+use Rattle.machine_model.specs.Machine.{Next, Goes, Over, start_config}
 use Rattle.machine_model.proofs.Simulation.{SameSites, SameNext, KeepStep, runs, runs_end}
 use Rattle.suifvm_ir.specs.Functions.{insn_at, insn_in}
 use Rattle.temp_ir.specs.declared.insn.TempInsn.{TempInsn}
@@ -14,15 +14,15 @@ use Rattle.alloc_model.specs.Contents.{Content}
 use Rattle.alloc_model.specs.Stores.{without, put_all}
 use Rattle.alloc_model.specs.Effect.{Holder, Temp, Fixed, Incoming, Outgoing, holder_eq, entry_holders, holders_read, holders_written, is_emptied, widest_call}
 use Rattle.alloc_model.specs.Temporaries.{Temps, blocks_in, temp_site, temp_site_at, temp_code, temp_run, next_if, is_left_at, site_or_next, site_in, flows_out, main_of, start_world}
-use Rattle.alloc_model.specs.Places.{Place, place_eq, home_of, places_read_at, places_written_at, is_ended, Places, do_all, Plan, plan_of, functions_of, transfers_at, registers_at, edge_transfers, edge_in, placed_site, placed_site_in, placed_code, placed_run}
-use Rattle.alloc_model.specs.Faithful.{Held, move_all, end_all, behind_insn, at_start, at_entry, before, KeepsEdge, Faithful}
+use Rattle.alloc_model.specs.Places.{Place, place_eq, home_of, places_read_at, places_written_at, ends_place, Places, do_all, Plan, plan_of, functions_of, transfers_at, registers_at, edge_transfers, edge_in, placed_site, placed_site_in, placed_code, placed_run}
+use Rattle.alloc_model.specs.Faithful.{Held, move_all, end_all, behind_insn, at_start, at_entry, held_before, KeepsEdge, Faithful}
 use Rattle.alloc_model.specs.Laws.{AllFaithful, AllocationKeepsRuns, AllocationKeeps}
 use Rattle.alloc_model.proofs.Replay.{IsNamed, Holds, SameArguments, writes_hold, writes_keep, ends_hold, ends_keep, moves_hold, moves_keep, included, reads_same, written_parallel, entry_homes}
 
 -- what stands where in a function that may not be there
 abbrev pub held_in : Option Plan → (block at : ℕ) → Held
 held_in None block at = λ n p. ⊥
-held_in (Some a) block at = before a block at
+held_in (Some a) block at = held_before a block at
 
 -- the contents of the two agree at a point
 pub record Agree (h : Held) (s : Temps) (t : Places) : Type 0 where
@@ -31,31 +31,31 @@ pub record Agree (h : Held) (s : Temps) (t : Places) : Type 0 where
 
 module _ (a : Plan) (ok : Faithful a) (block : ℕ) where
   -- behind an instruction
-  behind : (at : ℕ) (x : TempInsn) → insn_at a.function.blocks block at ≡ Some x → (s : Temps) (t : Places) (cs : List Content) → Agree (before a block at) s t → Agree (before a block (suc at)) (put_all holder_eq (holders_written x) cs (without (is_emptied x) s)) (put_all place_eq (places_written_at (registers_at a block at) x) cs (without (is_ended x) (do_all (transfers_at a block at) t)))
+  behind : (at : ℕ) (x : TempInsn) → insn_at a.function.blocks block at ≡ Some x → (s : Temps) (t : Places) (cs : List Content) → Agree (held_before a block at) s t → Agree (held_before a block (suc at)) (put_all holder_eq (holders_written x) cs (without (is_emptied x) s)) (put_all place_eq (places_written_at (registers_at a block at) x) cs (without (ends_place x) (do_all (transfers_at a block at) t)))
   behind at x is s t cs r =
       let xs = transfers_at a block at in
       let rs = registers_at a block at in
       let para = written_parallel x rs (ok.lists.stated block at x is) in
-      let moved = moves_hold xs (before a block at) s t (ok.moves block at x is) r.holds in
-      let written = writes_hold (holders_written x) (places_written_at rs x) cs (end_all (is_ended x) (move_all xs (before a block at))) (without (is_emptied x) s) (without (is_ended x) (do_all xs t)) para (ends_hold x (move_all xs (before a block at)) s (do_all xs t) moved) in
+      let moved = moves_hold xs (held_before a block at) s t (ok.moves block at x is) r.holds in
+      let written = writes_hold (holders_written x) (places_written_at rs x) cs (end_all (ends_place x) (move_all xs (held_before a block at))) (without (is_emptied x) s) (without (ends_place x) (do_all xs t)) para (ends_hold x (move_all xs (held_before a block at)) s (do_all xs t) moved) in
       record {
-        holds = subst (λ o. Holds (behind_insn xs rs o (before a block at)) (put_all holder_eq (holders_written x) cs (without (is_emptied x) s)) (put_all place_eq (places_written_at rs x) cs (without (is_ended x) (do_all xs t)))) (sym is) written;
-        arguments = writes_keep (holders_written x) (places_written_at rs x) cs (without (is_emptied x) s) (without (is_ended x) (do_all xs t)) para (ends_keep x s (do_all xs t) (moves_keep xs s t r.arguments));
+        holds = subst (λ o. Holds (behind_insn xs rs o (held_before a block at)) (put_all holder_eq (holders_written x) cs (without (is_emptied x) s)) (put_all place_eq (places_written_at rs x) cs (without (ends_place x) (do_all xs t)))) (sym is) written;
+        arguments = writes_keep (holders_written x) (places_written_at rs x) cs (without (is_emptied x) s) (without (ends_place x) (do_all xs t)) para (ends_keep x s (do_all xs t) (moves_keep xs s t r.arguments));
       }
 
   -- behind the end of a block nothing changes
-  behind_end : (at : ℕ) → insn_at a.function.blocks block at ≡ None → (s : Temps) (t : Places) → Agree (before a block at) s t → Agree (before a block (suc at)) s t
+  behind_end : (at : ℕ) → insn_at a.function.blocks block at ≡ None → (s : Temps) (t : Places) → Agree (held_before a block at) s t → Agree (held_before a block (suc at)) s t
   behind_end at is s t r = record {
-    holds = subst (λ o. Holds (behind_insn (transfers_at a block at) (registers_at a block at) o (before a block at)) s t) (sym is) r.holds;
+    holds = subst (λ o. Holds (behind_insn (transfers_at a block at) (registers_at a block at) o (held_before a block at)) s t) (sym is) r.holds;
     arguments = r.arguments;
   }
 
   -- what an instruction reads
-  reads : (at : ℕ) (x : TempInsn) → insn_at a.function.blocks block at ≡ Some x → (s : Temps) (t : Places) → Agree (before a block at) s t → map s (holders_read x) ≡ map (do_all (transfers_at a block at) t) (places_read_at (registers_at a block at) x)
+  reads : (at : ℕ) (x : TempInsn) → insn_at a.function.blocks block at ≡ Some x → (s : Temps) (t : Places) → Agree (held_before a block at) s t → map s (holders_read x) ≡ map (do_all (transfers_at a block at) t) (places_read_at (registers_at a block at) x)
   reads at x is s t r =
       let xs = transfers_at a block at in
-      reads_same x (registers_at a block at) (move_all xs (before a block at)) s (do_all xs t) (ok.temps_read block at x is) (ok.fixed_read block at x is)
-      (moves_hold xs (before a block at) s t (ok.moves block at x is) r.holds) (moves_keep xs s t r.arguments)
+      reads_same x (registers_at a block at) (move_all xs (held_before a block at)) s (do_all xs t) (ok.temps_read block at x is) (ok.fixed_read block at x is)
+      (moves_hold xs (held_before a block at) s t (ok.moves block at x is) r.holds) (moves_keep xs s t r.arguments)
 
   -- over an edge, to the top of its target
   crosses : (to : ℕ) (h : Held) → KeepsEdge a block to h → (s : Temps) (t : Places) → Agree h s t → Agree (at_start a to) s (do_all (edge_transfers a block to) t)
@@ -111,11 +111,11 @@ module _ (rooms : Rooms) (plans : List Plan) (all : AllFaithful plans) where
     ok : Faithful a
     ok = all.each p.function a is
 
-    opens : (s : Temps) (t : Places) → Related p s t → Agree (before a p.block p.at) s t
+    opens : (s : Temps) (t : Places) → Related p s t → Agree (held_before a p.block p.at) s t
     opens s t r = subst (λ o. Agree (held_in o p.block p.at) s t) is r
 
     -- what agrees in a block of this function is related at its points
-    closes : (block at : ℕ) (s : Temps) (t : Places) → Agree (before a block at) s t → Agree (held_in (slice_get plans p.function) block at) s t
+    closes : (block at : ℕ) (s : Temps) (t : Places) → Agree (held_before a block at) s t → Agree (held_in (slice_get plans p.function) block at) s t
     closes block at s t r = subst (λ o. Agree (held_in o block at) s t) (sym is) r
 
     crossed : (to : ℕ) (h : Held) → KeepsEdge a p.block to h → (s : Temps) (t : Places) → Agree h s t → Agree (held_in (slice_get plans p.function) to 0) s (do_all (edge_in (slice_get plans p.function) p.block to) t)
@@ -128,21 +128,21 @@ module _ (rooms : Rooms) (plans : List Plan) (all : AllFaithful plans) where
       targets = refl;
       fetch = λ s t r. reads a ok p.block p.at x there s t (opens s t r);
       put = λ s t cs r. closes p.block (suc p.at) _ _ (behind a ok p.block p.at x there s t cs (opens s t r));
-      edge = λ s t k to target r. crossed to (before a p.block (suc p.at)) (ok.jumps p.block p.at x there k to target) _ _ (behind a ok p.block p.at x there s t [] (opens s t r));
+      edge = λ s t k to target r. crossed to (held_before a p.block (suc p.at)) (ok.jumps p.block p.at x there k to target) _ _ (behind a ok p.block p.at x there s t [] (opens s t r));
     }
 
     next_same : (insns : List TempInsn) → slice_get a.function.blocks p.block ≡ Some insns → insn_at a.function.blocks p.block p.at ≡ None → (left : Bool) → is_left_at insns p.at ≡ left → Sites p (next_if p.block left) (next_if p.block left)
     next_same insns there none false e = tt
     next_same insns there none true e =
         let at_end : p.at ≡ length insns = eqb-true p.at (length insns) (and_right (flows_out insns) (p.at == length insns) e) in
-        let keeps : KeepsEdge a p.block (suc p.block) (before a p.block p.at) = subst (λ n. KeepsEdge a p.block (suc p.block) (before a p.block n)) (sym at_end) (ok.follows p.block insns there (and_left (flows_out insns) (p.at == length insns) e)) in
+        let keeps : KeepsEdge a p.block (suc p.block) (held_before a p.block p.at) = subst (λ n. KeepsEdge a p.block (suc p.block) (held_before a p.block n)) (sym at_end) (ok.follows p.block insns there (and_left (flows_out insns) (p.at == length insns) e)) in
         record {
           does = λ own cs o. refl;
           turn = refl;
           targets = refl;
           fetch = λ s t r. refl;
           put = λ s t cs r. closes p.block (suc p.at) s t (behind_end a ok p.block p.at none s t (opens s t r));
-          edge = λ s t k to target r. subst (λ b. Agree (held_in (slice_get plans p.function) b 0) s (do_all (edge_in (slice_get plans p.function) p.block b) t)) (only_one (suc p.block) k to target) (crossed (suc p.block) (before a p.block p.at) keeps s t (opens s t r));
+          edge = λ s t k to target r. subst (λ b. Agree (held_in (slice_get plans p.function) b 0) s (do_all (edge_in (slice_get plans p.function) p.block b) t)) (only_one (suc p.block) k to target) (crossed (suc p.block) (held_before a p.block p.at) keeps s t (opens s t r));
         }
 
     at_same : (insns : List TempInsn) → slice_get a.function.blocks p.block ≡ Some insns → (o : Option TempInsn) → slice_get insns p.at ≡ o → Sites p (site_or_next (temp_site (widest_call a.function.blocks)) p.block (is_left_at insns p.at) o) (site_or_next (placed_site (widest_call a.function.blocks) (transfers_at a p.block p.at) (registers_at a p.block p.at)) p.block (is_left_at insns p.at) o)
@@ -180,7 +180,7 @@ module _ (rooms : Rooms) (plans : List Plan) (all : AllFaithful plans) where
   same_runs : (main : ℕ) (w : World) (n : ℕ) → Same (temp_run rooms (functions_of plans) main w n) (placed_run rooms plans main w n)
   same_runs main w n =
       runs Content Temps Places rooms (temp_code (functions_of plans)) (placed_code plans) (Related rooms plans all) (keep_step rooms plans all) n
-      (start Content Temps rooms (temp_code (functions_of plans)) main w) (start Content Places rooms (placed_code plans) main w)
+      (start_config Content Temps rooms (temp_code (functions_of plans)) main w) (start_config Content Places rooms (placed_code plans) main w)
       (record { here = (refl, entry_agrees (slice_get plans main) _ _ (entry_homes (entry_holders 0) []), refl); callers = tt; world = refl })
 
 pub runs_kept : AllocationKeepsRuns

@@ -11,7 +11,7 @@ use Rattle.temp_ir.specs.declared.operation.Service.TheVariants.{End, PutByte, G
 use Rattle.temp_ir.specs.declared.insn.TempInsn.{TempInsn}
 use Rattle.temp_ir.specs.declared.insn.TempInsn.TheVariants as i
 use Rattle.alloc_model.specs.Contents.{Content, Plain, Bundle, ContentAnswer, Gives, TrapsWith, Fails}
-use Rattle.alloc_model.specs.Effect.{fails, writes, changes, branches, content_at, service_number, is_number, end_act, put_act, trap_act, serve_act, widest_call, does}
+use Rattle.alloc_model.specs.Effect.{fails, writes, changes, branches, content_at, service_number, holds_number, end_act, put_act, trap_act, serve_act, widest_call, does}
 use Rattle.alloc_model.specs.Temporaries.{TemporaryCode, Temps, temp_code, temp_site, next_if, site_or_next, site_in, is_left_at, blocks_in}
 use Rattle.alloc_model.specs.Places.{Plan, Places, placed_code, placed_site, placed_site_in, transfers_at, registers_at}
 
@@ -60,10 +60,10 @@ trap_extends (Bundle cells) o = same o.output
 
 serve_extends : (s : Service) (cs : List Content) (o : Outer) → Extends o (serve_act s cs o)
 serve_extends End cs o =
-    if_extends o (is_number (service_number End) (content_at cs 0)) (end_act (content_at cs 1) o) (fails o) (end_extends (content_at cs 1) o) (same o.output)
+    if_extends o (holds_number (service_number End) (content_at cs 0)) (end_act (content_at cs 1) o) (fails o) (end_extends (content_at cs 1) o) (same o.output)
 serve_extends PutByte cs o =
-    if_extends o (is_number (service_number PutByte) (content_at cs 0)) (put_act (content_at cs 1) o) (fails o) (put_extends (content_at cs 1) o) (same o.output)
-serve_extends GetByte cs o = if_extends o (is_number (service_number GetByte) (content_at cs 0)) _ (fails o) (same o.output) (same o.output)
+    if_extends o (holds_number (service_number PutByte) (content_at cs 0)) (put_act (content_at cs 1) o) (fails o) (put_extends (content_at cs 1) o) (same o.output)
+serve_extends GetByte cs o = if_extends o (holds_number (service_number GetByte) (content_at cs 0)) _ (fails o) (same o.output) (same o.output)
 serve_extends Trap cs o = trap_extends (content_at cs 0) o
 
 pub does_extends : (widest : ℕ) (x : TempInsn) (own : ℕ) (cs : List Content) (o : Outer) → IsPrefix o.output (act_outer (does widest x own cs o)).output

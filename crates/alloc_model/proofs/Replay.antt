@@ -7,11 +7,11 @@ use Rattle.temp_ir.specs.Insns.{reads_of, writes_of}
 use Rattle.temp_ir.specs.Fixed.{fixed_reads_of, fixed_writes_of}
 use Rattle.alloc_model.specs.declared.allocation.Transfer.{Transfer}
 use Rattle.alloc_model.specs.declared.allocation.Transfer.TheVariants.{Store, Load, Shift}
-use Rattle.alloc_model.specs.Contents.{Content, unset}
+use Rattle.alloc_model.specs.Contents.{Content, unset_content}
 use Rattle.alloc_model.specs.Stores.{first_or_unset, empty, without, put, put_all}
-use Rattle.alloc_model.specs.Effect.{Holder, Temp, Fixed, Incoming, Outgoing, holder_eq, argument_places, places_read, places_written, others_read, others_written, holders_read, holders_written, is_call, is_emptied}
+use Rattle.alloc_model.specs.Effect.{Holder, Temp, Fixed, Incoming, Outgoing, holder_eq, argument_places, places_read, places_written, others_read, others_written, holders_read, holders_written, calls_function, is_emptied}
 use Rattle.alloc_model.specs.Temporaries.{Temps}
-use Rattle.alloc_model.specs.Places.{Place, Reg, Slot, In, Out, place_eq, home_of, places_read_at, places_written_at, is_ended, source_of, target_of, moved_temp, Places, do_all}
+use Rattle.alloc_model.specs.Places.{Place, Reg, Slot, In, Out, place_eq, home_of, places_read_at, places_written_at, ends_place, source_of, transfer_target, moved_temp, Places, do_all}
 use Rattle.alloc_model.specs.Faithful.{Held, stands, forget, end_all, write_all, Includes, move_all, MovesAsk, ReadsAsk, FixedAsk}
 
 -- ---- tests of equality
@@ -106,14 +106,14 @@ end_case x s (Fixed r) named = refl
 end_case x s (Incoming k) named = absurd named
 end_case x s (Outgoing k) named = absurd named
 
-pub ends_hold : (x : TempInsn) (h : Held) (s : Temps) (t : Places) → Holds h s t → Holds (end_all (is_ended x) h) (without (is_emptied x) s) (without (is_ended x) t)
-ends_hold x h s t r = record { each = λ m q named (k, e). ap (λ b. if b then unset else t q) e ∙ r.each m q named k ∙ sym (end_case x s m named) }
+pub ends_hold : (x : TempInsn) (h : Held) (s : Temps) (t : Places) → Holds h s t → Holds (end_all (ends_place x) h) (without (is_emptied x) s) (without (ends_place x) t)
+ends_hold x h s t r = record { each = λ m q named (k, e). ap (λ b. if b then unset_content else t q) e ∙ r.each m q named k ∙ sym (end_case x s m named) }
 
 pub moves_hold : (xs : List Transfer) (h : Held) (s : Temps) (t : Places) → MovesAsk xs h → Holds h s t → Holds (move_all xs h) s (do_all xs t)
 moves_hold [] h s t a r = r
 moves_hold (x ∷ xs) h s t a r =
-    moves_hold xs _ s (put place_eq (target_of x) (t (source_of x)) t) a.1
-    (stands_there h s t (Temp (moved_temp x)) (target_of x) (t (source_of x)) (r.each (Temp (moved_temp x)) (source_of x) tt a.0) r)
+    moves_hold xs _ s (put place_eq (transfer_target x) (t (source_of x)) t) a.1
+    (stands_there h s t (Temp (moved_temp x)) (transfer_target x) (t (source_of x)) (r.each (Temp (moved_temp x)) (source_of x) tt a.0) r)
 
 pub included : (h k : Held) (s : Temps) (t : Places) → Includes h k → Holds h s t → Holds k s t
 included h k s t inc r = record { each = λ n p named e. r.each n p named (inc.each n p e) }
@@ -136,8 +136,8 @@ writes_keep (n ∷ ns) (p ∷ ps) cs s t (ByArgument j more) r =
     writes_keep ns ps (drop 1 cs) _ _ more
     (record { incoming = r.incoming; outgoing = λ k. ap (λ c. if k == j then first_or_unset cs else c) (r.outgoing k) })
 
-pub ends_keep : (x : TempInsn) (s : Temps) (t : Places) → SameArguments s t → SameArguments (without (is_emptied x) s) (without (is_ended x) t)
-ends_keep x s t r = record { incoming = r.incoming; outgoing = λ k. ap (λ c. if is_call x then unset else c) (r.outgoing k) }
+pub ends_keep : (x : TempInsn) (s : Temps) (t : Places) → SameArguments s t → SameArguments (without (is_emptied x) s) (without (ends_place x) t)
+ends_keep x s t r = record { incoming = r.incoming; outgoing = λ k. ap (λ c. if calls_function x then unset_content else c) (r.outgoing k) }
 
 pub moves_keep : (xs : List Transfer) (s : Temps) (t : Places) → SameArguments s t → SameArguments s (do_all xs t)
 moves_keep [] s t r = r

@@ -2,7 +2,7 @@
 use Rattle.std.proofs.Common.{ℕ, ◌≤◌, List, max, map, arith}
 use Rattle.mem_model.specs.World.{Rooms}
 use Rattle.machine_model.specs.Code.{Code}
-use Rattle.machine_model.specs.Machine.{Config, start}
+use Rattle.machine_model.specs.Machine.{Config, start_config}
 use Rattle.machine_model.proofs.Runs as runs
 use Rattle.machine_model.proofs.Turns as turns
 use Rattle.machine_model.proofs.Peaks as peaks
@@ -19,11 +19,11 @@ abbrev temps : TempProgram → Code Content Temps
 temps program = temp_code (map code_of program.functions)
 
 abbrev begin_temps : Rooms → TempProgram → (input : List ℕ) → (turns : ℕ) → Config Temps
-begin_temps rooms program input n = start Content Temps rooms (temps program) (main_of program.functions) (start_world program.globals input n)
+begin_temps rooms program input n = start_config Content Temps rooms (temps program) (main_of program.functions) (start_world program.globals input n)
 
 abbrev begin_places : Rooms → TempProgram → List Allocation → (input : List ℕ) → (turns : ℕ) → Config Places
 begin_places rooms program allocations input n =
-    start Content Places rooms (placed_code (map plan_of allocations)) (main_of program.functions) (start_world program.globals input n)
+    start_config Content Places rooms (placed_code (map plan_of allocations)) (main_of program.functions) (start_world program.globals input n)
 
 pub one_ending : OneEnding
 one_ending = record {
@@ -58,10 +58,10 @@ pub peaks_rise : PeaksRise
 peaks_rise = record {
   temps = λ rooms functions main w n.
       first_peak w.meter.peak _ _
-      (peaks.peak_rises Content Temps rooms (temp_code functions) n (start Content Temps rooms (temp_code functions) main w));
+      (peaks.peak_rises Content Temps rooms (temp_code functions) n (start_config Content Temps rooms (temp_code functions) main w));
   places = λ rooms plans main w n.
       first_peak w.meter.peak _ _
-      (peaks.peak_rises Content Places rooms (placed_code plans) n (start Content Places rooms (placed_code plans) main w));
+      (peaks.peak_rises Content Places rooms (placed_code plans) n (start_config Content Places rooms (placed_code plans) main w));
 }
 
 pub keep_output : InstructionsKeepOutput

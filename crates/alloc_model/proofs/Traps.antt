@@ -17,7 +17,7 @@ use Rattle.temp_ir.specs.declared.insn.TempInsn.TheVariants as i
 use Rattle.temp_ir.specs.Insns.{is_checked, service_may_trap, may_trap_of}
 use Rattle.temp_ir.specs.Operations.{operate_op}
 use Rattle.alloc_model.specs.Contents.{Content, Plain, Bundle, ContentAnswer, Gives, TrapsWith, Fails, content_answer, effect_answer, operate_answer, extend_answer, other_content}
-use Rattle.alloc_model.specs.Effect.{fails, writes, changes, branches, content_at, left_of, right_of, operand_of, service_number, is_number, argument_answer, end_act, put_act, serve_act, does}
+use Rattle.alloc_model.specs.Effect.{fails, writes, changes, branches, content_at, left_content, right_content, sole_content, service_number, holds_number, argument_answer, end_act, put_act, serve_act, does}
 use Rattle.alloc_model.specs.Laws.{OnlyTheseTrap}
 
 -- an answer, and an act, that is no trap
@@ -144,10 +144,10 @@ put_calm (Plain Unset) o = tt
 put_calm (Bundle cells) o = tt
 
 serve_calm : (s : Service) (cs : List Content) (o : Outer) → OnlyIf (service_may_trap s) (serve_act s cs o)
-serve_calm End cs o = if_calm (is_number (service_number End) (content_at cs 0)) (end_act (content_at cs 1) o) (fails o) (end_calm (content_at cs 1) o) tt
+serve_calm End cs o = if_calm (holds_number (service_number End) (content_at cs 0)) (end_act (content_at cs 1) o) (fails o) (end_calm (content_at cs 1) o) tt
 serve_calm PutByte cs o =
-    if_calm (is_number (service_number PutByte) (content_at cs 0)) (put_act (content_at cs 1) o) (fails o) (put_calm (content_at cs 1) o) tt
-serve_calm GetByte cs o = if_calm (is_number (service_number GetByte) (content_at cs 0)) _ (fails o) tt tt
+    if_calm (holds_number (service_number PutByte) (content_at cs 0)) (put_act (content_at cs 1) o) (fails o) (put_calm (content_at cs 1) o) tt
+serve_calm GetByte cs o = if_calm (holds_number (service_number GetByte) (content_at cs 0)) _ (fails o) tt tt
 serve_calm Trap cs o = tt
 
 does_only : (widest : ℕ) (x : TempInsn) (own : ℕ) (cs : List Content) (o : Outer) → OnlyIf (may_trap_of x) (does widest x own cs o)
@@ -156,8 +156,8 @@ does_only widest (i.ObjectAddress destination place plus) own cs o = tt
 does_only widest (i.Load op destination pointer plus) own cs o = writes_calm _ o (option_calm _)
 does_only widest (i.Store op value pointer plus) own cs o = changes_calm _ o
 does_only widest (i.Operate op destination left right) own cs o =
-    writes_only (is_checked op) _ o (operate_calm o.memory op (left_of left cs) (right_of left right cs))
-does_only widest (i.Extend op destination source) own cs o = writes_calm _ o (extend_calm op (operand_of source cs))
+    writes_only (is_checked op) _ o (operate_calm o.memory op (left_content left cs) (right_content left right cs))
+does_only widest (i.Extend op destination source) own cs o = writes_calm _ o (extend_calm op (sole_content source cs))
 does_only widest (i.ToFixed register source) own cs o = tt
 does_only widest (i.FromFixed destination register) own cs o = tt
 does_only widest (i.SetFixed register number) own cs o = tt

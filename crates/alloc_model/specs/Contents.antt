@@ -13,7 +13,7 @@ use Rattle.mem_model.specs.Memory.{Memory, read_fault, write_fault, row_at, put_
 use Rattle.mem_model.specs.Pointers.{pointer_plus, pointer_minus, pointer_eq, pointer_lt, pointer_le, is_null}
 use Rattle.alpha_isa.specs.Arithmetic as isa
 use Rattle.alpha_isa.specs.Arithmetic.{OperationEffect, Keeps, Overflows, word_at, word_from, signed_value, sign_extension, operation_effect}
-use Rattle.alpha_isa.specs.Step.{is_taken}
+use Rattle.alpha_isa.specs.Step.{is_branch_taken}
 use Rattle.temp_ir.specs.declared.operation.AddressOp.{AddressOp}
 use Rattle.temp_ir.specs.declared.operation.AddressOp.TheVariants.{Lda, Ldah}
 use Rattle.temp_ir.specs.declared.operation.LoadOp.{LoadOp}
@@ -32,11 +32,11 @@ pub data Content : Type 0 where
   Plain : Value → Content
   Bundle : List Cell → Content
 
-abbrev pub word : (n : ℕ) → Content
-word n = Plain (Word n)
+abbrev pub word_content : (n : ℕ) → Content
+word_content n = Plain (Word n)
 
-abbrev pub unset : Content
-unset = Plain Unset
+abbrev pub unset_content : Content
+unset_content = Plain Unset
 
 -- ---- what comes of an operation
 
@@ -47,7 +47,7 @@ pub data ContentAnswer : Type 0 where
   Fails : ContentAnswer
 
 abbrev pub word_answer : (n : ℕ) → ContentAnswer
-word_answer n = Gives (word n)
+word_answer n = Gives (word_content n)
 
 abbrev pub content_answer : Option Content → ContentAnswer
 content_answer (Some c) = Gives c
@@ -66,10 +66,10 @@ residue (negsuc n) = 2 ^ 64 - suc (n % 2 ^ 64)
 
 -- the word of a distance, and of a test
 abbrev pub distance_word : Option ℤ → Option Content
-distance_word z = option_map (λ d. word (residue d)) z
+distance_word z = option_map (λ d. word_content (residue d)) z
 
 abbrev pub test_word : Option Bool → Option Content
-test_word test = option_map (λ b. word (if b then 1 else 0)) test
+test_word test = option_map (λ b. word_content (if b then 1 else 0)) test
 
 -- ---- operations
 
@@ -103,13 +103,13 @@ extend_answer op _ = Fails
 -- ---- addresses
 
 -- by how many bytes a displacement moves
-abbrev pub moved_by : AddressOp → (plus : ℤ) → ℤ
-moved_by Lda plus = plus
-moved_by Ldah plus = plus *ℤ pos 65536
+abbrev pub moved_bytes : AddressOp → (plus : ℤ) → ℤ
+moved_bytes Lda plus = plus
+moved_bytes Ldah plus = plus *ℤ pos 65536
 
 -- a word or a pointer, moved by so many bytes
 abbrev pub moved_content : Memory → Content → (by : ℤ) → Option Content
-moved_content m (Plain (Word n)) by = Some (word (word_at (n + word_from by)))
+moved_content m (Plain (Word n)) by = Some (word_content (word_at (n + word_from by)))
 moved_content m (Plain (Address p)) by = pointer_moved m (Address p) by
 moved_content m _ by = None
 
@@ -143,7 +143,7 @@ pointer_or_bundle (Some v) cells = Plain v
 pointer_or_bundle None cells = Bundle cells
 
 abbrev pub number_or : Option ℕ → (other : Content) → Content
-number_or (Some n) other = word n
+number_or (Some n) other = word_content n
 number_or None other = other
 
 abbrev pub content_of : List Cell → Content
@@ -151,7 +151,7 @@ content_of cells = number_or (number_of cells) (pointer_or_bundle (pointer_of ce
 
 -- a number of 4 bytes is loaded with its sign in the bits above it
 abbrev pub extended_content : LoadOp → Content → Content
-extended_content Ldl (Plain (Word n)) = word (sign_extension w32 n)
+extended_content Ldl (Plain (Word n)) = word_content (sign_extension w32 n)
 extended_content op c = c
 
 -- what is answered where there is no fault
@@ -196,7 +196,7 @@ pointer_test Beq null = null
 pointer_test Bne null = option_map not null
 pointer_test _ null = None
 
-abbrev pub test_of : TempBranchOp → Memory → Content → Option Bool
-test_of op m (Plain (Word n)) = Some (is_taken (branch_op op) n)
-test_of op m (Plain (Address p)) = pointer_test op (is_null m (Address p))
-test_of op m _ = None
+abbrev pub branch_test : TempBranchOp → Memory → Content → Option Bool
+branch_test op m (Plain (Word n)) = Some (is_branch_taken (branch_op op) n)
+branch_test op m (Plain (Address p)) = pointer_test op (is_null m (Address p))
+branch_test op m _ = None

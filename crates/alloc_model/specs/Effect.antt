@@ -24,7 +24,7 @@ use Rattle.temp_ir.specs.declared.insn.TempInsn.{TempInsn}
 use Rattle.temp_ir.specs.declared.insn.TempInsn.TheVariants as i
 use Rattle.temp_ir.specs.Insns.{reads_of, writes_of}
 use Rattle.temp_ir.specs.Fixed.{argument_registers, fixed_reads_of, fixed_writes_of}
-use Rattle.alloc_model.specs.Contents.{Content, Plain, word, unset, ContentAnswer, Gives, TrapsWith, Fails, word_answer, content_answer, operate_answer, extend_answer, moved_by, moved_content, loaded_content, stored_memory, test_of}
+use Rattle.alloc_model.specs.Contents.{Content, Plain, word_content, unset_content, ContentAnswer, Gives, TrapsWith, Fails, word_answer, content_answer, operate_answer, extend_answer, moved_bytes, moved_content, loaded_content, stored_memory, branch_test}
 
 -- ---- what holds something in a call
 
@@ -73,12 +73,12 @@ abbrev pub holders_written : TempInsn → List Holder
 holders_written x = map Temp (writes_of x) ++ others_written x
 
 -- after a call its argument places hold nothing
-abbrev pub is_call : TempInsn → Bool
-is_call (i.Call function arguments) = true
-is_call _ = false
+abbrev pub calls_function : TempInsn → Bool
+calls_function (i.Call function arguments) = true
+calls_function _ = false
 
 abbrev pub is_emptied : TempInsn → Holder → Bool
-is_emptied x (Outgoing k) = is_call x
+is_emptied x (Outgoing k) = calls_function x
 is_emptied x _ = false
 
 -- ---- what comes of an answer
@@ -105,24 +105,24 @@ branches None o = fails o
 -- ---- operands
 
 abbrev pub content_at : List Content → (k : ℕ) → Content
-content_at cs k = slice_index_or cs k unset
+content_at cs k = slice_index_or cs k unset_content
 
-abbrev pub left_of : FirstOperand → List Content → Content
-left_of source.Zero cs = word 0
-left_of (source.Temp t) cs = content_at cs 0
+abbrev pub left_content : FirstOperand → List Content → Content
+left_content source.Zero cs = word_content 0
+left_content (source.Temp t) cs = content_at cs 0
 
 -- how many temporaries stand before the second operand
-abbrev pub behind : FirstOperand → ℕ
-behind source.Zero = 0
-behind (source.Temp t) = 1
+abbrev pub right_index : FirstOperand → ℕ
+right_index source.Zero = 0
+right_index (source.Temp t) = 1
 
-abbrev pub right_of : FirstOperand → SecondOperand → List Content → Content
-right_of left (operand.Temp t) cs = content_at cs (behind left)
-right_of left (operand.Literal n) cs = word n
+abbrev pub right_content : FirstOperand → SecondOperand → List Content → Content
+right_content left (operand.Temp t) cs = content_at cs (right_index left)
+right_content left (operand.Literal n) cs = word_content n
 
-abbrev pub operand_of : SecondOperand → List Content → Content
-operand_of (operand.Temp t) cs = content_at cs 0
-operand_of (operand.Literal n) cs = word n
+abbrev pub sole_content : SecondOperand → List Content → Content
+sole_content (operand.Temp t) cs = content_at cs 0
+sole_content (operand.Literal n) cs = word_content n
 
 -- the address of an object; own is the number of the first memory local of the call
 abbrev pub place_content : (own : ℕ) → VmObject → (plus : ℕ) → Content
@@ -149,8 +149,8 @@ is_long Remlu = true
 is_long _ = false
 
 -- a routine of 32 bits takes words alone that have the sign of their low 32 bits above these
-abbrev pub takes : DivisionRoutine → ℕ → Bool
-takes r n = if is_long r then sign_extension w32 n == n else true
+abbrev pub takes_word : DivisionRoutine → ℕ → Bool
+takes_word r n = if is_long r then sign_extension w32 n == n else true
 
 abbrev pub outcome_answer : rt.RoutineEnding → ContentAnswer
 outcome_answer (rt.Answers n) = word_answer n
@@ -158,7 +158,7 @@ outcome_answer (rt.Traps code) = TrapsWith code
 
 abbrev pub words_division : DivisionRoutine → (a b : ℕ) → ContentAnswer
 words_division r a b =
-    if takes r a && takes r b then outcome_answer (rt.outcome (routine_of r) a b) else Fails
+    if takes_word r a && takes_word r b then outcome_answer (rt.routine_outcome (routine_of r) a b) else Fails
 
 abbrev pub division_answer : DivisionRoutine → (a b : Content) → ContentAnswer
 division_answer r (Plain (Word a)) (Plain (Word b)) = words_division r a b
@@ -171,9 +171,9 @@ service_number PutByte = 2
 service_number GetByte = 3
 service_number Trap = 0
 
-abbrev pub is_number : ℕ → Content → Bool
-is_number n (Plain (Word m)) = m == n
-is_number n _ = false
+abbrev pub holds_number : ℕ → Content → Bool
+holds_number n (Plain (Word m)) = m == n
+holds_number n _ = false
 
 abbrev pub end_act : Content → Outer → Act Content
 end_act (Plain (Word n)) o = Stops (Exits (n % 256)) o
@@ -188,13 +188,13 @@ trap_act (Plain (Word n)) o = Stops (Traps n) o
 trap_act _ o = fails o
 
 abbrev pub when_number : Service → Content → Act Content → Outer → Act Content
-when_number s c act o = if is_number (service_number s) c then act else fails o
+when_number s c act o = if holds_number (service_number s) c then act else fails o
 
 abbrev pub serve_act : Service → List Content → Outer → Act Content
 serve_act End cs o = when_number End (content_at cs 0) (end_act (content_at cs 1) o) o
 serve_act PutByte cs o = when_number PutByte (content_at cs 0) (put_act (content_at cs 1) o) o
 serve_act GetByte cs o =
-    when_number GetByte (content_at cs 0) (Writes (word (input_word o.input) ∷ []) (take_byte o)) o
+    when_number GetByte (content_at cs 0) (Writes (word_content (input_word o.input) ∷ []) (take_byte o)) o
 serve_act Trap cs o = trap_act (content_at cs 0) o
 
 -- ---- arguments
@@ -222,21 +222,21 @@ widest_call (block ∷ blocks) = max (widest_in block) (widest_call blocks)
 
 abbrev pub does : (widest : ℕ) → TempInsn → (own : ℕ) → List Content → Outer → Act Content
 does widest (i.Address op destination base plus) own cs o =
-    writes (content_answer (moved_content o.memory (left_of base cs) (moved_by op plus))) o
+    writes (content_answer (moved_content o.memory (left_content base cs) (moved_bytes op plus))) o
 does widest (i.ObjectAddress destination place plus) own cs o = writes (Gives (place_content own place plus)) o
 does widest (i.Load op destination pointer plus) own cs o =
     writes (content_answer (loaded_content o.memory op (content_at cs 0) plus)) o
 does widest (i.Store op value pointer plus) own cs o =
-    changes (stored_memory o.memory op (left_of value cs) (content_at cs (behind value)) plus) o
+    changes (stored_memory o.memory op (left_content value cs) (content_at cs (right_index value)) plus) o
 does widest (i.Operate op destination left right) own cs o =
-    writes (operate_answer o.memory op (left_of left cs) (right_of left right cs)) o
-does widest (i.Extend op destination source) own cs o = writes (extend_answer op (operand_of source cs)) o
+    writes (operate_answer o.memory op (left_content left cs) (right_content left right cs)) o
+does widest (i.Extend op destination source) own cs o = writes (extend_answer op (sole_content source cs)) o
 does widest (i.ToFixed register source) own cs o = Writes cs o
 does widest (i.FromFixed destination register) own cs o = Writes cs o
 does widest (i.SetFixed register number) own cs o = writes (word_answer (word_from number)) o
 does widest (i.WriteArgument number source) own cs o = if nat_lt (number + 6) widest then Writes cs o else fails o
 does widest (i.ReadArgument destination number) own cs o = writes (argument_answer (content_at cs 0)) o
-does widest (i.Branch op source block) own cs o = branches (test_of op o.memory (content_at cs 0)) o
+does widest (i.Branch op source block) own cs o = branches (branch_test op o.memory (content_at cs 0)) o
 does widest (i.Jump block) own cs o = Jumps 0 o
 does widest (i.Call function arguments) own cs o = Calls function cs o
 does widest (i.Divide routine) own cs o =

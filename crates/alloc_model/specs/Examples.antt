@@ -47,29 +47,29 @@ observe (Over e) = shown_ending e
 abbrev pub run_functions : List TemporaryCode → List DataObject → (input : List ℕ) → (turns : ℕ) → TemporaryObservation
 run_functions functions globals input turns = observe (temp_run [] functions 0 (start_world globals input turns) 30)
 
-abbrev pub function : (sizes : List ℕ) → List (List TempInsn) → TemporaryCode
-function sizes blocks = record { sizes = sizes; blocks = blocks }
+abbrev pub example_function : (sizes : List ℕ) → List (List TempInsn) → TemporaryCode
+example_function sizes blocks = record { sizes = sizes; blocks = blocks }
 
 -- a run of one function without memory locals, and of one block
 abbrev pub run_blocks : List (List TempInsn) → (input : List ℕ) → (turns : ℕ) → TemporaryObservation
-run_blocks blocks input turns = run_functions (function [] blocks ∷ []) [] input turns
+run_blocks blocks input turns = run_functions (example_function [] blocks ∷ []) [] input turns
 
 abbrev pub run_block : List TempInsn → (input : List ℕ) → (turns : ℕ) → TemporaryObservation
 run_block block input turns = run_blocks (block ∷ []) input turns
 
 -- a temporary is a number, and another one of the same content; a temporary is returned
-abbrev pub set : (t n : ℕ) → TempInsn
-set t n = Address Lda t s.Zero (pos n)
+abbrev pub set_temp : (t n : ℕ) → TempInsn
+set_temp t n = Address Lda t s.Zero (pos n)
 
-abbrev pub copy : (t u : ℕ) → TempInsn
-copy t u = Operate Bis t s.Zero (o.Temp u)
+abbrev pub copy_temp : (t u : ℕ) → TempInsn
+copy_temp t u = Operate Bis t s.Zero (o.Temp u)
 
-abbrev pub return : (t : ℕ) → List TempInsn
-return t = ToFixed Value t ∷ Return true ∷ []
+abbrev pub return_temp : (t : ℕ) → List TempInsn
+return_temp t = ToFixed Value t ∷ Return true ∷ []
 
 -- an object of 8 bytes whose first two are 1 and 255
-abbrev pub object : DataObject
-object = record {
+abbrev pub example_object : DataObject
+example_object = record {
   name = [];
   size = 8;
   align = 8;
@@ -80,73 +80,86 @@ object = record {
 
 pub record TemporaryExamplesRun : Type 0 where
   -- an address of 16 bits and one of its high half
-  pub constants : run_block (Address Ldah 0 s.Zero (pos 1) ∷ Address Lda 1 (s.Temp 0) (negsuc 65528) ∷ return 1) [] 0
+  pub constants : run_block (Address Ldah 0 s.Zero (pos 1) ∷ Address Lda 1 (s.Temp 0) (negsuc 65528) ∷ return_temp 1)
+      [] 0
       ≡ ShowsDone 7 []
   -- a sum that traps, and one that wraps
-  pub traps : run_block (set 0 1 ∷ Operate Sll 0 (s.Temp 0) (o.Literal 63) ∷ Operate AddqV 1 (s.Temp 0) (o.Temp 0)
-      ∷ return 1) [] 0 ≡ ShowsTrap 3 []
-  pub wraps : run_block (Address Lda 0 s.Zero (negsuc 0) ∷ Operate Addl 1 (s.Temp 0) (o.Literal 5) ∷ return 1) [] 0
+  pub traps : run_block (set_temp 0 1 ∷ Operate Sll 0 (s.Temp 0) (o.Literal 63) ∷ Operate AddqV 1 (s.Temp 0) (o.Temp 0)
+      ∷ return_temp 1) [] 0 ≡ ShowsTrap 3 []
+  pub wraps : run_block (Address Lda 0 s.Zero (negsuc 0) ∷ Operate Addl 1 (s.Temp 0) (o.Literal 5) ∷ return_temp 1) [] 0
       ≡ ShowsDone 4 []
   -- a byte is put, which is a turn
-  pub puts : run_block (SetFixed Value (pos 2) ∷ SetFixed Argument0 (pos 65) ∷ Serve PutByte ∷ set 0 3 ∷ return 0) [] 1
+  pub puts : run_block (SetFixed Value (pos 2) ∷ SetFixed Argument0 (pos 65) ∷ Serve PutByte ∷ set_temp 0 3
+      ∷ return_temp 0) [] 1
       ≡ ShowsDone 3 (65 ∷ [])
   pub wants_turn : run_block (SetFixed Value (pos 2) ∷ SetFixed Argument0 (pos 65) ∷ Serve PutByte ∷ []) [] 0
       ≡ ShowsMore []
   -- a byte is taken, and the number of a service has to be its own
-  pub gets : run_block (SetFixed Value (pos 3) ∷ Serve GetByte ∷ FromFixed 0 Value ∷ return 0) (7 ∷ []) 1
+  pub gets : run_block (SetFixed Value (pos 3) ∷ Serve GetByte ∷ FromFixed 0 Value ∷ return_temp 0) (7 ∷ []) 1
       ≡ ShowsDone 7 []
-  pub other_number : run_block (SetFixed Value (pos 2) ∷ Serve GetByte ∷ FromFixed 0 Value ∷ return 0) (7 ∷ []) 1
+  pub other_number : run_block (SetFixed Value (pos 2) ∷ Serve GetByte ∷ FromFixed 0 Value ∷ return_temp 0) (7 ∷ []) 1
       ≡ ShowsUndefined 1 []
   pub ends : run_block (SetFixed Value (pos 1) ∷ SetFixed Argument0 (pos 300) ∷ Serve End ∷ []) [] 1 ≡ ShowsDone 44 []
   pub aborts : run_block (SetFixed Argument0 (pos 2) ∷ Serve service.TheVariants.Trap ∷ []) [] 1 ≡ ShowsTrap 2 []
   -- a quotient and a remainder, a division by zero, one whose operands were not written, and a word that a routine of 32
   -- bits does not take
   pub divides : run_block (SetFixed Dividend (pos 17) ∷ SetFixed Divisor (pos 5) ∷ Divide Divq ∷ FromFixed 0 Answer
-      ∷ return 0) [] 0 ≡ ShowsDone 3 []
+      ∷ return_temp 0) [] 0 ≡ ShowsDone 3 []
   pub divides_by_zero : run_block (SetFixed Dividend (pos 17) ∷ SetFixed Divisor (pos 0) ∷ Divide Reml ∷ []) [] 0
       ≡ ShowsTrap 1 []
   pub divides_nothing : run_block (Divide Divq ∷ []) [] 0 ≡ ShowsUndefined 0 []
   pub not_held : run_block (Address Ldah 0 s.Zero (pos 32767) ∷ Operate Addq 1 (s.Temp 0) (o.Temp 0)
       ∷ ToFixed Dividend 1 ∷ SetFixed Divisor (pos 5) ∷ Divide Reml ∷ []) [] 0 ≡ ShowsUndefined 4 []
   -- a branch that is taken, one that is not, and a loop for ever, which takes a turn each time
-  pub branches : run_blocks ((set 0 4 ∷ Branch Bne 0 2 ∷ []) ∷ return 1 ∷ return 0 ∷ []) [] 0 ≡ ShowsDone 4 []
-  pub falls_through : run_blocks ((set 0 4 ∷ Branch Beq 0 2 ∷ []) ∷ return 0 ∷ return 1 ∷ []) [] 0 ≡ ShowsDone 4 []
+  pub branches : run_blocks ((set_temp 0 4 ∷ Branch Bne 0 2 ∷ []) ∷ return_temp 1 ∷ return_temp 0 ∷ []) [] 0
+      ≡ ShowsDone 4 []
+  pub falls_through : run_blocks ((set_temp 0 4 ∷ Branch Beq 0 2 ∷ []) ∷ return_temp 0 ∷ return_temp 1 ∷ []) [] 0
+      ≡ ShowsDone 4 []
   pub loops : run_blocks ([] ∷ (Mark ∷ Jump 1 ∷ []) ∷ []) [] 3 ≡ ShowsMore []
   -- nothing was written
-  pub unset : run_block (set 0 1 ∷ Operate Addq 1 (s.Temp 0) (o.Temp 2) ∷ return 1) [] 0 ≡ ShowsUndefined 1 []
+  pub unset : run_block (set_temp 0 1 ∷ Operate Addq 1 (s.Temp 0) (o.Temp 2) ∷ return_temp 1) [] 0 ≡ ShowsUndefined 1 []
   -- a byte of an object of static storage with its sign, one past its end, and a pointer that leaves it
   pub loads : run_functions
-      (function [] ((ObjectAddress 0 (Global 0) 0 ∷ Load Ldbu 1 0 (pos 1) ∷ Extend Sextb 2 (o.Temp 1)
-      ∷ Operate Addq 3 (s.Temp 2) (o.Literal 10) ∷ return 3) ∷ []) ∷ []) (object ∷ []) [] 0 ≡ ShowsDone 9 []
-  pub loads_outside : run_functions (function [] ((ObjectAddress 0 (Global 0) 8 ∷ Load Ldbu 1 0 (pos 0) ∷ return 1)
-      ∷ []) ∷ []) (object ∷ []) [] 0 ≡ ShowsUndefined 1 []
-  pub leaves : run_functions (function [] ((ObjectAddress 0 (Global 0) 8 ∷ Operate Addq 1 (s.Temp 0) (o.Literal 1)
-      ∷ return 1) ∷ []) ∷ []) (object ∷ []) [] 0 ≡ ShowsUndefined 1 []
+      (example_function [] ((ObjectAddress 0 (Global 0) 0 ∷ Load Ldbu 1 0 (pos 1) ∷ Extend Sextb 2 (o.Temp 1)
+      ∷ Operate Addq 3 (s.Temp 2) (o.Literal 10) ∷ return_temp 3) ∷ []) ∷ []) (example_object ∷ []) [] 0
+      ≡ ShowsDone 9 []
+  pub loads_outside : run_functions (example_function []
+      ((ObjectAddress 0 (Global 0) 8 ∷ Load Ldbu 1 0 (pos 0) ∷ return_temp 1)
+      ∷ []) ∷ []) (example_object ∷ []) [] 0 ≡ ShowsUndefined 1 []
+  pub leaves : run_functions (example_function [] ((ObjectAddress 0 (Global 0) 8
+      ∷ Operate Addq 1 (s.Temp 0) (o.Literal 1)
+      ∷ return_temp 1) ∷ []) ∷ []) (example_object ∷ []) [] 0 ≡ ShowsUndefined 1 []
   -- a pointer that is stored, loaded and compared, and one whose low half is moved as a bundle
-  pub stores_pointer : run_functions (function (8 ∷ []) ((ObjectAddress 0 (Global 0) 0 ∷ ObjectAddress 1 (Local 0) 0
-      ∷ Store Stq (s.Temp 0) 1 (pos 0) ∷ Load Ldq 2 1 (pos 0) ∷ Operate Cmpeq 3 (s.Temp 2) (o.Temp 0) ∷ return 3) ∷ [])
-      ∷ []) (object ∷ []) [] 0 ≡ ShowsDone 1 []
-  pub moves_bundle : run_functions (function (8 ∷ 8 ∷ []) ((ObjectAddress 0 (Global 0) 0 ∷ ObjectAddress 1 (Local 0) 0
-      ∷ Store Stq (s.Temp 0) 1 (pos 0) ∷ ObjectAddress 2 (Local 1) 0 ∷ Load Ldl 3 1 (pos 0) ∷ copy 4 3
+  pub stores_pointer : run_functions (example_function (8 ∷ [])
+      ((ObjectAddress 0 (Global 0) 0 ∷ ObjectAddress 1 (Local 0) 0
+      ∷ Store Stq (s.Temp 0) 1 (pos 0) ∷ Load Ldq 2 1 (pos 0) ∷ Operate Cmpeq 3 (s.Temp 2)
+      (o.Temp 0) ∷ return_temp 3) ∷ [])
+      ∷ []) (example_object ∷ []) [] 0 ≡ ShowsDone 1 []
+  pub moves_bundle : run_functions (example_function (8 ∷ 8 ∷ [])
+      ((ObjectAddress 0 (Global 0) 0 ∷ ObjectAddress 1 (Local 0) 0
+      ∷ Store Stq (s.Temp 0) 1 (pos 0) ∷ ObjectAddress 2 (Local 1) 0 ∷ Load Ldl 3 1 (pos 0) ∷ copy_temp 4 3
       ∷ Store Stl (s.Temp 4) 2 (pos 0) ∷ Load Ldl 5 1 (pos 4) ∷ Store Stl (s.Temp 5) 2 (pos 4) ∷ Load Ldq 6 2 (pos 0)
-      ∷ Operate Cmpeq 7 (s.Temp 6) (o.Temp 0) ∷ return 7) ∷ []) ∷ []) (object ∷ []) [] 0 ≡ ShowsDone 1 []
-  pub adds_bundle : run_functions (function (8 ∷ []) ((ObjectAddress 1 (Local 0) 0 ∷ Load Ldl 3 1 (pos 0)
-      ∷ Operate Addq 4 (s.Temp 3) (o.Literal 1) ∷ return 4) ∷ []) ∷ []) [] [] 0 ≡ ShowsUndefined 2 []
+      ∷ Operate Cmpeq 7 (s.Temp 6) (o.Temp 0) ∷ return_temp 7) ∷ []) ∷ []) (example_object ∷ []) [] 0 ≡ ShowsDone 1 []
+  pub adds_bundle : run_functions (example_function (8 ∷ []) ((ObjectAddress 1 (Local 0) 0 ∷ Load Ldl 3 1 (pos 0)
+      ∷ Operate Addq 4 (s.Temp 3) (o.Literal 1) ∷ return_temp 4) ∷ []) ∷ []) [] [] 0 ≡ ShowsUndefined 2 []
   -- seven arguments, of which the last stands in a place; one place more was not given
-  pub calls : run_functions (function [] ((set 0 5 ∷ set 1 9 ∷ ToFixed Argument0 0 ∷ SetFixed Argument1 (pos 0)
+  pub calls : run_functions (example_function [] ((set_temp 0 5 ∷ set_temp 1 9 ∷ ToFixed Argument0 0
+      ∷ SetFixed Argument1 (pos 0)
       ∷ SetFixed Argument2 (pos 0) ∷ SetFixed Argument3 (pos 0) ∷ SetFixed Argument4 (pos 0)
       ∷ SetFixed Argument5 (pos 0)
-      ∷ WriteArgument 0 1 ∷ Call 1 7 ∷ FromFixed 2 Value ∷ return 2) ∷ [])
-      ∷ function [] ((FromFixed 0 Argument0 ∷ ReadArgument 1 0 ∷ Operate Mulq 2 (s.Temp 0) (o.Temp 1) ∷ return 2) ∷ [])
+      ∷ WriteArgument 0 1 ∷ Call 1 7 ∷ FromFixed 2 Value ∷ return_temp 2) ∷ [])
+      ∷ example_function [] ((FromFixed 0 Argument0 ∷ ReadArgument 1 0 ∷ Operate Mulq 2 (s.Temp 0) (o.Temp 1)
+      ∷ return_temp 2) ∷ [])
       ∷ []) [] [] 1 ≡ ShowsDone 45 []
-  pub not_given : run_functions (function [] ((set 0 5 ∷ ToFixed Argument0 0 ∷ Call 1 1 ∷ []) ∷ [])
-      ∷ function [] ((ReadArgument 1 0 ∷ return 1) ∷ []) ∷ []) [] [] 1 ≡ ShowsUndefined 3 []
-  pub too_wide : run_functions (function [] ((set 0 5 ∷ WriteArgument 0 0 ∷ Call 1 6 ∷ []) ∷ []) ∷ []) [] [] 1
+  pub not_given : run_functions (example_function [] ((set_temp 0 5 ∷ ToFixed Argument0 0 ∷ Call 1 1 ∷ []) ∷ [])
+      ∷ example_function [] ((ReadArgument 1 0 ∷ return_temp 1) ∷ []) ∷ []) [] [] 1 ≡ ShowsUndefined 3 []
+  pub too_wide : run_functions (example_function [] ((set_temp 0 5 ∷ WriteArgument 0 0 ∷ Call 1 6 ∷ []) ∷ []) ∷ [])
+      [] [] 1
       ≡ ShowsUndefined 1 []
   -- a function that returns nothing
   pub returns_nothing : run_functions
-      (function [] ((Call 1 0 ∷ FromFixed 0 Value ∷ Operate Addq 1 (s.Temp 0) (o.Literal 1)
-      ∷ return 1) ∷ []) ∷ function [] ((Return false ∷ []) ∷ []) ∷ []) [] [] 1 ≡ ShowsUndefined 2 []
+      (example_function [] ((Call 1 0 ∷ FromFixed 0 Value ∷ Operate Addq 1 (s.Temp 0) (o.Literal 1)
+      ∷ return_temp 1) ∷ []) ∷ example_function [] ((Return false ∷ []) ∷ []) ∷ []) [] [] 1 ≡ ShowsUndefined 2 []
 
 -- ---- over registers and slots
 
@@ -156,7 +169,7 @@ run_plans plans turns = observe (placed_run [] plans 0 (start_world [] [] turns)
 
 abbrev pub plan : List (List TempInsn) → List (List Transfer) → List (List ℕ) → List EdgeCode → Plan
 plan blocks at regs edges = record {
-  function = function [] blocks;
+  function = example_function [] blocks;
   params = 0;
   temps = 4;
   top = map (λ block. []) blocks;
@@ -170,29 +183,29 @@ abbrev pub edge : (from to : ℕ) → List Transfer → EdgeCode
 edge from to code = record { from = from; to = to; code = code }
 
 -- 5 + 7, which is 12
-abbrev pub sum : List (List TempInsn)
-sum = (set 0 5 ∷ set 1 7 ∷ Operate Addq 2 (s.Temp 0) (o.Temp 1) ∷ return 2) ∷ []
+abbrev pub sum_blocks : List (List TempInsn)
+sum_blocks = (set_temp 0 5 ∷ set_temp 1 7 ∷ Operate Addq 2 (s.Temp 0) (o.Temp 1) ∷ return_temp 2) ∷ []
 
 -- each temporary in a register of its own
 abbrev pub sum_in_registers : Plan
 sum_in_registers =
-    plan sum ([] ∷ [] ∷ [] ∷ [] ∷ [] ∷ []) ((1 ∷ []) ∷ (2 ∷ []) ∷ (1 ∷ 2 ∷ 3 ∷ []) ∷ (3 ∷ []) ∷ [] ∷ []) []
+    plan sum_blocks ([] ∷ [] ∷ [] ∷ [] ∷ [] ∷ []) ((1 ∷ []) ∷ (2 ∷ []) ∷ (1 ∷ 2 ∷ 3 ∷ []) ∷ (3 ∷ []) ∷ [] ∷ []) []
 
 abbrev pub run_sum : List (List Transfer) → List (List ℕ) → TemporaryObservation
-run_sum at regs = run_plans (plan sum at regs [] ∷ []) 0
+run_sum at regs = run_plans (plan sum_blocks at regs [] ∷ []) 0
 
 -- a function that calls another one, which returns nothing, while 5 stands in a register
-abbrev pub calling : List (List TempInsn)
-calling = (set 0 5 ∷ Call 1 0 ∷ return 0) ∷ []
+abbrev pub calling_blocks : List (List TempInsn)
+calling_blocks = (set_temp 0 5 ∷ Call 1 0 ∷ return_temp 0) ∷ []
 
 abbrev pub run_calling : (register : ℕ) → TemporaryObservation
 run_calling register =
-    run_plans (plan calling [] ((register ∷ []) ∷ [] ∷ (register ∷ []) ∷ [] ∷ []) []
+    run_plans (plan calling_blocks [] ((register ∷ []) ∷ [] ∷ (register ∷ []) ∷ [] ∷ []) []
     ∷ plan ((Return false ∷ []) ∷ []) [] [] [] ∷ []) 1
 
 -- two temporaries, whose difference is taken in the next block, where each stands in the other's register
 abbrev pub swap_two : List (List TempInsn)
-swap_two = (set 0 9 ∷ set 1 4 ∷ Jump 1 ∷ []) ∷ (Operate Subq 2 (s.Temp 0) (o.Temp 1) ∷ return 2) ∷ []
+swap_two = (set_temp 0 9 ∷ set_temp 1 4 ∷ Jump 1 ∷ []) ∷ (Operate Subq 2 (s.Temp 0) (o.Temp 1) ∷ return_temp 2) ∷ []
 
 abbrev pub run_swapped : List Transfer → TemporaryObservation
 run_swapped code =

@@ -14,8 +14,8 @@ use Rattle.alloc_model.specs.declared.allocation.Transfer.{Transfer}
 use Rattle.alloc_model.specs.declared.allocation.Transfer.TheVariants.{Store, Load, Shift}
 use Rattle.alloc_model.specs.Effect.{Holder, Temp, Fixed, holders_written}
 use Rattle.alloc_model.specs.Temporaries.{flows_out}
-use Rattle.alloc_model.specs.Places.{Place, Reg, Slot, places_written_at, is_ended, source_of, target_of, moved_temp, Plan, transfers_at, registers_at, edge_transfers}
-use Rattle.alloc_model.specs.Needs.{is_live_at, place_of, place_at_top, IsNeeded}
+use Rattle.alloc_model.specs.Places.{Place, Reg, Slot, places_written_at, ends_place, source_of, transfer_target, moved_temp, Plan, transfers_at, registers_at, edge_transfers}
+use Rattle.alloc_model.specs.Needs.{is_live_at, top_place, place_at_top, IsNeeded}
 
 -- ---- the set
 
@@ -49,12 +49,12 @@ pub record Includes (h k : Held) : Type 0 where
 -- a transfer asks for the temporary at the source, and the temporary then stands at the target
 abbrev pub move_all : List Transfer → Held → Held
 move_all [] h = h
-move_all (x ∷ xs) h = move_all xs (stands (Temp (moved_temp x)) (target_of x) h)
+move_all (x ∷ xs) h = move_all xs (stands (Temp (moved_temp x)) (transfer_target x) h)
 
 abbrev pub MovesAsk : List Transfer → Held → Type 0
 MovesAsk [] h = Unit {0}
 MovesAsk (x ∷ xs) h =
-    h (Temp (moved_temp x)) (source_of x) × MovesAsk xs (stands (Temp (moved_temp x)) (target_of x) h)
+    h (Temp (moved_temp x)) (source_of x) × MovesAsk xs (stands (Temp (moved_temp x)) (transfer_target x) h)
 
 -- ---- instructions
 
@@ -73,7 +73,7 @@ FixedAsk (r ∷ rs) h = h (Fixed r) (Reg r) × FixedAsk rs h
 abbrev pub behind_insn : List Transfer → (registers : List ℕ) → Option TempInsn → Held → Held
 behind_insn xs rs None h = h
 behind_insn xs rs (Some x) h =
-    write_all (holders_written x) (places_written_at rs x) (end_all (is_ended x) (move_all xs h))
+    write_all (holders_written x) (places_written_at rs x) (end_all (ends_place x) (move_all xs h))
 
 -- ---- blocks
 
@@ -94,17 +94,17 @@ at_start a zero = at_entry a
 at_start a (suc block) = at_top a (suc block)
 
 -- before the instruction at a place of a block, and behind the block's last one
-abbrev pub before : Plan → (block at : ℕ) → Held
-before a block zero = at_start a block
-before a block (suc at) =
+abbrev pub held_before : Plan → (block at : ℕ) → Held
+held_before a block zero = at_start a block
+held_before a block (suc at) =
     behind_insn (transfers_at a block at) (registers_at a block at) (insn_at a.function.blocks block at)
-    (before a block at)
+    (held_before a block at)
 
 -- at a block's bottom each temporary that is live there stands at the place that is named, if one is
 abbrev pub at_bottom : Plan → (block : ℕ) → (insns : List TempInsn) → Held
 at_bottom a block insns (Temp t) q =
     is_live_at a t block (length insns)
-    × ((s : TempPlace) × Contains (slice_index_or a.bottom block []) s × (s.temp ≡ t) × (q ≡ place_of s.place))
+    × ((s : TempPlace) × Contains (slice_index_or a.bottom block []) s × (s.temp ≡ t) × (q ≡ top_place s.place))
 at_bottom a block insns _ q = ⊥
 
 -- an edge is kept: its transfers are given what they ask for, and lead to what the target's top starts with
@@ -144,14 +144,15 @@ abbrev pub IsGivenOrScratch : ℕ → Type 0
 IsGivenOrScratch r = Contains (28 ∷ given_registers) r
 
 -- the edges by rising first block and then second one; two equal ones stand twice
-abbrev pub rising : List ℕ → List ℕ
-rising (a ∷ b ∷ []) = if nat_lt b a then b ∷ a ∷ [] else a ∷ b ∷ []
-rising blocks = blocks
+abbrev pub sorted_targets : List ℕ → List ℕ
+sorted_targets (a ∷ b ∷ []) = if nat_lt b a then b ∷ a ∷ [] else a ∷ b ∷ []
+sorted_targets blocks = blocks
 
-abbrev pub edges_from : (block : ℕ) → List (List TempInsn) → List (ℕ × ℕ)
-edges_from block [] = []
-edges_from block (insns ∷ blocks) =
-    map (λ to. (block, to)) (rising (successors_of targets_of flows_on_of block insns)) ++ edges_from (suc block) blocks
+abbrev pub sorted_edges_from : (block : ℕ) → List (List TempInsn) → List (ℕ × ℕ)
+sorted_edges_from block [] = []
+sorted_edges_from block (insns ∷ blocks) =
+    map (λ to. (block, to)) (sorted_targets (successors_of targets_of flows_on_of block insns))
+    ++ sorted_edges_from (suc block) blocks
 
 -- the maps and lists have the lengths, temporaries and registers that they should
 pub record HasLists (a : Plan) : Type 0 where
@@ -161,7 +162,7 @@ pub record HasLists (a : Plan) : Type 0 where
   pub regs : length a.regs ≡ count_of a.function.blocks
   pub stated : (block at : ℕ) (x : TempInsn) → insn_at a.function.blocks block at ≡ Some x →
       length (registers_at a block at) ≡ length (reads_of x) + length (writes_of x)
-  pub edges : map (λ e. (e.from, e.to)) a.edges ≡ edges_from 0 a.function.blocks
+  pub edges : map (λ e. (e.from, e.to)) a.edges ≡ sorted_edges_from 0 a.function.blocks
   pub standing : All (All (IsStanding a.temps)) a.top × All (All (IsStanding a.temps)) a.bottom
   pub transfers : All (All (IsTransfer a.temps IsGivenRegister)) a.at
   pub edge_transfers : All (λ e. All (IsTransfer a.temps IsGivenOrScratch) e.code) a.edges
@@ -175,15 +176,15 @@ pub record Faithful (a : Plan) : Type 0 where
   -- what the entry's top names is what stands there at the start
   pub entry : Includes (at_entry a) (at_top a 0)
   pub moves : (block at : ℕ) (x : TempInsn) → insn_at a.function.blocks block at ≡ Some x →
-      MovesAsk (transfers_at a block at) (before a block at)
+      MovesAsk (transfers_at a block at) (held_before a block at)
   pub temps_read : (block at : ℕ) (x : TempInsn) → insn_at a.function.blocks block at ≡ Some x →
-      ReadsAsk (reads_of x) (registers_at a block at) (move_all (transfers_at a block at) (before a block at))
+      ReadsAsk (reads_of x) (registers_at a block at) (move_all (transfers_at a block at) (held_before a block at))
   pub fixed_read : (block at : ℕ) (x : TempInsn) → insn_at a.function.blocks block at ≡ Some x →
-      FixedAsk (fixed_reads_of x) (move_all (transfers_at a block at) (before a block at))
+      FixedAsk (fixed_reads_of x) (move_all (transfers_at a block at) (held_before a block at))
   pub bottoms : (block : ℕ) (insns : List TempInsn) → slice_get a.function.blocks block ≡ Some insns →
-      Includes (before a block (length insns)) (at_bottom a block insns)
+      Includes (held_before a block (length insns)) (at_bottom a block insns)
   -- a jump or branch stands last in its block, so the set behind it is that at the bottom
   pub jumps : (block at : ℕ) (x : TempInsn) → insn_at a.function.blocks block at ≡ Some x → (k to : ℕ) →
-      slice_get (targets_of x) k ≡ Some to → KeepsEdge a block to (before a block (suc at))
+      slice_get (targets_of x) k ≡ Some to → KeepsEdge a block to (held_before a block (suc at))
   pub follows : (block : ℕ) (insns : List TempInsn) → slice_get a.function.blocks block ≡ Some insns →
-      flows_out insns ≡ true → KeepsEdge a block (suc block) (before a block (length insns))
+      flows_out insns ≡ true → KeepsEdge a block (suc block) (held_before a block (length insns))

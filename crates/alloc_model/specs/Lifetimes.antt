@@ -9,8 +9,8 @@ use Rattle.alloc_model.specs.Places.{linear_number}
 abbrev pub Blocks : Type 0
 Blocks = List (List TempInsn)
 
-abbrev pub is_live : Blocks → (t block at : ℕ) → Type 0
-is_live blocks t block at = Live reads_of writes_of targets_of flows_on_of blocks t block at
+abbrev pub lives_at : Blocks → (t block at : ℕ) → Type 0
+lives_at blocks t block at = Live reads_of writes_of targets_of flows_on_of blocks t block at
 
 -- A temporary is present where an instruction reads it or it is live before that, and where an instruction writes it or
 -- it is live after that
@@ -18,11 +18,11 @@ pub data IsPresent (blocks : Blocks) (t : ℕ) (point : ℕ) : Type 0 where
   IsRead : (block at : ℕ) (x : TempInsn) → insn_at blocks block at ≡ Some x →
       point ≡ 2 * linear_number blocks block at → Contains (reads_of x) t → IsPresent blocks t point
   IsLiveBefore : (block at : ℕ) (x : TempInsn) → insn_at blocks block at ≡ Some x →
-      point ≡ 2 * linear_number blocks block at → is_live blocks t block at → IsPresent blocks t point
+      point ≡ 2 * linear_number blocks block at → lives_at blocks t block at → IsPresent blocks t point
   IsWritten : (block at : ℕ) (x : TempInsn) → insn_at blocks block at ≡ Some x →
       point ≡ 2 * linear_number blocks block at + 1 → Contains (writes_of x) t → IsPresent blocks t point
   IsLiveAfter : (block at : ℕ) (x : TempInsn) → insn_at blocks block at ≡ Some x →
-      point ≡ 2 * linear_number blocks block at + 1 → is_live blocks t block (suc at) → IsPresent blocks t point
+      point ≡ 2 * linear_number blocks block at + 1 → lives_at blocks t block (suc at) → IsPresent blocks t point
 
 -- the lifetime of a temporary: the least range, from a first to a last point, that holds all points where it is present
 pub record IsLifetime (blocks : Blocks) (t first last : ℕ) : Type 0 where

@@ -10,20 +10,20 @@ use Rattle.alloc_model.specs.declared.allocation.Loc.TheVariants as loc
 use Rattle.alloc_model.specs.declared.allocation.TempPlace.{TempPlace}
 use Rattle.alloc_model.specs.declared.allocation.Transfer.{Transfer}
 use Rattle.alloc_model.specs.declared.allocation.Transfer.TheVariants.{Store, Load, Shift}
-use Rattle.alloc_model.specs.Places.{Place, Reg, Slot, places_written_at, is_ended, target_of, moved_temp, Plan, transfers_at, registers_at}
+use Rattle.alloc_model.specs.Places.{Place, Reg, Slot, places_written_at, ends_place, transfer_target, moved_temp, Plan, transfers_at, registers_at}
 
 -- a temporary is live at a place of a block
 abbrev pub is_live_at : Plan → (t block at : ℕ) → Type 0
 is_live_at a t block at = Live reads_of writes_of targets_of flows_on_of a.function.blocks t block at
 
 -- the place of a temporary at a block's top: the one that is named, or its slot
-abbrev pub place_of : Loc → Place
-place_of (loc.Reg r) = Reg r
-place_of (loc.Slot t) = Slot t
+abbrev pub top_place : Loc → Place
+top_place (loc.Reg r) = Reg r
+top_place (loc.Slot t) = Slot t
 
 abbrev pub named_place : (t : ℕ) → Option TempPlace → Place
 named_place t None = Slot t
-named_place t (Some s) = place_of s.place
+named_place t (Some s) = top_place s.place
 
 abbrev pub place_at_top : Plan → (block t : ℕ) → Place
 place_at_top a block t = named_place t (find (λ s. s.temp == t) (slice_index_or a.top block []))
@@ -31,7 +31,7 @@ place_at_top a block t = named_place t (find (λ s. s.temp == t) (slice_index_or
 -- an instruction takes a register: it ends it, or writes there
 abbrev pub takes_register : (registers : List ℕ) → (register : ℕ) → TempInsn → Type 0
 takes_register registers register x =
-    ∥ (is_ended x (Reg register) ≡ true) ⊎ Contains (places_written_at registers x) (Reg register) ∥₁
+    ∥ (ends_place x (Reg register) ≡ true) ⊎ Contains (places_written_at registers x) (Reg register) ∥₁
 
 -- From a place of a block, with some transfers left before the instruction there, a temporary that stands in a register
 -- has its slot used before a store or a write of it: it is loaded; or something else takes its register while it is
@@ -39,10 +39,11 @@ takes_register registers register x =
 pub data UsesSlot (a : Plan) (t block : ℕ) : (at : ℕ) → List Transfer → (register : ℕ) → Type 0 where
   IsLoaded : {at register : ℕ} (to : ℕ) (xs : List Transfer) → UsesSlot a t block at (Load t to ∷ xs) register
   LeavesByMove : {at register : ℕ} (x : Transfer) (xs : List Transfer) → moved_temp x ≢ t →
-      target_of x ≡ Reg register → is_live_at a t block at → UsesSlot a t block at (x ∷ xs) register
+      transfer_target x ≡ Reg register → is_live_at a t block at → UsesSlot a t block at (x ∷ xs) register
   IsShifted : {at register : ℕ} (from to : ℕ) (xs : List Transfer) → UsesSlot a t block at xs to →
       UsesSlot a t block at (Shift t from to ∷ xs) register
-  PassesMove : {at register : ℕ} (x : Transfer) (xs : List Transfer) → moved_temp x ≢ t → target_of x ≢ Reg register →
+  PassesMove : {at register : ℕ} (x : Transfer) (xs : List Transfer) → moved_temp x ≢ t →
+      transfer_target x ≢ Reg register →
       UsesSlot a t block at xs register → UsesSlot a t block at (x ∷ xs) register
   LeavesByInsn : {at register : ℕ} (x : TempInsn) → insn_at a.function.blocks block at ≡ Some x →
       ¬ Contains (writes_of x) t → takes_register (registers_at a block at) register x → is_live_at a t block (suc at) →

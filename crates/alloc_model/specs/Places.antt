@@ -4,7 +4,7 @@ use Rattle.std.specs.Prelude.{◌≡◌, ℕ, ◌+◌, ◌==◌, ◌&&◌, Bool,
 use Rattle.mem_model.specs.World.{World, Rooms}
 use Rattle.mem_model.specs.Ending.{Ending}
 use Rattle.machine_model.specs.Code.{Site, Point, Code}
-use Rattle.machine_model.specs.Machine.{Next, Over, exec, start}
+use Rattle.machine_model.specs.Machine.{Next, Over, exec, start_config}
 use Rattle.suifvm_ir.specs.Functions.{count_of}
 use Rattle.temp_ir.specs.declared.insn.TempInsn.{TempInsn}
 use Rattle.temp_ir.specs.declared.program.TempProgram.{TempProgram}
@@ -18,8 +18,8 @@ use Rattle.alloc_model.specs.declared.allocation.Allocation.{Allocation}
 use Rattle.alloc_model.specs.Contents.{Content}
 use Rattle.alloc_model.specs.Stores as stores
 use Rattle.alloc_model.specs.Stores.{empty, without, put, put_all}
-use Rattle.alloc_model.specs.Effect.{Holder, Temp, Fixed, Incoming, Outgoing, entry_holders, others_read, others_written, is_call, widest_call, does, takes_turn}
-use Rattle.alloc_model.specs.Temporaries.{TemporaryCode, sizes_in, number_of, status_of, site_in, start_world, main_of, code_of}
+use Rattle.alloc_model.specs.Effect.{Holder, Temp, Fixed, Incoming, Outgoing, entry_holders, others_read, others_written, calls_function, widest_call, does, takes_turn}
+use Rattle.alloc_model.specs.Temporaries.{TemporaryCode, sizes_in, point_number, result_status, site_in, start_world, main_of, code_of}
 
 -- ---- places
 
@@ -52,10 +52,10 @@ abbrev pub places_written_at : (registers : List ℕ) → TempInsn → List Plac
 places_written_at registers x = map Reg (drop (length (reads_of x)) registers) ++ map home_of (others_written x)
 
 -- the places that an instruction ends: registers, and the argument places of a call
-abbrev pub is_ended : TempInsn → Place → Bool
-is_ended x (Reg r) = has_number (ended_of x) r
-is_ended x (Out k) = is_call x
-is_ended x _ = false
+abbrev pub ends_place : TempInsn → Place → Bool
+ends_place x (Reg r) = has_number (ended_of x) r
+ends_place x (Out k) = calls_function x
+ends_place x _ = false
 
 -- ---- transfers
 
@@ -64,10 +64,10 @@ source_of (Store t r) = Reg r
 source_of (Load t r) = Slot t
 source_of (Shift t from to) = Reg from
 
-abbrev pub target_of : Transfer → Place
-target_of (Store t r) = Slot t
-target_of (Load t r) = Reg r
-target_of (Shift t from to) = Reg to
+abbrev pub transfer_target : Transfer → Place
+transfer_target (Store t r) = Slot t
+transfer_target (Load t r) = Reg r
+transfer_target (Shift t from to) = Reg to
 
 abbrev pub moved_temp : Transfer → ℕ
 moved_temp (Store t r) = t
@@ -80,7 +80,7 @@ Places = stores.Store Place
 -- transfers one after the other, each of whatever its source holds
 abbrev pub do_all : List Transfer → Places → Places
 do_all [] s = s
-do_all (x ∷ xs) s = do_all xs (put place_eq (target_of x) (s (source_of x)) s)
+do_all (x ∷ xs) s = do_all xs (put place_eq (transfer_target x) (s (source_of x)) s)
 
 -- ---- what an allocation says of a point
 
@@ -135,7 +135,7 @@ placed_site widest transfers registers x = record {
   turn = takes_turn x;
   targets = targets_of x;
   fetch = λ s. map (do_all transfers s) (places_read_at registers x);
-  put = λ cs s. put_all place_eq (places_written_at registers x) cs (without (is_ended x) (do_all transfers s));
+  put = λ cs s. put_all place_eq (places_written_at registers x) cs (without (ends_place x) (do_all transfers s));
 }
 
 abbrev pub placed_site_at : Plan → Point → Option (Site Content Places)
@@ -157,17 +157,17 @@ functions_of plans = map (λ a. a.function) plans
 abbrev pub placed_code : List Plan → Code Content Places
 placed_code plans = record {
   site = λ p. placed_site_in (slice_get plans p.function) p;
-  number = number_of (functions_of plans);
+  number = point_number (functions_of plans);
   edge = λ p block s. do_all (edge_in (slice_get plans p.function) p.block block) s;
   entry = λ function cs. put_all place_eq (map home_of (entry_holders (length cs))) cs empty;
   locals = λ function. sizes_in (slice_get (functions_of plans) function);
-  status = status_of;
+  status = result_status;
 }
 
 -- so many steps from the start of a function
 abbrev pub placed_run : Rooms → List Plan → (main : ℕ) → World → (steps : ℕ) → Next Places
 placed_run rooms plans main w steps =
-    exec Content Places rooms (placed_code plans) steps (start Content Places rooms (placed_code plans) main w)
+    exec Content Places rooms (placed_code plans) steps (start_config Content Places rooms (placed_code plans) main w)
 
 -- The run of a program over registers and slots, by an allocation for each of its functions, ends so
 pub record PlacesEnd (rooms : Rooms) (program : TempProgram) (allocations : List Allocation) (input : List ℕ)

@@ -5,7 +5,7 @@ use Rattle.mem_model.specs.declared.value.Value.TheVariants.{Word}
 use Rattle.mem_model.specs.World.{World, Rooms, meter_of}
 use Rattle.mem_model.specs.Ending.{Ending}
 use Rattle.machine_model.specs.Code.{Jumps, Site, Point, Code}
-use Rattle.machine_model.specs.Machine.{Next, Over, exec, start}
+use Rattle.machine_model.specs.Machine.{Next, Over, exec, start_config}
 use Rattle.data_object.specs.declared.DataObject.{DataObject}
 use Rattle.data_object.specs.Start.{start_memory}
 use Rattle.suifvm_ir.specs.Functions.{count_of, last_of}
@@ -37,8 +37,8 @@ sizes_in None = []
 sizes_in (Some f) = f.sizes
 
 -- the number of an instruction, counted over all functions from 0
-abbrev pub number_of : List TemporaryCode → Point → ℕ
-number_of functions p =
+abbrev pub point_number : List TemporaryCode → Point → ℕ
+point_number functions p =
     sum_by (λ f. count_of f.blocks) (take p.function functions) + count_of
     (take p.block (blocks_in (slice_get functions p.function))) + p.at
 
@@ -47,8 +47,8 @@ abbrev pub content_status : Content → Option ℕ
 content_status (Plain (Word n)) = Some (n % 256)
 content_status _ = None
 
-abbrev pub status_of : List Content → Option ℕ
-status_of cs = content_status (first_or_unset cs)
+abbrev pub result_status : List Content → Option ℕ
+result_status cs = content_status (first_or_unset cs)
 
 -- ---- sites, whatever keeps the contents: how an instruction reads and writes is said by its parts
 
@@ -108,11 +108,11 @@ temp_site_at blocks p =
 abbrev pub temp_code : List TemporaryCode → Code Content Temps
 temp_code functions = record {
   site = λ p. temp_site_at (blocks_in (slice_get functions p.function)) p;
-  number = number_of functions;
+  number = point_number functions;
   edge = λ p block s. s;
   entry = λ function cs. put_all holder_eq (entry_holders (length cs)) cs empty;
   locals = λ function. sizes_in (slice_get functions function);
-  status = status_of;
+  status = result_status;
 }
 
 -- ---- runs
@@ -127,7 +127,7 @@ start_world globals input turns = record {
 -- so many steps from the start of a function
 abbrev pub temp_run : Rooms → List TemporaryCode → (main : ℕ) → World → (steps : ℕ) → Next Temps
 temp_run rooms functions main w steps =
-    exec Content Temps rooms (temp_code functions) steps (start Content Temps rooms (temp_code functions) main w)
+    exec Content Temps rooms (temp_code functions) steps (start_config Content Temps rooms (temp_code functions) main w)
 
 -- the number of the function `main`
 abbrev pub main_of : List TempFn → ℕ

@@ -4,7 +4,7 @@ use Rattle.std.specs.Prelude.{not}
 use Rattle.std.proofs.lemmas.Bool.{eqb-true, eq-eqb}
 use Rattle.std.proofs.Math.Path.{fun_ext}
 use Rattle.alloc_model.specs.Places.{Reg, Slot, place_eq}
-use Rattle.alloc_rules.specs.Visits.{comes_to, register_of}
+use Rattle.alloc_rules.specs.Visits.{comes_to, register_in_place}
 use Rattle.alloc_plain.specs.declared.holders.Held.{Held}
 use Rattle.alloc_plain.specs.model.Held.{is_in, register_by, place_in, home_in, without_temp, holder_behind, comes}
 use Rattle.plain_lists.proofs.Sets.{test_or_not}
@@ -14,7 +14,7 @@ pub record AtMostOne (a b c : Bool) : Type 0 where
   pub first : a ≡ true → (b ≡ false) × (c ≡ false)
   pub second : b ≡ true → c ≡ false
 
-pub register_place : (o : Option ℕ) (t : ℕ) → register_of (place_in o t) ≡ o
+pub register_place : (o : Option ℕ) (t : ℕ) → register_in_place (place_in o t) ≡ o
 register_place None t = refl
 register_place (Some r) t = refl
 

@@ -18,14 +18,14 @@ use Rattle.alloc_model.specs.Places.{Slot, Plan, linear_number, transfers_at, re
 use Rattle.alloc_model.specs.Needs.{named_place, place_at_top}
 use Rattle.alloc_model.specs.Lifetimes.{Blocks, IsPresent}
 use Rattle.alloc_model.specs.Lifetimes.IsPresent.{IsRead, IsLiveBefore, IsWritten, IsLiveAfter}
-use Rattle.alloc_rules.specs.Visits.{Wants, AreWants, homes_behind_moves, homes_left, registers_written, homes_before, homes_behind_insn, all_come_to, homes_at_top, with_top, register_of}
+use Rattle.alloc_rules.specs.Visits.{Wants, AreWants, homes_behind_moves, homes_left, registers_written, homes_before, homes_behind_insn, all_come_to, homes_at_top, with_top, register_in_place}
 use Rattle.alloc_rules.specs.Frugal.{is_covered}
 use Rattle.alloc_rules.specs.Journal.{eviction, eviction_at, evictions, event_of, assigned_by_move, visit_events, insn_events, events_from, blocks_events, journal_of}
 use Rattle.lifetime_ends.specs.Ends.{AreEnds}
 use Rattle.alloc_plain.specs.declared.holders.Held.{Held}
 use Rattle.alloc_plain.specs.model.Held.{register_in, home_in, nothing_held, held_left, held_behind, held_at_top, held_behind_all, Holds}
 use Rattle.alloc_plain.specs.model.Visits.{leaving, leaving_at, all_leaving, visit_in_slots, visits_in_slots, journal_in_slots}
-use Rattle.plain_lists.specs.Plain.{loads, registers_of, stores_behind, transfers_from, plain_plan}
+use Rattle.plain_lists.specs.Plain.{loads, plain_registers, stores_behind, transfers_from, plain_plan}
 use Rattle.plain_lists.proofs.Sets.{test_or_not}
 use Rattle.plain_lists.proofs.Registers.{or_first, or_second}
 use Rattle.plain_lists.proofs.Lists.{read_in_block, previous, previous_next, transfers_length, transfers_get, registers_get}
@@ -140,7 +140,7 @@ module _ (f : TemporaryCode) (params temps : ℕ) (wants : Wants) (are : AreWant
 
   leaves_place : (t p m : ℕ) (g b : Held) → Holds (WasPresent wants temps m) g → m ≤ suc p → eviction_at plan wants p (home_in g) (home_in b) t ≡ leaving ends p g b t
   leaves_place t p m g b holds few =
-      ap (λ o. eviction (is_covered plan wants t p) o (register_of (home_in b t)) t) (register_place (register_in g t) t)
+      ap (λ o. eviction (is_covered plan wants t p) o (register_in_place (home_in b t)) t) (register_place (register_in g t) t)
       ∙ ap (λ o. eviction (is_covered plan wants t p) (register_in g t) o t) (register_place (register_in b t) t)
       ∙ by_register (register_in g t) refl
     where
@@ -163,9 +163,9 @@ module _ (f : TemporaryCode) (params temps : ℕ) (wants : Wants) (are : AreWant
       read_in_block (transfers_from None) (transfers_length None) f.blocks block at insns [] is (slice_get_within insns at x at_is)
       ∙ transfers_get None insns at x at_is
 
-  registers_are : (block at : ℕ) (insns : List TempInsn) (x : TempInsn) → slice_get f.blocks block ≡ Some insns → slice_get insns at ≡ Some x → registers_at plan block at ≡ registers_of x
+  registers_are : (block at : ℕ) (insns : List TempInsn) (x : TempInsn) → slice_get f.blocks block ≡ Some insns → slice_get insns at ≡ Some x → registers_at plan block at ≡ plain_registers x
   registers_are block at insns x is at_is =
-      read_in_block (map registers_of) (λ insns. length-map insns registers_of) f.blocks block at insns [] is (slice_get_within insns at x at_is)
+      read_in_block (map plain_registers) (λ insns. length-map insns plain_registers) f.blocks block at insns [] is (slice_get_within insns at x at_is)
       ∙ registers_get insns at x at_is
 
   -- before an instruction with a number stands what is held
@@ -193,7 +193,7 @@ module _ (f : TemporaryCode) (params temps : ℕ) (wants : Wants) (are : AreWant
     behind_is =
         ap (λ o. homes_behind_insn (transfers_at plan block at) (registers_at plan block at) o (homes_before plan wants block at)) there
         ∙ ap (λ rs. all_come_to (registers_written rs x) (writes_of x) (homes_left x (homes_behind_moves (transfers_at plan block at) (homes_before plan wants block at)))) (registers_are block at insns x block_is at_is)
-        ∙ ap (all_come_to (registers_written (registers_of x) x) (writes_of x)) left_is
+        ∙ ap (all_come_to (registers_written (plain_registers x) x) (writes_of x)) left_is
         ∙ behind_home x (held_left x h) (left_once x h s.once)
 
     used : UsesRegisters reads_of writes_of temps x
@@ -234,10 +234,10 @@ module _ (f : TemporaryCode) (params temps : ℕ) (wants : Wants) (are : AreWant
         (homes_left x (homes_behind_moves (transfers_at plan block at) (homes_before plan wants block at))) (homes_before plan wants block (suc at))) (sym s.number)
         ∙ ap (λ rs. visit_events plan wants n (transfers_at plan block at) (zip (writes_of x) (registers_written rs x)) (homes_before plan wants block at)
         (homes_left x (homes_behind_moves (transfers_at plan block at) (homes_before plan wants block at))) (homes_before plan wants block (suc at))) (registers_are block at insns x block_is at_is)
-        ∙ ap (λ g. visit_events plan wants n (transfers_at plan block at) (zip (writes_of x) (registers_written (registers_of x) x)) (homes_before plan wants block at) g (homes_before plan wants block (suc at))) left_is
-        ∙ ap (λ g. visit_events plan wants n (transfers_at plan block at) (zip (writes_of x) (registers_written (registers_of x) x)) (homes_before plan wants block at) (home_in (held_left x h)) g) behind_is
-        ∙ ap (λ g. visit_events plan wants n (transfers_at plan block at) (zip (writes_of x) (registers_written (registers_of x) x)) g (home_in (held_left x h)) (home_in (held_behind x h))) s.homes
-        ∙ ap (λ tr. visit_events plan wants n tr (zip (writes_of x) (registers_written (registers_of x) x)) (home_in h) (home_in (held_left x h)) (home_in (held_behind x h))) moves_are
+        ∙ ap (λ g. visit_events plan wants n (transfers_at plan block at) (zip (writes_of x) (registers_written (plain_registers x) x)) (homes_before plan wants block at) g (homes_before plan wants block (suc at))) left_is
+        ∙ ap (λ g. visit_events plan wants n (transfers_at plan block at) (zip (writes_of x) (registers_written (plain_registers x) x)) (homes_before plan wants block at) (home_in (held_left x h)) g) behind_is
+        ∙ ap (λ g. visit_events plan wants n (transfers_at plan block at) (zip (writes_of x) (registers_written (plain_registers x) x)) g (home_in (held_left x h)) (home_in (held_behind x h))) s.homes
+        ∙ ap (λ tr. visit_events plan wants n tr (zip (writes_of x) (registers_written (plain_registers x) x)) (home_in h) (home_in (held_left x h)) (home_in (held_behind x h))) moves_are
         ∙ same_parts (all_leave n h (held_left x h) (held_behind x h) s.holds left_was) (assigning_home x (held_left x h)) (writing_home x)
       where
         same_parts : {ev ev' gs gs' ws ws' : List Event} → ev ≡ ev' → gs ≡ gs' → ws ≡ ws' →

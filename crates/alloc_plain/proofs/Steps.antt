@@ -10,14 +10,14 @@ use Rattle.temp_ir.specs.Insns.{reads_of, writes_of}
 use Rattle.temp_ir.specs.Fixed.{fixed_writes_of, ended_of, has_number}
 use Rattle.alloc_model.specs.declared.allocation.Transfer.{Transfer}
 use Rattle.alloc_model.specs.declared.allocation.Event.TheVariants as event
-use Rattle.alloc_model.specs.Effect.{is_call}
+use Rattle.alloc_model.specs.Effect.{calls_function}
 use Rattle.alloc_model.specs.Places.{Reg, Slot}
-use Rattle.alloc_rules.specs.Visits.{Homes, homes_behind_moves, takes_away, place_left, homes_left, all_come_to, registers_written, register_of}
+use Rattle.alloc_rules.specs.Visits.{Homes, homes_behind_moves, takes_away, place_left, homes_left, all_come_to, registers_written, register_in_place}
 use Rattle.alloc_rules.specs.Journal.{assigned_unless}
 use Rattle.alloc_plain.specs.declared.holders.Held.{Held}
 use Rattle.alloc_plain.specs.model.Held.{is_in, register_by, register_in, place_in, home_in, holder_behind, comes, come, nothing_held, held_left, unless_live, held_at_top, Holds}
 use Rattle.alloc_plain.specs.model.Visits.{assigning, writing}
-use Rattle.plain_lists.specs.Plain.{loads, stores, stores_behind, registers_of, writes_in, first_in}
+use Rattle.plain_lists.specs.Plain.{loads, stores, stores_behind, plain_registers, writes_in, first_in}
 use Rattle.plain_lists.proofs.Sets.{test_or_not}
 use Rattle.plain_lists.proofs.Registers.{few, written_high, IsHigh}
 use Rattle.plain_lists.proofs.Lists.{range_behind}
@@ -127,7 +127,7 @@ by_number x b one two three r low = or_none (has_number (fixed_writes_of x) r) (
     ended r (inr (inl e)) = ap (has_number (ended_of x)) e ∙ two
     ended r (inr (inr e)) = ap (has_number (ended_of x)) e ∙ three
 
-pub taken : (x : TempInsn) (r : ℕ) → IsLow r → takes_away x r ≡ is_call x
+pub taken : (x : TempInsn) (r : ℕ) → IsLow r → takes_away x r ≡ calls_function x
 taken (i.Address op destination base plus) = by_number (i.Address op destination base plus) false refl refl refl
 taken (i.ObjectAddress destination place plus) = by_number (i.ObjectAddress destination place plus) false refl refl refl
 taken (i.Load op destination pointer plus) = by_number (i.Load op destination pointer plus) false refl refl refl
@@ -166,17 +166,17 @@ left_at x t h false (Some r) taken is =
     ap (λ b. if b then Slot t else Reg r) (taken r (register_low (is_in h.first t) (is_in h.second t) (is_in h.third t) r is)) ∙ ap (λ o. place_in o t) (sym is)
 
 pub left_home : (x : TempInsn) (h : Held) → homes_left x (home_in (come (reads_of x) 1 h)) ≡ home_in (held_left x h)
-left_home x h = fun_ext (λ t. left_at x t (come (reads_of x) 1 h) (is_call x) (register_in (come (reads_of x) 1 h) t) (taken x) refl)
+left_home x h = fun_ext (λ t. left_at x t (come (reads_of x) 1 h) (calls_function x) (register_in (come (reads_of x) 1 h) t) (taken x) refl)
 
 pub left_once : (x : TempInsn) (h : Held) → IsOnce h → IsOnce (held_left x h)
-left_once x h once = either (is_call x)
+left_once x h once = either (calls_function x)
   where
     either : (ends : Bool) → IsOnce (left_of ends (come (reads_of x) 1 h))
     either true = nothing_once
     either false = let most = (few x).0 in come_once (reads_of x) 1 h (omega arith) (omega (arith, most)) once
 
 pub left_holds : (P : ℕ → Type 0) (x : TempInsn) (h : Held) → ((t : ℕ) → Contains (reads_of x) t → P t) → Holds P h → Holds P (held_left x h)
-left_holds P x h all holds = either (is_call x)
+left_holds P x h all holds = either (calls_function x)
   where
     either : (ends : Bool) → Holds P (left_of ends (come (reads_of x) 1 h))
     either true = nothing_holds P
@@ -184,7 +184,7 @@ left_holds P x h all holds = either (is_call x)
 
 -- ---- what it writes
 
-pub behind_home : (x : TempInsn) (h : Held) → IsOnce h → all_come_to (registers_written (registers_of x) x) (writes_of x) (home_in h) ≡ home_in (come (writes_of x) (1 + length (reads_of x)) h)
+pub behind_home : (x : TempInsn) (h : Held) → IsOnce h → all_come_to (registers_written (plain_registers x) x) (writes_of x) (home_in h) ≡ home_in (come (writes_of x) (1 + length (reads_of x)) h)
 behind_home x h once =
     let most = few x in
     let reads = most.0 in
@@ -204,7 +204,7 @@ behind_holds P x h all holds = come_holds P (writes_of x) (1 + length (reads_of 
 
 -- the events of what it writes
 assigning_few : (ts : List ℕ) (r : ℕ) (h : Held) → length ts ≤ 1 →
-    flat_map (λ w. assigned_unless (register_of (home_in h w.0)) w.0 w.1) (zip ts (range_with_len r (length ts))) ≡ assigning r h ts
+    flat_map (λ w. assigned_unless (register_in_place (home_in h w.0)) w.0 w.1) (zip ts (range_with_len r (length ts))) ≡ assigning r h ts
 assigning_few [] r h most = refl
 assigning_few (t ∷ []) r h most = ap (λ o. assigned_unless o t r ++ []) (register_place (register_in h t) t)
 assigning_few (t ∷ u ∷ ts) r h most = absurd (omega (arith, most))
@@ -215,13 +215,13 @@ writing_few (t ∷ []) r most = refl
 writing_few (t ∷ u ∷ ts) r most = absurd (omega (arith, most))
 
 pub assigning_home : (x : TempInsn) (h : Held) →
-    flat_map (λ w. assigned_unless (register_of (home_in h w.0)) w.0 w.1) (zip (writes_of x) (registers_written (registers_of x) x)) ≡ assigning (1 + length (reads_of x)) h (writes_of x)
+    flat_map (λ w. assigned_unless (register_in_place (home_in h w.0)) w.0 w.1) (zip (writes_of x) (registers_written (plain_registers x) x)) ≡ assigning (1 + length (reads_of x)) h (writes_of x)
 assigning_home x h =
-    ap (λ rs. flat_map (λ w. assigned_unless (register_of (home_in h w.0)) w.0 w.1) (zip (writes_of x) rs))
+    ap (λ rs. flat_map (λ w. assigned_unless (register_in_place (home_in h w.0)) w.0 w.1) (zip (writes_of x) rs))
     (range_behind (length (reads_of x)) 1 (length (reads_of x) + length (writes_of x)) (length (writes_of x)) refl)
     ∙ assigning_few (writes_of x) (1 + length (reads_of x)) h (few x).1
 
-pub writing_home : (x : TempInsn) → map (λ w. event.Write w.0 w.1) (zip (writes_of x) (registers_written (registers_of x) x)) ≡ writing (1 + length (reads_of x)) (writes_of x)
+pub writing_home : (x : TempInsn) → map (λ w. event.Write w.0 w.1) (zip (writes_of x) (registers_written (plain_registers x) x)) ≡ writing (1 + length (reads_of x)) (writes_of x)
 writing_home x =
     ap (λ rs. map (λ w. event.Write w.0 w.1) (zip (writes_of x) rs))
     (range_behind (length (reads_of x)) 1 (length (reads_of x) + length (writes_of x)) (length (writes_of x)) refl)

@@ -2,7 +2,7 @@
 
 ghost use Rattle.std.specs.Prelude.{◌≡◌, ◌+◌, ◌<◌, List, ℕ, length, IfSome};
 ghost use Rattle.temp_ir.specs.Insns.{reads_of, writes_of};
-ghost use Rattle.alloc_model.specs.Effect.{is_call};
+ghost use Rattle.alloc_model.specs.Effect.{calls_function};
 ghost use Rattle.alloc_plain.specs.model.Held.{register_in, come, held_at_top, Holds};
 ghost use Rattle.alloc_plain.specs.model.Held as model;
 ghost use Rattle.alloc_plain.specs.model.Next as next;
@@ -108,7 +108,7 @@ fn reads_come(held: Held, insn: &TempInsn) -> Held
 
 /// Whether an instruction calls a function.
 fn calls(insn: &TempInsn) -> bool
-    ensures { result ≡ is_call insn.now }
+    ensures { result ≡ calls_function insn.now }
 {
     matches!(insn, TempInsn::Call { .. })
 }

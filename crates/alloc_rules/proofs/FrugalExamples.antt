@@ -10,10 +10,10 @@ use Rattle.temp_ir.specs.declared.insn.TempInsn.TheVariants.{ToFixed, Return}
 use Rattle.temp_ir.specs.Insns.{reads_of, writes_of, targets_of, flows_on_of}
 use Rattle.alloc_model.specs.declared.allocation.Transfer.{Transfer}
 use Rattle.alloc_model.specs.declared.allocation.Transfer.TheVariants as move
-use Rattle.alloc_model.specs.Examples.{set}
+use Rattle.alloc_model.specs.Examples.{set_temp}
 use Rattle.alloc_model.specs.declared.allocation.TempPlace.{TempPlace}
 use Rattle.alloc_model.specs.Places.{Reg, Slot, linear_number}
-use Rattle.alloc_model.specs.Lifetimes.{IsPresent, IsRead, IsLiveBefore, IsWritten, IsLiveAfter, is_live}
+use Rattle.alloc_model.specs.Lifetimes.{IsPresent, IsRead, IsLiveBefore, IsWritten, IsLiveAfter, lives_at}
 use Rattle.alloc_rules.specs.Visits.{Wants, AreWants, registers_written, moment_of_write, free_registers, best_register, victim_register}
 use Rattle.alloc_rules.specs.Frugal.{Frugal, IsMade, IsMadeOnEdge, IsWrittenIn, is_covered_at_bottom}
 use Rattle.alloc_rules.specs.FrugalExamples.{number_blocks, number_in_register, needless_load, FrugalExamples}
@@ -33,10 +33,10 @@ unread : (x i : TempInsn) (t : ℕ) → reads_of x ≡ [] → Some x ≡ Some i 
 unread x i t none there c =
     nothing_in ℕ t (subst (λ rs. Contains rs t) none (subst (λ y. Contains (reads_of y) t) (sym (same_Some x i there)) c))
 
-never_live : (t block at : ℕ) → is_live number_blocks t block at → ⊥
+never_live : (t block at : ℕ) → lives_at number_blocks t block at → ⊥
 never_live t zero at (live.Follows insns next there end follows l) =
     nothing_in ℕ next (subst (λ is. Contains (successors_of targets_of flows_on_of 0 is) next) (sym (same_Some _ insns there)) follows)
-never_live t zero zero (live.IsRead i there c) = unread (set 0 5) i t refl there c
+never_live t zero zero (live.IsRead i there c) = unread (set_temp 0 5) i t refl there c
 never_live t zero (suc zero) (live.IsRead i there c) = unread (Return false) i t refl there c
 never_live t zero (suc (suc at)) (live.IsRead i there c) = none-some i there
 never_live t zero zero (live.Passes i there n l) = never_live t zero 1 l
@@ -52,7 +52,7 @@ is_present t point = false
 
 present_there : (t point : ℕ) → is_present t point ≡ true → IsPresent number_blocks t point
 present_there zero zero e = absurd (differ e)
-present_there zero (suc zero) e = IsWritten 0 0 (set 0 5) refl refl (0, omega arith, refl)
+present_there zero (suc zero) e = IsWritten 0 0 (set_temp 0 5) refl refl (0, omega arith, refl)
 present_there zero (suc (suc point)) e = absurd (differ e)
 present_there (suc t) point e = absurd (differ e)
 
@@ -71,7 +71,7 @@ there_present : (t point : ℕ) → IsPresent number_blocks t point → is_prese
 there_present t point (IsRead block at x there p c) = absurd (read_nothing block at there)
   where
     read_nothing : (block at : ℕ) → insn_at number_blocks block at ≡ Some x → ⊥
-    read_nothing zero zero there = unread (set 0 5) x t refl there c
+    read_nothing zero zero there = unread (set_temp 0 5) x t refl there c
     read_nothing zero (suc zero) there = unread (Return false) x t refl there c
     read_nothing zero (suc (suc at)) there = none-some x there
     read_nothing (suc block) at there = none-some x there
@@ -115,18 +115,18 @@ none_on_edge {from} {to} {made} {x} m = nothing_before made m.left x m.is
 
 -- ---- the one write
 
-module _ (P : (block at : ℕ) → TempInsn → (t r : ℕ) → Type 0) (here : P 0 0 (set 0 5) 0 1) where
+module _ (P : (block at : ℕ) → TempInsn → (t r : ℕ) → Type 0) (here : P 0 0 (set_temp 0 5) 0 1) where
   for_write : (block at : ℕ) (insn : TempInsn) (t r : ℕ) → IsWrittenIn number_in_register block at insn t r → P block at insn t r
   for_write (suc block) at insn t r w = absurd (none-some insn w.there)
   for_write zero (suc (suc at)) insn t r w = absurd (none-some insn w.there)
   for_write zero (suc zero) insn t r w = absurd (none-some t (subst (λ y. slice_get (writes_of y) w.k ≡ Some t) (sym (same_Some _ insn w.there)) w.temp))
   for_write zero zero insn t r w = at_place w.k (subst (λ y. slice_get (writes_of y) w.k ≡ Some t) (sym same) w.temp) (subst (λ y. slice_get (registers_written (1 ∷ []) y) w.k ≡ Some r) (sym same) w.register)
     where
-      same : set 0 5 ≡ insn
+      same : set_temp 0 5 ≡ insn
       same = same_Some _ insn w.there
 
       at_place : (k : ℕ) → slice_get (0 ∷ []) k ≡ Some t → slice_get (1 ∷ []) k ≡ Some r → P 0 0 insn t r
-      at_place zero temp register = subst (λ y. P 0 0 y t r) same (subst (λ u. P 0 0 (set 0 5) u r) (same_Some 0 t temp) (subst (λ q. P 0 0 (set 0 5) 0 q) (same_Some 1 r register) here))
+      at_place zero temp register = subst (λ y. P 0 0 y t r) same (subst (λ u. P 0 0 (set_temp 0 5) u r) (same_Some 0 t temp) (subst (λ q. P 0 0 (set_temp 0 5) 0 q) (same_Some 1 r register) here))
       at_place (suc k) temp register = absurd (none-some t temp)
 
 -- ---- the law

@@ -16,17 +16,17 @@ use Rattle.alloc_model.specs.Temporaries.{flows_out}
 use Rattle.alloc_model.specs.Places.{Place, Reg, Slot, registers_at, transfers_at}
 use Rattle.alloc_model.specs.Needs.{is_live_at, place_at_top, IsNeeded}
 use Rattle.alloc_model.specs.Needs.IsNeeded.{Relied, Handed}
-use Rattle.alloc_model.specs.Faithful.{Held, Includes, MovesAsk, ReadsAsk, FixedAsk, IsGivenRegister, IsGivenOrScratch, IsStanding, IsTransfer, KeepsEdge, before, move_all, at_top, at_entry, at_bottom, Faithful, HasLists}
-use Rattle.alloc_model.specs.Examples.{set}
-use Rattle.alloc_rules.specs.RightPlacements.{looping, kept_over_call}
+use Rattle.alloc_model.specs.Faithful.{Held, Includes, MovesAsk, ReadsAsk, FixedAsk, IsGivenRegister, IsGivenOrScratch, IsStanding, IsTransfer, KeepsEdge, held_before, move_all, at_top, at_entry, at_bottom, Faithful, HasLists}
+use Rattle.alloc_model.specs.Examples.{set_temp}
+use Rattle.alloc_rules.specs.RightPlacements.{looping_blocks, kept_over_call}
 
 abbrev Lives : (t block at : ℕ) → Type 0
 Lives t block at = is_live_at kept_over_call t block at
 
 -- what is said of each instruction
-module _ (P : (block at : ℕ) → TempInsn → Type 0) (makes : P 0 0 (set 0 5)) (marks : P 1 0 Mark) (calls : P 1 1 (Call 1 0)) (turns : P 1 2 (Branch Bne 0 1))
+module _ (P : (block at : ℕ) → TempInsn → Type 0) (makes : P 0 0 (set_temp 0 5)) (marks : P 1 0 Mark) (calls : P 1 1 (Call 1 0)) (turns : P 1 2 (Branch Bne 0 1))
     (gives : P 2 0 (ToFixed Value 0)) (returns : P 2 1 (Return true)) where
-  each_insn : (block at : ℕ) (i : TempInsn) → insn_at looping block at ≡ Some i → P block at i
+  each_insn : (block at : ℕ) (i : TempInsn) → insn_at looping_blocks block at ≡ Some i → P block at i
   each_insn zero zero i e = subst (P 0 0) (same_Some _ i e) makes
   each_insn zero (suc at) i e = absurd (none-some i e)
   each_insn (suc zero) zero i e = subst (P 1 0) (same_Some _ i e) marks
@@ -111,7 +111,7 @@ zero_read : (t : ℕ) → Contains (0 ∷ []) t → t ≡ 0
 zero_read t (zero, within, is) = sym is
 zero_read t (suc k, within, is) = absurd (omega (arith, within))
 
-reads_zero : (t block at : ℕ) (i : TempInsn) → insn_at looping block at ≡ Some i → Contains (reads_of i) t → t ≡ 0
+reads_zero : (t block at : ℕ) (i : TempInsn) → insn_at looping_blocks block at ≡ Some i → Contains (reads_of i) t → t ≡ 0
 reads_zero t = each_insn (λ block at i. Contains (reads_of i) t → t ≡ 0) (nothing_read t) (nothing_read t) (nothing_read t) (zero_read t) (zero_read t) (nothing_read t)
 
 only_zero : (t block at : ℕ) → Lives t block at → t ≡ 0
@@ -172,33 +172,33 @@ entry = record { each = each }
     each (Outgoing k) p h = absurd h
 
 -- behind the mark, the call and the branch
-register_1 : before kept_over_call 1 1 (Temp 0) (Reg 9)
+register_1 : held_before kept_over_call 1 1 (Temp 0) (Reg 9)
 register_1 = (inr (refl, refl), refl)
 
-slot_1 : before kept_over_call 1 1 (Temp 0) (Slot 0)
+slot_1 : held_before kept_over_call 1 1 (Temp 0) (Slot 0)
 slot_1 = (inl (inl (live_in_loop, refl), slot_apart 0 9), refl)
 
-register_2 : before kept_over_call 1 2 (Temp 0) (Reg 9)
+register_2 : held_before kept_over_call 1 2 (Temp 0) (Reg 9)
 register_2 = inl (((register_1, refl), temp_apart 0 0), registers_apart 9 0 (λ e. omega (arith, e)))
 
-slot_2 : before kept_over_call 1 2 (Temp 0) (Slot 0)
+slot_2 : held_before kept_over_call 1 2 (Temp 0) (Slot 0)
 slot_2 = inl (((slot_1, refl), temp_apart 0 0), slot_apart 0 0)
 
-slot_3 : before kept_over_call 1 3 (Temp 0) (Slot 0)
+slot_3 : held_before kept_over_call 1 3 (Temp 0) (Slot 0)
 slot_3 = (slot_2, refl)
 
 -- ---- what is asked for
 
-moves : (block at : ℕ) (i : TempInsn) → insn_at looping block at ≡ Some i → MovesAsk (transfers_at kept_over_call block at) (before kept_over_call block at)
-moves = each_insn (λ block at i. MovesAsk (transfers_at kept_over_call block at) (before kept_over_call block at))
+moves : (block at : ℕ) (i : TempInsn) → insn_at looping_blocks block at ≡ Some i → MovesAsk (transfers_at kept_over_call block at) (held_before kept_over_call block at)
+moves = each_insn (λ block at i. MovesAsk (transfers_at kept_over_call block at) (held_before kept_over_call block at))
     tt (inl (live_in_loop, refl), tt) tt tt (inl (live_behind, refl), tt) tt
 
-temps_read : (block at : ℕ) (i : TempInsn) → insn_at looping block at ≡ Some i → ReadsAsk (reads_of i) (registers_at kept_over_call block at) (move_all (transfers_at kept_over_call block at) (before kept_over_call block at))
-temps_read = each_insn (λ block at i. ReadsAsk (reads_of i) (registers_at kept_over_call block at) (move_all (transfers_at kept_over_call block at) (before kept_over_call block at)))
+temps_read : (block at : ℕ) (i : TempInsn) → insn_at looping_blocks block at ≡ Some i → ReadsAsk (reads_of i) (registers_at kept_over_call block at) (move_all (transfers_at kept_over_call block at) (held_before kept_over_call block at))
+temps_read = each_insn (λ block at i. ReadsAsk (reads_of i) (registers_at kept_over_call block at) (move_all (transfers_at kept_over_call block at) (held_before kept_over_call block at)))
     tt tt tt (register_2, tt) (inr (refl, refl), tt) tt
 
-fixed_read : (block at : ℕ) (i : TempInsn) → insn_at looping block at ≡ Some i → FixedAsk (fixed_reads_of i) (move_all (transfers_at kept_over_call block at) (before kept_over_call block at))
-fixed_read = each_insn (λ block at i. FixedAsk (fixed_reads_of i) (move_all (transfers_at kept_over_call block at) (before kept_over_call block at)))
+fixed_read : (block at : ℕ) (i : TempInsn) → insn_at looping_blocks block at ≡ Some i → FixedAsk (fixed_reads_of i) (move_all (transfers_at kept_over_call block at) (held_before kept_over_call block at))
+fixed_read = each_insn (λ block at i. FixedAsk (fixed_reads_of i) (move_all (transfers_at kept_over_call block at) (held_before kept_over_call block at)))
     tt tt tt tt tt (inr (refl, refl), tt)
 
 bottom_empty : (block : ℕ) → length (slice_index_or kept_over_call.bottom block []) ≡ 0
@@ -207,10 +207,10 @@ bottom_empty (suc zero) = refl
 bottom_empty (suc (suc zero)) = refl
 bottom_empty (suc (suc (suc block))) = refl
 
-bottoms : (block : ℕ) (insns : List TempInsn) → slice_get looping block ≡ Some insns → Includes (before kept_over_call block (length insns)) (at_bottom kept_over_call block insns)
+bottoms : (block : ℕ) (insns : List TempInsn) → slice_get looping_blocks block ≡ Some insns → Includes (held_before kept_over_call block (length insns)) (at_bottom kept_over_call block insns)
 bottoms block insns e = record { each = each }
   where
-    each : (n : Holder) (p : Place) → at_bottom kept_over_call block insns n p → before kept_over_call block (length insns) n p
+    each : (n : Holder) (p : Place) → at_bottom kept_over_call block insns n p → held_before kept_over_call block (length insns) n p
     each (Temp t) p (live, (s, (k, within, is), same, place)) = absurd (let none = bottom_empty block in omega (arith, within, none))
     each (Fixed r) p h = absurd h
     each (Incoming k) p h = absurd h
@@ -219,28 +219,28 @@ bottoms block insns e = record { each = each }
 -- ---- the edges
 
 abbrev Leaves : (block at : ℕ) → TempInsn → Type 0
-Leaves block at i = (k to : ℕ) → slice_get (targets_of i) k ≡ Some to → KeepsEdge kept_over_call block to (before kept_over_call block (suc at))
+Leaves block at i = (k to : ℕ) → slice_get (targets_of i) k ≡ Some to → KeepsEdge kept_over_call block to (held_before kept_over_call block (suc at))
 
 nowhere : (A : Type 0) (k to : ℕ) → slice_get (targets_of Mark) k ≡ Some to → A
 nowhere A k to e = absurd (none-some to e)
 
-back : (k to : ℕ) → slice_get (1 ∷ []) k ≡ Some to → KeepsEdge kept_over_call 1 to (before kept_over_call 1 3)
-back zero to e = subst (λ b. KeepsEdge kept_over_call 1 b (before kept_over_call 1 3)) (same_Some _ to e) (record { moves = tt; leads = slot_serves 1 (before kept_over_call 1 3) slot_3 })
+back : (k to : ℕ) → slice_get (1 ∷ []) k ≡ Some to → KeepsEdge kept_over_call 1 to (held_before kept_over_call 1 3)
+back zero to e = subst (λ b. KeepsEdge kept_over_call 1 b (held_before kept_over_call 1 3)) (same_Some _ to e) (record { moves = tt; leads = slot_serves 1 (held_before kept_over_call 1 3) slot_3 })
 back (suc k) to e = absurd (none-some to e)
 
-jumps : (block at : ℕ) (i : TempInsn) → insn_at looping block at ≡ Some i → Leaves block at i
+jumps : (block at : ℕ) (i : TempInsn) → insn_at looping_blocks block at ≡ Some i → Leaves block at i
 jumps = each_insn Leaves (λ k to e. nowhere _ k to e) (λ k to e. nowhere _ k to e) (λ k to e. nowhere _ k to e) back (λ k to e. nowhere _ k to e) (λ k to e. nowhere _ k to e)
 
 abbrev Flows : (block : ℕ) → List TempInsn → Type 0
-Flows block insns = flows_out insns ≡ true → KeepsEdge kept_over_call block (suc block) (before kept_over_call block (length insns))
+Flows block insns = flows_out insns ≡ true → KeepsEdge kept_over_call block (suc block) (held_before kept_over_call block (length insns))
 
 stays : false ≡ true → ⊥
 stays h = cc
 
-follows : (block : ℕ) (insns : List TempInsn) → slice_get looping block ≡ Some insns → Flows block insns
+follows : (block : ℕ) (insns : List TempInsn) → slice_get looping_blocks block ≡ Some insns → Flows block insns
 follows zero insns e = subst (Flows 0) (same_Some _ insns e)
-    (λ out. record { moves = (inr (refl, refl), tt); leads = slot_serves 1 (move_all (x.Store 0 9 ∷ []) (before kept_over_call 0 1)) (inr (refl, refl)) })
-follows (suc zero) insns e = subst (Flows 1) (same_Some _ insns e) (λ out. record { moves = tt; leads = slot_serves 2 (before kept_over_call 1 3) slot_3 })
+    (λ out. record { moves = (inr (refl, refl), tt); leads = slot_serves 1 (move_all (x.Store 0 9 ∷ []) (held_before kept_over_call 0 1)) (inr (refl, refl)) })
+follows (suc zero) insns e = subst (Flows 1) (same_Some _ insns e) (λ out. record { moves = tt; leads = slot_serves 2 (held_before kept_over_call 1 3) slot_3 })
 follows (suc (suc zero)) insns e = subst (Flows 2) (same_Some _ insns e) (λ out. absurd (stays out))
 follows (suc (suc (suc block))) insns e = absurd (none-some insns e)
 

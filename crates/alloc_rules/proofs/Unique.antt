@@ -8,7 +8,7 @@ use Rattle.temp_ir.specs.Programs.{TempFn}
 use Rattle.alloc_model.specs.Needs.{IsRelied, IsStored, IsWritten}
 use Rattle.alloc_rules.specs.declared.scan.Lifetimes.{Lifetimes}
 use Rattle.alloc_rules.specs.declared.scan.Scanned.{Scanned}
-use Rattle.alloc_rules.specs.Scan.{AreLifetimes, AreScanned, AreSets, ListsAreUnique, parts_of, refs_of, plan_of_scanned}
+use Rattle.alloc_rules.specs.Scan.{AreLifetimes, AreScanned, AreSets, ListsAreUnique, lifetime_parts, refs_of, plan_of_scanned}
 use Rattle.alloc_rules.proofs.Sets.{unique}
 
 module _ {A : Type 0} (low high : A → ℕ) where
@@ -83,7 +83,7 @@ module _ (f : TempFn) (l m : Lifetimes) (are : AreLifetimes f l) (others : AreLi
       (λ n i. found _ _ ((others.refs t n within).1 ((are.refs t n within).0 (contains _ _ i))))
       (λ n i. found _ _ ((are.refs t n within).1 ((others.refs t n within).0 (contains _ _ i))))
 
-  same_parts : (t : ℕ) → t < f.temps → parts_of l t ≡ parts_of m t
+  same_parts : (t : ℕ) → t < f.temps → lifetime_parts l t ≡ lifetime_parts m t
   same_parts t within =
       same_list (λ p. p.first) (λ p. p.last) _ _ (are.parts_rise t) (others.parts_rise t)
       (λ p i. ((are.parts t p.first p.last within).0 (contains _ _ i)).ordered)

@@ -12,7 +12,7 @@ use Rattle.alloc_model.specs.Effect.{Temp, Fixed}
 use Rattle.alloc_model.specs.Places.{Reg, Slot}
 use Rattle.alloc_model.specs.Needs.{is_live_at}
 use Rattle.alloc_model.specs.Faithful.{given_registers, IsGivenRegister}
-use Rattle.alloc_model.specs.Examples.{set, edge}
+use Rattle.alloc_model.specs.Examples.{set_temp, edge}
 use Rattle.alloc_rules.specs.WrongPlacements as wrong
 use Rattle.alloc_rules.specs.WrongPlacements.{WrongPlacements}
 
@@ -91,7 +91,7 @@ live_at_entry = IsRead (ToFixed Value 0) refl (0, omega arith, refl)
 
 live_at_bottom : is_live_at wrong.other_bottom 0 0 1
 live_at_bottom =
-    Follows (set 0 5 ∷ []) 1 refl refl (0, omega arith, refl) (IsRead (ToFixed Value 0) refl (0, omega arith, refl))
+    Follows (set_temp 0 5 ∷ []) 1 refl refl (0, omega arith, refl) (IsRead (ToFixed Value 0) refl (0, omega arith, refl))
 
 live_behind_edge : is_live_at wrong.not_stored_on_edge 0 1 0
 live_behind_edge = IsRead (ToFixed Value 0) refl (0, omega arith, refl)
@@ -107,7 +107,7 @@ none_is_faithful = record {
   bottoms = λ f. let e : 0 ≡ 1 = f.lists.bottoms in omega (arith, e);
   transfers = λ f. let e : 1 ≡ 3 = f.lists.ats in omega (arith, e);
   registers = λ f. let e : 2 ≡ 3 = f.lists.regs in omega (arith, e);
-  stated = λ f. let e : 2 ≡ 1 = f.lists.stated 0 0 (set 0 5) refl in omega (arith, e);
+  stated = λ f. let e : 2 ≡ 1 = f.lists.stated 0 0 (set_temp 0 5) refl in omega (arith, e);
   edges = λ f. nothing_apart _ _ _ f.lists.edges;
   slots = λ f. let e : 1 ≡ 0 = (f.lists.standing.1 0 [] (omega arith) 0 (wrong.at_place 0 (loc.Slot 1)) (omega arith)).1 in omega (arith, e);
   temporaries = λ f. let e : 4 < 4 = (f.lists.transfers 2 [] (omega arith) 0 (x.Store 4 1) (omega arith)).0 in omega (arith, e);
@@ -119,9 +119,9 @@ none_is_faithful = record {
   temps_read = λ f. lost_register _ (f.temps_read 0 1 (ToFixed Value 0) refl).0;
   temps_read_behind_call = λ f. lost_by_call _ (f.temps_read 0 2 (ToFixed Value 0) refl).0;
   fixed_read = λ f. lost_value _ (f.fixed_read 0 2 (Return true) refl).0;
-  named_at_bottom = λ f. lost_register _ ((f.bottoms 0 (set 0 5 ∷ []) refl).each (Temp 0) (Reg 2) (live_at_bottom, (wrong.at_place 0 (loc.Reg 2), (0, omega arith, refl), refl, refl)));
-  edge_leads = λ f. lost_slot _ ((f.follows 0 (set 0 5 ∷ []) refl refl).leads.each (Temp 0) (Slot 0) (inl (live_behind_edge, refl)));
-  edge_moves = λ f. lost_slot _ (f.follows 0 (set 0 5 ∷ []) refl refl).moves.0;
+  named_at_bottom = λ f. lost_register _ ((f.bottoms 0 (set_temp 0 5 ∷ []) refl).each (Temp 0) (Reg 2) (live_at_bottom, (wrong.at_place 0 (loc.Reg 2), (0, omega arith, refl), refl, refl)));
+  edge_leads = λ f. lost_slot _ ((f.follows 0 (set_temp 0 5 ∷ []) refl refl).leads.each (Temp 0) (Slot 0) (inl (live_behind_edge, refl)));
+  edge_moves = λ f. lost_slot _ (f.follows 0 (set_temp 0 5 ∷ []) refl refl).moves.0;
   jump_leads = λ f. lost_slot _ ((f.jumps 0 1 (Jump 1) refl 0 1 refl).leads.each (Temp 0) (Slot 0) (inl (live_behind_jump, refl))).0;
   jump_moves = λ f. lost_by_move _ (f.jumps 0 2 (Jump 1) refl 0 1 refl).moves.1.0;
 }

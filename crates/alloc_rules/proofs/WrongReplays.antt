@@ -14,7 +14,7 @@ use Rattle.alloc_model.specs.Places.{Place, Reg, Slot}
 use Rattle.alloc_model.specs.Needs.{is_live_at, IsNeeded}
 use Rattle.alloc_model.specs.Needs.UsesSlot.{IsLoaded}
 use Rattle.alloc_model.specs.Needs.IsNeeded.{Relied}
-use Rattle.alloc_model.specs.Examples.{set, edge}
+use Rattle.alloc_model.specs.Examples.{set_temp, edge}
 use Rattle.alloc_rules.specs.WrongPlacements.{at_place}
 use Rattle.alloc_rules.specs.WrongReplays as wrong
 use Rattle.alloc_rules.specs.WrongReplays.{WrongReplays}
@@ -46,6 +46,6 @@ none_replays = record {
   shifts_take = λ f. taken _ (Temp 1) (Temp 0) (Reg 1) apart (f.temps_read 0 2 (Operate Addq 2 (s.Temp 0) (o.Temp 1)) refl).0;
   writes_take = λ f. taken _ (Temp 1) (Temp 0) (Reg 1) apart (f.temps_read 0 2 (Operate Addq 2 (s.Temp 0) (o.Temp 1)) refl).0;
   writes_end_slots = λ f. lost_slot _ (f.moves 0 2 (ToFixed Value 0) refl).0;
-  needs = λ f. lost_slot _ ((f.follows 0 (set 0 5 ∷ []) refl refl).leads.each (Temp 0) (Slot 0) (inr (needed, refl)));
-  registers_lead = λ f. lost_register _ ((f.follows 0 (set 0 5 ∷ []) refl refl).leads.each (Temp 0) (Reg 2) (inl (live_at_top, refl)));
+  needs = λ f. lost_slot _ ((f.follows 0 (set_temp 0 5 ∷ []) refl refl).leads.each (Temp 0) (Slot 0) (inr (needed, refl)));
+  registers_lead = λ f. lost_register _ ((f.follows 0 (set_temp 0 5 ∷ []) refl refl).leads.each (Temp 0) (Reg 2) (inl (live_at_top, refl)));
 }

@@ -10,9 +10,9 @@ use Rattle.alloc_model.specs.declared.allocation.TempPlace.{TempPlace}
 use Rattle.alloc_model.specs.declared.allocation.Transfer.{Transfer}
 use Rattle.alloc_model.specs.declared.allocation.Transfer.TheVariants.{Store, Load, Shift}
 use Rattle.alloc_model.specs.Effect.{Temp}
-use Rattle.alloc_model.specs.Places.{Place, Reg, Slot, target_of, moved_temp, Plan, transfers_at, registers_at, edge_transfers}
-use Rattle.alloc_model.specs.Needs.{place_of, named_place, place_at_top}
-use Rattle.alloc_model.specs.Faithful.{move_all, before}
+use Rattle.alloc_model.specs.Places.{Place, Reg, Slot, transfer_target, moved_temp, Plan, transfers_at, registers_at, edge_transfers}
+use Rattle.alloc_model.specs.Needs.{top_place, named_place, place_at_top}
+use Rattle.alloc_model.specs.Faithful.{move_all, held_before}
 use Rattle.alloc_rules.specs.Visits.{Wants, AreWants, homes_behind_moves, homes_before, homes_at_bottom, registers_written, moment_of_read, moment_of_write, fixes, free_registers, is_free_for, best_register, victim_register, made_below}
 
 -- ---- transfers in their places
@@ -64,9 +64,9 @@ is_copied_at_top a t (suc block) =
 -- or write of the temporary in linear order was a store or a load
 pub record NoRepeatedStore (a : Plan) : Type 0 where
   pub in_blocks : (block at : ℕ) (insn : TempInsn) (made : List Transfer) (t r : ℕ) →
-      IsMade a block at insn made (Store t r) → ¬ move_all made (before a block at) (Temp t) (Slot t)
+      IsMade a block at insn made (Store t r) → ¬ move_all made (held_before a block at) (Temp t) (Slot t)
   pub on_edges : (from to : ℕ) (made : List Transfer) (t r : ℕ) (e : IsMadeOnEdge a from to made (Store t r)) →
-      ¬ move_all made (before a from (length e.insns)) (Temp t) (Slot t)
+      ¬ move_all made (held_before a from (length e.insns)) (Temp t) (Slot t)
   pub in_order : (block at : ℕ) (insn : TempInsn) (made : List Transfer) (t r : ℕ) →
       IsMade a block at insn made (Store t r) →
       is_copied_behind_moves t made (is_copied_from a t block at (is_copied_at_top a t block)) ≡ false
@@ -82,7 +82,7 @@ is_load x = false
 pub record LeaveUnderPressure (a : Plan) (wants : Wants) : Type 0 where
   pub by_moves : (block at : ℕ) (insn : TempInsn) (made : List Transfer) (x : Transfer) (t r : ℕ) →
       IsMade a block at insn made x → wants.live t block at ≡ true →
-      homes_behind_moves made (homes_before a wants block at) t ≡ Reg r → moved_temp x ≢ t → target_of x ≡ Reg r →
+      homes_behind_moves made (homes_before a wants block at) t ≡ Reg r → moved_temp x ≢ t → transfer_target x ≡ Reg r →
       (is_load x ≡ true) × (free_registers a wants (moment_of_read a wants block at insn made) ≡ [])
   pub by_writes : (block at : ℕ) (insn : TempInsn) (t r : ℕ) → insn_at a.function.blocks block at ≡ Some insn →
       wants.live t block (suc at) ≡ true → (moment_of_write a wants block at insn).homes t ≡ Reg r →
@@ -165,7 +165,7 @@ pub record LinearHandOver (a : Plan) (wants : Wants) : Type 0 where
   pub named_at_tops : (block : ℕ) (s : TempPlace) → Contains (slice_index_or a.top block []) s →
       wants.live s.temp block 0 ≡ true
   pub named_at_bottoms : (block : ℕ) (s : TempPlace) → Contains (slice_index_or a.bottom block []) s →
-      (is_covered_at_bottom a wants s.temp block ≡ true) × (place_of s.place ≡ homes_at_bottom a wants block s.temp)
+      (is_covered_at_bottom a wants s.temp block ≡ true) × (top_place s.place ≡ homes_at_bottom a wants block s.temp)
   pub bottoms : (block t : ℕ) → block < length a.function.blocks → is_covered_at_bottom a wants t block ≡ true →
       (s : TempPlace) × Contains (slice_index_or a.bottom block []) s × (s.temp ≡ t)
   pub edge_loads : (from to : ℕ) (made : List Transfer) (t r : ℕ) → IsMadeOnEdge a from to made (Load t r) →

@@ -12,7 +12,7 @@ use Rattle.alloc_model.specs.declared.allocation.Transfer.TheVariants.{Store, Lo
 use Rattle.alloc_model.specs.declared.allocation.Event.{Event}
 use Rattle.alloc_model.specs.declared.allocation.Event.TheVariants as event
 use Rattle.alloc_model.specs.Places.{Plan, linear_number, transfers_at, registers_at}
-use Rattle.alloc_rules.specs.Visits.{Wants, AreWants, Homes, homes_behind_moves, homes_left, registers_written, homes_before, all_temps, register_of}
+use Rattle.alloc_rules.specs.Visits.{Wants, AreWants, Homes, homes_behind_moves, homes_left, registers_written, homes_before, all_temps, register_in_place}
 use Rattle.alloc_rules.specs.Frugal.{is_covered}
 
 -- a temporary whose lifetime covers a point leaves a register for its slot there
@@ -22,7 +22,7 @@ eviction covered r q t = []
 
 abbrev pub eviction_at : Plan → Wants → (point : ℕ) → (before behind : Homes) → (t : ℕ) → List Event
 eviction_at a wants point before behind t =
-    eviction (is_covered a wants t point) (register_of (before t)) (register_of (behind t)) t
+    eviction (is_covered a wants t point) (register_in_place (before t)) (register_in_place (behind t)) t
 
 -- by transfers and by what the instruction takes away, where it reads; and by what it writes, where it writes
 abbrev pub evictions : Plan → Wants → (number : ℕ) → (before left behind : Homes) → List Event
@@ -50,7 +50,8 @@ abbrev pub visit_events : Plan → Wants → (number : ℕ) → List Transfer �
     (before left behind : Homes) → List Event
 visit_events a wants number transfers writes before left behind =
     event.Visit number ∷ evictions a wants number before left behind ++ map event_of transfers
-    ++ flat_map assigned_by_move transfers ++ flat_map (λ w. assigned_unless (register_of (left w.0)) w.0 w.1) writes
+    ++ flat_map assigned_by_move transfers ++ flat_map (λ w. assigned_unless (register_in_place (left w.0)) w.0 w.1)
+    writes
     ++ map (λ w. event.Write w.0 w.1) writes
 
 abbrev pub insn_events : Plan → Wants → (block at : ℕ) → TempInsn → List Event

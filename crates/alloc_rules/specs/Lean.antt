@@ -3,12 +3,12 @@
 use Rattle.std.specs.Prelude.{◌≡◌, ℕ, ◌≤◌, All, length, Some, if◌then◌else◌}
 use Rattle.suifvm_ir.specs.Functions.{insn_at}
 use Rattle.temp_ir.specs.declared.insn.TempInsn.{TempInsn}
-use Rattle.temp_ir.specs.Cost.{is_call}
+use Rattle.temp_ir.specs.Cost.{makes_call}
 use Rattle.alloc_model.specs.Places.{Plan, transfers_at}
 
 -- a call ends registers, so more may be moved before it
 abbrev pub most_before : TempInsn → ℕ
-most_before x = if is_call x then 52 else 10
+most_before x = if makes_call x then 52 else 10
 
 pub record IsLean (a : Plan) : Type 0 where
   pub before : (block at : ℕ) (x : TempInsn) → insn_at a.function.blocks block at ≡ Some x →

@@ -23,8 +23,8 @@ pub data IsReference (blocks : Blocks) (t point : ℕ) : Type 0 where
   IsWrite : (block at : ℕ) (x : TempInsn) → insn_at blocks block at ≡ Some x →
       point ≡ 2 * linear_number blocks block at + 1 → Contains (writes_of x) t → IsReference blocks t point
 
-abbrev pub parts_of : Lifetimes → (t : ℕ) → List LifetimePart
-parts_of lives t = slice_index_or lives.parts t []
+abbrev pub lifetime_parts : Lifetimes → (t : ℕ) → List LifetimePart
+lifetime_parts lives t = slice_index_or lives.parts t []
 
 abbrev pub refs_of : Lifetimes → (t : ℕ) → List ℕ
 refs_of lives t = slice_index_or lives.refs t []
@@ -34,9 +34,9 @@ pub record AreLifetimes (f : TempFn) (lives : Lifetimes) : Type 0 where
   pub parts_length : length lives.parts ≡ f.temps
   pub refs_length : length lives.refs ≡ f.temps
   pub parts : (t first last : ℕ) → t < f.temps →
-      Contains (parts_of lives t) (record { first = first; last = last }) ↔ IsPart f.blocks t first last
-  pub parts_rise : (t k : ℕ) (a b : LifetimePart) → slice_get (parts_of lives t) k ≡ Some a →
-      slice_get (parts_of lives t) (suc k) ≡ Some b → a.last < b.first
+      Contains (lifetime_parts lives t) (record { first = first; last = last }) ↔ IsPart f.blocks t first last
+  pub parts_rise : (t k : ℕ) (a b : LifetimePart) → slice_get (lifetime_parts lives t) k ≡ Some a →
+      slice_get (lifetime_parts lives t) (suc k) ≡ Some b → a.last < b.first
   pub refs : (t point : ℕ) → t < f.temps → Contains (refs_of lives t) point ↔ IsReference f.blocks t point
   pub refs_rise : (t k a b : ℕ) → slice_get (refs_of lives t) k ≡ Some a →
       slice_get (refs_of lives t) (suc k) ≡ Some b → a < b

@@ -210,8 +210,8 @@ is_free_for a wants m t r = is_free a wants m r && reaches (part_end a wants m t
 
 -- ---- the temporary that leaves
 
-abbrev pub names : TempInsn → (t : ℕ) → Bool
-names x t = has_number (reads_of x) t || has_number (writes_of x) t
+abbrev pub names_temp : TempInsn → (t : ℕ) → Bool
+names_temp x t = has_number (reads_of x) t || has_number (writes_of x) t
 
 abbrev pub insn_names : (t : ℕ) → (is_read : Bool) → Option TempInsn → Bool
 insn_names t is_read None = false
@@ -227,9 +227,9 @@ abbrev pub next_reference : Plan → Moment → (t : ℕ) → Option ℕ
 next_reference a m t =
     find (is_named_at a t) (points_behind a (2 * linear_number a.function.blocks m.block m.at + 1))
 
-abbrev pub register_of : Place → Option ℕ
-register_of (Reg r) = Some r
-register_of p = None
+abbrev pub register_in_place : Place → Option ℕ
+register_in_place (Reg r) = Some r
+register_in_place p = None
 
 -- a place is a register that an instruction leaves alone
 abbrev pub is_register_beside : TempInsn → Option ℕ → Bool
@@ -238,7 +238,7 @@ is_register_beside x (Some r) = not (fixes x r)
 
 -- those that may leave have a register that the instruction leaves alone, and are not named by it
 abbrev pub may_leave : Moment → (t : ℕ) → Bool
-may_leave m t = is_register_beside m.insn (register_of (m.homes t)) && not (names m.insn t)
+may_leave m t = is_register_beside m.insn (register_in_place (m.homes t)) && not (names_temp m.insn t)
 
 -- the one whose next reference is farthest, a missing one being farther than any; of two the lower number
 abbrev pub farthest_among : (next : (t : ℕ) → Option ℕ) → List ℕ → Option ℕ
@@ -250,7 +250,7 @@ victim a m = farthest_among (next_reference a m) (filter (may_leave m) (all_temp
 
 -- the register that it leaves
 abbrev pub victim_register : Plan → Moment → Option ℕ
-victim_register a m = option_and_then (λ t. register_of (m.homes t)) (victim a m)
+victim_register a m = option_and_then (λ t. register_in_place (m.homes t)) (victim a m)
 
 -- ---- fixed uses
 

@@ -10,7 +10,7 @@ use Rattle.alloc_model.specs.declared.allocation.Transfer.{Transfer}
 use Rattle.alloc_model.specs.declared.allocation.Transfer.TheVariants as x
 use Rattle.alloc_model.specs.Places.{Plan}
 use Rattle.alloc_model.specs.Faithful.{Faithful}
-use Rattle.alloc_model.specs.Examples.{set, return, plan, edge, calling, swap_two}
+use Rattle.alloc_model.specs.Examples.{set_temp, return_temp, plan, edge, calling_blocks, swap_two}
 
 -- an allocation with these maps at the tops and bottoms of blocks
 abbrev pub with_maps : (top bottom : List (List TempPlace)) → Plan → Plan
@@ -32,21 +32,21 @@ at_place t p = record { temp = t; place = p }
 
 -- a number is returned: by the block that makes it, by the next one, and by one that is jumped to
 abbrev pub one_block : List (List TempInsn)
-one_block = (set 0 5 ∷ return 0) ∷ []
+one_block = (set_temp 0 5 ∷ return_temp 0) ∷ []
 
 abbrev pub two_blocks : List (List TempInsn)
-two_blocks = (set 0 5 ∷ []) ∷ return 0 ∷ []
+two_blocks = (set_temp 0 5 ∷ []) ∷ return_temp 0 ∷ []
 
-abbrev pub jumping : List (List TempInsn)
-jumping = (set 0 5 ∷ Jump 1 ∷ []) ∷ return 0 ∷ []
+abbrev pub jumping_blocks : List (List TempInsn)
+jumping_blocks = (set_temp 0 5 ∷ Jump 1 ∷ []) ∷ return_temp 0 ∷ []
 
 -- what nobody wrote is returned
 abbrev pub unset_returned : List (List TempInsn)
-unset_returned = return 0 ∷ []
+unset_returned = return_temp 0 ∷ []
 
 -- a number is made between a fixed register's write and its read
 abbrev pub fixed_over : List (List TempInsn)
-fixed_over = (SetFixed Value (pos 5) ∷ set 0 7 ∷ Return true ∷ []) ∷ []
+fixed_over = (SetFixed Value (pos 5) ∷ set_temp 0 7 ∷ Return true ∷ []) ∷ []
 
 -- no transfer before any of three instructions, and their registers where the temporary has the first one
 abbrev pub none_of_three : List (List Transfer)
@@ -111,7 +111,7 @@ abbrev pub other_register : Plan
 other_register = plan one_block none_of_three ((1 ∷ []) ∷ (2 ∷ []) ∷ [] ∷ []) []
 
 abbrev pub ended_register : Plan
-ended_register = plan calling ([] ∷ [] ∷ [] ∷ [] ∷ []) ((1 ∷ []) ∷ [] ∷ (1 ∷ []) ∷ [] ∷ []) []
+ended_register = plan calling_blocks ([] ∷ [] ∷ [] ∷ [] ∷ []) ((1 ∷ []) ∷ [] ∷ (1 ∷ []) ∷ [] ∷ []) []
 
 -- a temporary is written into a fixed register that is still wanted
 abbrev pub fixed_register_taken : Plan
@@ -135,7 +135,7 @@ load_before_store =
 -- so with an edge of a jump
 abbrev pub not_stored_on_jump : Plan
 not_stored_on_jump =
-    plan jumping ([] ∷ [] ∷ (x.Load 0 1 ∷ []) ∷ [] ∷ []) ((1 ∷ []) ∷ [] ∷ (1 ∷ []) ∷ [] ∷ []) (edge 0 1 [] ∷ [])
+    plan jumping_blocks ([] ∷ [] ∷ (x.Load 0 1 ∷ []) ∷ [] ∷ []) ((1 ∷ []) ∷ [] ∷ (1 ∷ []) ∷ [] ∷ []) (edge 0 1 [] ∷ [])
 
 -- two temporaries change registers, and the second move asks for what the first one took
 abbrev pub moves_in_wrong_order : Plan

@@ -9,7 +9,7 @@ use Rattle.alloc_model.specs.declared.allocation.Transfer.{Transfer}
 use Rattle.alloc_model.specs.declared.allocation.Transfer.TheVariants as x
 use Rattle.alloc_model.specs.Places.{Plan}
 use Rattle.alloc_model.specs.Faithful.{Faithful}
-use Rattle.alloc_model.specs.Examples.{set, return, plan, edge, sum}
+use Rattle.alloc_model.specs.Examples.{set_temp, return_temp, plan, edge, sum_blocks}
 use Rattle.alloc_rules.specs.WrongPlacements.{with_maps, at_place, one_block, two_blocks, none_of_three, first_of_three}
 
 -- ---- lists
@@ -28,12 +28,12 @@ abbrev pub other_temporary_on_edge : Plan
 other_temporary_on_edge = plan two_blocks none_of_three first_of_three (edge 0 1 (x.Store 4 1 ∷ []) ∷ [])
 
 -- the edges of a block stand by falling number
-abbrev pub branching : List (List TempInsn)
-branching = (set 0 5 ∷ Branch Bne 0 2 ∷ []) ∷ (Return false ∷ []) ∷ (Return false ∷ []) ∷ []
+abbrev pub branching_blocks : List (List TempInsn)
+branching_blocks = (set_temp 0 5 ∷ Branch Bne 0 2 ∷ []) ∷ (Return false ∷ []) ∷ (Return false ∷ []) ∷ []
 
 abbrev pub edges_fall : Plan
 edges_fall =
-    plan branching ([] ∷ [] ∷ [] ∷ [] ∷ []) ((1 ∷ []) ∷ (1 ∷ []) ∷ [] ∷ [] ∷ []) (edge 0 2 [] ∷ edge 0 1 [] ∷ [])
+    plan branching_blocks ([] ∷ [] ∷ [] ∷ [] ∷ []) ((1 ∷ []) ∷ (1 ∷ []) ∷ [] ∷ [] ∷ []) (edge 0 2 [] ∷ edge 0 1 [] ∷ [])
 
 -- ---- transfers
 
@@ -45,29 +45,29 @@ abbrev pub shifted_from_elsewhere : Plan
 shifted_from_elsewhere = plan one_block ([] ∷ (x.Shift 0 2 3 ∷ []) ∷ [] ∷ []) ((1 ∷ []) ∷ (3 ∷ []) ∷ [] ∷ []) []
 
 -- the sum of two temporaries, with transfers before it and the registers of both
-abbrev pub summed : List Transfer → (left right : ℕ) → Plan
-summed transfers left right =
-    plan sum ([] ∷ [] ∷ transfers ∷ [] ∷ [] ∷ [])
+abbrev pub sum_plan : List Transfer → (left right : ℕ) → Plan
+sum_plan transfers left right =
+    plan sum_blocks ([] ∷ [] ∷ transfers ∷ [] ∷ [] ∷ [])
     ((1 ∷ []) ∷ (2 ∷ []) ∷ (left ∷ right ∷ 3 ∷ []) ∷ (3 ∷ []) ∷ [] ∷ []) []
 
 -- a load, and a shift, of one of them takes the register of the other one
 abbrev pub taken_by_load : Plan
-taken_by_load = summed (x.Store 1 2 ∷ x.Load 1 1 ∷ []) 1 1
+taken_by_load = sum_plan (x.Store 1 2 ∷ x.Load 1 1 ∷ []) 1 1
 
 abbrev pub taken_by_shift : Plan
-taken_by_shift = summed (x.Shift 1 2 1 ∷ []) 1 1
+taken_by_shift = sum_plan (x.Shift 1 2 1 ∷ []) 1 1
 
 -- ---- instructions
 
 -- a write takes the register of another temporary
 abbrev pub taken_by_write : Plan
 taken_by_write =
-    plan sum ([] ∷ [] ∷ [] ∷ [] ∷ [] ∷ []) ((1 ∷ []) ∷ (1 ∷ []) ∷ (1 ∷ 1 ∷ 3 ∷ []) ∷ (3 ∷ []) ∷ [] ∷ []) []
+    plan sum_blocks ([] ∷ [] ∷ [] ∷ [] ∷ [] ∷ []) ((1 ∷ []) ∷ (1 ∷ []) ∷ (1 ∷ 1 ∷ 3 ∷ []) ∷ (3 ∷ []) ∷ [] ∷ []) []
 
 -- a temporary is loaded that was written once more behind its store
 abbrev pub stale_slot : Plan
 stale_slot =
-    plan ((set 0 5 ∷ set 0 7 ∷ return 0) ∷ []) ([] ∷ (x.Store 0 1 ∷ []) ∷ (x.Load 0 2 ∷ []) ∷ [] ∷ [])
+    plan ((set_temp 0 5 ∷ set_temp 0 7 ∷ return_temp 0) ∷ []) ([] ∷ (x.Store 0 1 ∷ []) ∷ (x.Load 0 2 ∷ []) ∷ [] ∷ [])
     ((1 ∷ []) ∷ (1 ∷ []) ∷ (2 ∷ []) ∷ [] ∷ []) []
 
 -- ---- what a block relies on

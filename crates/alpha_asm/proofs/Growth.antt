@@ -4,7 +4,7 @@ use Rattle.std.proofs.lemmas.Bool.{cases_eq}
 use Rattle.std.proofs.lemmas.List.{length-set, get_or-set_same, get_or-set_other}
 use Rattle.alpha_items.specs.declared.item.AsmItem.{AsmItem}
 use Rattle.alpha_items.specs.declared.item.AsmItem.TheVariants.{Label}
-use Rattle.alpha_items.specs.Layout.{item_words, sizes, place, label_place, is_far, Within, IsForced}
+use Rattle.alpha_items.specs.Layout.{item_words, sizes, item_place, label_place, is_far, Within, IsForced}
 use Rattle.alpha_items.proofs.Far.{length-sizes, sizes_grow, place-more}
 use Rattle.alpha_items.proofs.Forced.{forced_ahead, forced_back}
 use Rattle.alpha_asm.specs.model.Sweeps.{near, reach}
@@ -14,25 +14,25 @@ use Rattle.alpha_asm.proofs.Steps.{near-set, short_of}
 
 -- the place behind a branch that is not far
 behind : (items : List AsmItem) (far : List Bool) (i t : ℕ) → At items far i t → length far ≡ length items → i < length items →
-    place items far (i + 1) ≡ place items far i + 1
+    item_place items far (i + 1) ≡ item_place items far i + 1
 behind items far i t at e inside =
     let next : i + 1 ≡ suc i = omega arith in
-    ap (place items far) next ∙ place-more items far i (Label 0) e inside
-    ∙ ap (λ b. place items far i + item_words b (get_or items i (Label 0))) at.short
-    ∙ ap (λ x. place items far i + item_words false x) at.is_branch
+    ap (item_place items far) next ∙ place-more items far i (Label 0) e inside
+    ∙ ap (λ b. item_place items far i + item_words b (get_or items i (Label 0))) at.short
+    ∙ ap (λ x. item_place items far i + item_words false x) at.is_branch
 
 pub ahead_far : (items : List AsmItem) (far : List Bool) (i t w : ℕ) → At items far i t → length far ≡ length items → i < length items →
-    i < t → w + place items far (i + 1) ≤ place items far t → reach ≤ w → IsForced items far → IsForced items (set far i true)
+    i < t → w + item_place items far (i + 1) ≤ item_place items far t → reach ≤ w → IsForced items far → IsForced items (set far i true)
 ahead_far items far i t w at e inside ahead between many forced =
     let next = behind items far i t at e inside in
-    let label : place items far t ≡ label_place items far at.l = ap (place items far) at.target in
+    let label : item_place items far t ≡ label_place items far at.l = ap (item_place items far) at.target in
     forced_ahead items far i at.op at.ra at.l (short_of items far i at.op at.ra at.l e inside at.is_branch at.short) forced
     (omega (arith, ahead, at.target)) (omega (arith, next, label, between, many))
 
 pub back_far : (items : List AsmItem) (far : List Bool) (i t w : ℕ) → At items far i t → length far ≡ length items → i < length items →
-    t ≤ i → w + place items far t ≤ place items far i → reach ≤ w → IsForced items far → IsForced items (set far i true)
+    t ≤ i → w + item_place items far t ≤ item_place items far i → reach ≤ w → IsForced items far → IsForced items (set far i true)
 back_far items far i t w at e inside back between many forced =
-    let label : place items far t ≡ label_place items far at.l = ap (place items far) at.target in
+    let label : item_place items far t ≡ label_place items far at.l = ap (item_place items far) at.target in
     forced_back items far i at.op at.ra at.l (short_of items far i at.op at.ra at.l e inside at.is_branch at.short) forced
     (omega (arith, back, at.target)) (omega (arith, label, between, many))
 

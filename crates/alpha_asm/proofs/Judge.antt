@@ -7,7 +7,7 @@ use Rattle.alpha_items.specs.declared.item.AsmItem.{AsmItem}
 use Rattle.alpha_items.specs.declared.item.AsmItem.TheVariants.{Label, Name, Plain, Branch, TextAddress, DataAddress}
 use Rattle.alpha_items.specs.Assembly.{label_index}
 use Rattle.alpha_items.specs.Items.{label_used}
-use Rattle.alpha_items.specs.Layout.{place, label_place, is_far}
+use Rattle.alpha_items.specs.Layout.{item_place, label_place, is_far}
 use Rattle.alpha_asm.specs.model.Sweeps.{is_branch_item, AreTargets, SweptBack, SweptForth, BackReachesAt, ForthReachesAt, TooFarBack, TooFarForth, rest, reach}
 
 -- a fact for one value of a truth
@@ -62,7 +62,7 @@ pub too_far_back : (items : List AsmItem) (far : List Bool) (places : List ℕ) 
 too_far_back items far places i t swept at behind beyond =
     let there = swept.at t behind in
     let here = swept.at i (omega arith) in
-    let label : place items far t ≡ label_place items far at.l = ap (place items far) at.target in
+    let label : item_place items far t ≡ label_place items far at.l = ap (item_place items far) at.target in
     record {
       op = at.op;
       ra = at.ra;
@@ -88,7 +88,7 @@ near_back items far places i t swept at close op ra l is short behind =
     let before : t ≤ i = omega (arith, label, behind) in
     let there = swept.at t before in
     let here = swept.at i (omega arith) in
-    let at_label : place items far t ≡ label_place items far l = ap (place items far) label in
+    let at_label : item_place items far t ≡ label_place items far l = ap (item_place items far) label in
     omega (arith, close before, there, here, at_label)
 
 pub too_far_forth : (items : List AsmItem) (far : List Bool) (rests : List ℕ) (i t : ℕ) → i < length items → t < length items →

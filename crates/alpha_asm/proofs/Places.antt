@@ -6,7 +6,7 @@ use Rattle.std.proofs.lemmas.List.{take-set-le, drop-set-lt}
 use Rattle.alpha_isa.specs.declared.insn.BranchOp.TheVariants.{Br, Bsr, Blbc, Beq, Blt, Ble, Blbs, Bne, Bge, Bgt}
 use Rattle.alpha_items.specs.declared.item.AsmItem.{AsmItem}
 use Rattle.alpha_items.specs.declared.item.AsmItem.TheVariants.{Label, Name, Plain, Branch, TextAddress, DataAddress}
-use Rattle.alpha_items.specs.Layout.{item_words, sizes, place}
+use Rattle.alpha_items.specs.Layout.{item_words, sizes, item_place}
 use Rattle.alpha_items.proofs.Sums.{sum-cons, sum-more}
 use Rattle.alpha_asm.specs.model.Sweeps.{rest}
 
@@ -35,7 +35,7 @@ sizes-most (i ∷ items) [] k = omega arith
 sizes-most (i ∷ items) (f ∷ far) zero = item_words-most f i
 sizes-most (i ∷ items) (f ∷ far) (suc k) = sizes-most items far k
 
-pub place-most : (items : List AsmItem) (far : List Bool) (k : ℕ) → place items far k ≤ 4 * k
+pub place-most : (items : List AsmItem) (far : List Bool) (k : ℕ) → item_place items far k ≤ 4 * k
 place-most items far zero = omega arith
 place-most items far (suc k) =
     let before = place-most items far k in
@@ -66,7 +66,7 @@ sizes-set (i ∷ items) (f ∷ far) zero b d = refl
 sizes-set (i ∷ items) (f ∷ far) (suc k) b d = ap (λ (s : List ℕ). item_words f i ∷ s) (sizes-set items far k b d)
 
 -- and no place up to it, and nothing from behind it on
-pub place-set : (items : List AsmItem) (far : List Bool) (k n : ℕ) (b : Bool) → n ≤ k → place items (set far k b) n ≡ place items far n
+pub place-set : (items : List AsmItem) (far : List Bool) (k n : ℕ) (b : Bool) → n ≤ k → item_place items (set far k b) n ≡ item_place items far n
 place-set items far k n b h =
     ap (λ s. sum (take n s)) (sizes-set items far k b (Label 0))
     ∙ ap sum (take-set-le n (sizes items far) k (item_words b (get_or items k (Label 0))) h)

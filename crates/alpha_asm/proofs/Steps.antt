@@ -9,7 +9,7 @@ use Rattle.alpha_isa.specs.declared.insn.BranchOp.{BranchOp}
 use Rattle.alpha_items.specs.declared.item.AsmItem.{AsmItem}
 use Rattle.alpha_items.specs.declared.item.AsmItem.TheVariants.{Label, Name, Plain, Branch, TextAddress, DataAddress}
 use Rattle.alpha_items.specs.Assembly.{label_index}
-use Rattle.alpha_items.specs.Layout.{item_words, sizes, place, label_place, displacement, ItemReaches, is_far, AllReach, IsForced}
+use Rattle.alpha_items.specs.Layout.{item_words, sizes, item_place, label_place, displacement, ItemReaches, is_far, AllReach, IsForced}
 use Rattle.alpha_isa.specs.Lawful.{IsBranchDisplacement}
 use Rattle.alpha_items.proofs.Sums.{sum-cons, sum-more}
 use Rattle.alpha_items.proofs.Reach.{reaches_from}
@@ -27,7 +27,7 @@ rest-more items far k d e h =
     ap sum (drop_more (sizes items far) k 0 inside) ∙ sum-cons (get_or (sizes items far) k 0) (drop (k + 1) (sizes items far))
     ∙ ap (λ n. n + rest items far (k + 1)) (sizes-at items far k d e h)
 
-pub whole_text : (items : List AsmItem) (far : List Bool) (k : ℕ) → place items far k + rest items far k ≡ sum (sizes items far)
+pub whole_text : (items : List AsmItem) (far : List Bool) (k : ℕ) → item_place items far k + rest items far k ≡ sum (sizes items far)
 whole_text items far k = sum_by-take-drop (λ (n : ℕ). n) (sizes items far) k
 
 -- ---- one far branch more
@@ -55,18 +55,18 @@ back_kept items far i k before reaches op ra l is short behind =
 
 -- the places after one more is written
 places_more : (items : List AsmItem) (far : List Bool) (places : List ℕ) (i w : ℕ) → length far ≡ length items → i < length items →
-    length places ≡ length items + 1 → ((k : ℕ) → k ≤ i → get_or places k 0 ≡ place items far k) →
+    length places ≡ length items + 1 → ((k : ℕ) → k ≤ i → get_or places k 0 ≡ item_place items far k) →
     w ≡ item_words (is_far far i) (get_or items i (Label 0)) →
-    (k : ℕ) → k ≤ i + 1 → get_or (set places (i + 1) (get_or places i 0 + w)) k 0 ≡ place items far k
+    (k : ℕ) → k ≤ i + 1 → get_or (set places (i + 1) (get_or places i 0 + w)) k 0 ≡ item_place items far k
 places_more items far places i w e inside room at size k below =
     ⊎_elim
     (λ (same : k ≡ i + 1).
-    let P : ℕ → Type 0 = λ m. get_or (set places (i + 1) (get_or places i 0 + w)) m 0 ≡ place items far m in
+    let P : ℕ → Type 0 = λ m. get_or (set places (i + 1) (get_or places i 0 + w)) m 0 ≡ item_place items far m in
     let new = get_or-set_same places (i + 1) (get_or places i 0 + w) 0 (omega (arith, inside, room)) in
     let before = at i (omega arith) in
     let more = place-more items far i (Label 0) e inside in
     let next : i + 1 ≡ suc i = omega arith in
-    let after : place items far (i + 1) ≡ place items far (suc i) = ap (place items far) next in
+    let after : item_place items far (i + 1) ≡ item_place items far (suc i) = ap (item_place items far) next in
     subst P (sym same) (omega (arith, new, before, more, size, after)))
     (λ (apart : k ≢ i + 1).
     get_or-set_other places (i + 1) k (get_or places i 0 + w) 0 apart ∙ at k (omega (arith, below, apart)))
@@ -196,10 +196,10 @@ forth_forced items far i e inside too forced =
     let there = whole_text items far t in
     let more = place-more items far i (Label 0) e inside in
     let next : i + 1 ≡ suc i = omega arith in
-    let after : place items far (i + 1) ≡ place items far (suc i) = ap (place items far) next in
+    let after : item_place items far (i + 1) ≡ item_place items far (suc i) = ap (item_place items far) next in
     let one : item_words (is_far far i) (get_or items i (Label 0)) ≡ 1
     = ap (λ b. item_words b (get_or items i (Label 0))) too.short ∙ ap (item_words false) too.is_branch in
-    let beyond : place items far i + 1 + 1048576 ≤ label_place items far too.l = omega (arith, here, there, more, after, one, too.beyond) in
+    let beyond : item_place items far i + 1 + 1048576 ≤ label_place items far too.l = omega (arith, here, there, more, after, one, too.beyond) in
     forced_ahead items far i too.op too.ra too.l is_short forced too.ahead beyond
 
 pub forth_grown : (items : List AsmItem) (far : List Bool) (i : ℕ) → length far ≡ length items → i < length items → TooFarForth items far i →
@@ -208,18 +208,18 @@ forth_grown items far i e inside too first grew grown = grown_set first far i gr
 
 -- ---- two sweeps
 
-place_rises : (items : List AsmItem) (far : List Bool) (k n : ℕ) → place items far k ≤ place items far (k + n)
+place_rises : (items : List AsmItem) (far : List Bool) (k n : ℕ) → item_place items far k ≤ item_place items far (k + n)
 place_rises items far k zero = simp unary_clauses (omega arith)
 place_rises items far k (suc n) =
     let before = place_rises items far k n in
     let more = sum-more (sizes items far) (k + n) in
     simp unary_clauses (omega (arith, before, more))
 
-place_mono : (items : List AsmItem) (far : List Bool) (i j : ℕ) → i ≤ j → place items far i ≤ place items far j
+place_mono : (items : List AsmItem) (far : List Bool) (i j : ℕ) → i ≤ j → item_place items far i ≤ item_place items far j
 place_mono items far i j h =
     let n : ℕ = j - i in
     let at : i + n ≡ j = omega (arith, h) in
-    let P : ℕ → Type 0 = λ m. place items far i ≤ place items far m in
+    let P : ℕ → Type 0 = λ m. item_place items far i ≤ item_place items far m in
     subst P at (place_rises items far i n)
 
 -- a branch at k that neither sweep found too far
@@ -232,15 +232,15 @@ record Near (items : List AsmItem) (far : List Bool) (k : ℕ) (op : BranchOp) (
   forth : ForthReachesAt items far k
 
 next_place : (items : List AsmItem) (far : List Bool) (k : ℕ) (op : BranchOp) (ra l : ℕ) → Near items far k op ra l →
-    place items far (k + 1) ≡ place items far k + 1
+    item_place items far (k + 1) ≡ item_place items far k + 1
 next_place items far k op ra l n =
     let next : k + 1 ≡ suc k = omega arith in
-    ap (place items far) next ∙ place-more items far k (Label 0) n.one_each n.inside
-    ∙ ap (λ b. place items far k + item_words b (get_or items k (Label 0))) n.short
-    ∙ ap (λ i. place items far k + item_words false i) n.is_branch
+    ap (item_place items far) next ∙ place-more items far k (Label 0) n.one_each n.inside
+    ∙ ap (λ b. item_place items far k + item_words b (get_or items k (Label 0))) n.short
+    ∙ ap (λ i. item_place items far k + item_words false i) n.is_branch
 
 near_reaches : (items : List AsmItem) (far : List Bool) (k : ℕ) (op : BranchOp) (ra l : ℕ) → Near items far k op ra l →
-    IsBranchDisplacement (displacement (place items far k) (label_place items far l))
+    IsBranchDisplacement (displacement (item_place items far k) (label_place items far l))
 near_reaches items far k op ra l n =
     let t : ℕ = label_index items l in
     let next = next_place items far k op ra l n in
@@ -250,16 +250,16 @@ near_reaches items far k op ra l n =
     let here = whole_text items far (k + 1) in
     let there = whole_text items far t in
     let rises = place_mono items far (k + 1) t (omega (arith, ahead)) in
-    reaches_from (place items far k) (label_place items far l) (omega (arith, close, here, there, next)) (omega (arith, rises, next)))
+    reaches_from (item_place items far k) (label_place items far l) (omega (arith, close, here, there, next)) (omega (arith, rises, next)))
     (λ (behind : t ≤ k).
     let close = n.back op ra l n.is_branch n.short behind in
     let rises = place_mono items far t k behind in
-    reaches_from (place items far k) (label_place items far l) (omega (arith, rises)) (omega (arith, close)))
+    reaches_from (item_place items far k) (label_place items far l) (omega (arith, rises)) (omega (arith, close)))
     (cases_lt k t)
 
 item_reaches : (items : List AsmItem) (far : List Bool) (k : ℕ) (i : AsmItem) → length far ≡ length items → k < length items →
     get_or items k (Label 0) ≡ i → is_far far k ≡ false → BackReachesAt items far k → ForthReachesAt items far k →
-    ItemReaches (label_place items far) (place items far k) i
+    ItemReaches (label_place items far) (item_place items far k) i
 item_reaches items far k (Label l) e h is short back forth = tt
 item_reaches items far k (Name bytes) e h is short back forth = tt
 item_reaches items far k (Plain insn) e h is short back forth = tt
@@ -290,7 +290,7 @@ back_begins items far places e room = record {
   room = length-set places 0 0 ∙ room;
   at = λ k below.
       let same : 0 ≡ k = omega (arith, below) in
-      let P : ℕ → Type 0 = λ m. get_or (set places 0 0) m 0 ≡ place items far m in
+      let P : ℕ → Type 0 = λ m. get_or (set places 0 0) m 0 ≡ item_place items far m in
       subst P same (get_or-set_same places 0 0 0 (omega (arith, room)));
   reach = λ k below. absurd (omega (arith, below));
 }

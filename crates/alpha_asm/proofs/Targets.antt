@@ -6,7 +6,7 @@ use Rattle.std.proofs.lemmas.Bool.{eq-eqb, or_left}
 use Rattle.std.proofs.lemmas.List.{get_or-map, length-map}
 use Rattle.alpha_items.specs.declared.item.AsmItem.{AsmItem}
 use Rattle.alpha_items.specs.declared.item.AsmItem.TheVariants.{Label, Name, Plain, Branch, TextAddress, DataAddress}
-use Rattle.alpha_items.specs.Items.{label_used, names}
+use Rattle.alpha_items.specs.Items.{label_used, names_label}
 use Rattle.alpha_items.specs.Assembly.{Assembly, IsWhole, labels, label_index}
 use Rattle.alpha_asm.specs.model.Sweeps.{label_target, target_of, AreTargets}
 
@@ -18,11 +18,11 @@ found_step true n k size r any h rest = (ap Some (omega arith), omega arith)
 found_step false n k size r any h rest = let found = rest h in (found.0 ∙ ap Some (omega arith), omega (arith, found.1))
 
 -- an item that names a label is found
-found_from : (l : ℕ) (items : List AsmItem) (n : ℕ) → list_any (names l) items ≡ true →
-    (position_from (names l) n items ≡ Some (n + label_index items l)) × (label_index items l < length items)
+found_from : (l : ℕ) (items : List AsmItem) (n : ℕ) → list_any (names_label l) items ≡ true →
+    (position_from (names_label l) n items ≡ Some (n + label_index items l)) × (label_index items l < length items)
 found_from l [] n h = let clash : ⊥ = cc in absurd clash
 found_from l (i ∷ items) n h =
-    found_step (names l i) n (label_index items l) (length items) (position_from (names l) (n + 1) items) (list_any (names l) items) h
+    found_step (names_label l i) n (label_index items l) (length items) (position_from (names_label l) (n + 1) items) (list_any (names_label l) items) h
     (found_from l items (n + 1))
 
 -- a label that is named has an item that names it
@@ -30,9 +30,9 @@ or_true : (b : Bool) → (b || true) ≡ true
 or_true true = refl
 or_true false = refl
 
-any_named : (l : ℕ) (items : List AsmItem) (k : ℕ) → k < length (labels items) → get_or (labels items) k l ≡ l → list_any (names l) items ≡ true
+any_named : (l : ℕ) (items : List AsmItem) (k : ℕ) → k < length (labels items) → get_or (labels items) k l ≡ l → list_any (names_label l) items ≡ true
 any_named l [] k h e = absurd (omega (arith, h))
-any_named l (Label m ∷ items) zero h e = or_left (nat_eq m l) (list_any (names l) items) (eq-eqb m l e)
+any_named l (Label m ∷ items) zero h e = or_left (nat_eq m l) (list_any (names_label l) items) (eq-eqb m l e)
 any_named l (Label m ∷ items) (suc k) h e =
     ap (λ b. nat_eq m l || b) (any_named l items k (omega (arith, h)) e) ∙ or_true (nat_eq m l)
 any_named l (Name bytes ∷ items) k h e = any_named l items k h e
@@ -42,7 +42,7 @@ any_named l (TextAddress ra m ∷ items) k h e = any_named l items k h e
 any_named l (DataAddress ra offset ∷ items) k h e = any_named l items k h e
 
 pub label_found : (l : ℕ) (items : List AsmItem) → Contains (labels items) l →
-    (position_from (names l) 0 items ≡ Some (label_index items l)) × (label_index items l < length items)
+    (position_from (names_label l) 0 items ≡ Some (label_index items l)) × (label_index items l < length items)
 label_found l items named =
     let found = found_from l items 0 (any_named l items named.0 named.1 named.2) in
     (found.0 ∙ ap Some (omega arith), found.1)

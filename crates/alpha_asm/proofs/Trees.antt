@@ -5,7 +5,7 @@ use Rattle.std.proofs.lemmas.Bool.{cases_eq, cases_lt}
 use Rattle.std.proofs.lemmas.List.{length-set, get_or-set_same, get_or-set_other, get_or_read, get_or-replicate, get_or_past, length-replicate}
 use Rattle.alpha_items.specs.declared.item.AsmItem.{AsmItem}
 use Rattle.alpha_items.specs.declared.item.AsmItem.TheVariants.{Label}
-use Rattle.alpha_items.specs.Layout.{item_words, sizes, place, is_far}
+use Rattle.alpha_items.specs.Layout.{item_words, sizes, item_place, is_far}
 use Rattle.alpha_items.proofs.Sums.{sum-more}
 use Rattle.alpha_items.proofs.Far.{length-sizes, sizes-at}
 use Rattle.alpha_asm.specs.model.Sums.{front, HoldsAtMost}
@@ -83,14 +83,14 @@ leaves_by leaves sums s (suc m) h inside =
 pub counted : (items : List AsmItem) (far : List Bool) (sums : List ℕ) (start last left right words : ℕ) → HoldsAtMost (sizes items far) sums →
     length far ≡ length items → start ≤ last → last ≤ length items → left ≤ right →
     words + front sums right + front sums (length items + start) ≤ front sums (length items + last) + front sums left →
-    words + place items far start ≤ place items far last
+    words + item_place items far start ≤ item_place items far last
 counted items far sums start last left right words h e order inside sorted walked =
     let long = length-sizes items far e in
     let rises = front_mono sums left right sorted in
     let at : start + (last - start) ≡ last = omega (arith, order) in
     let leaves = leaves_by (sizes items far) sums start (last - start) h (omega (arith, at, inside, long)) in
-    let P : ℕ → Type 0 = λ n. front sums (length (sizes items far) + n) + place items far start ≤ place items far n + front sums (length (sizes items far) + start) in
-    let Q : ℕ → Type 0 = λ size. front sums (size + last) + place items far start ≤ place items far last + front sums (size + start) in
+    let P : ℕ → Type 0 = λ n. front sums (length (sizes items far) + n) + item_place items far start ≤ item_place items far n + front sums (length (sizes items far) + start) in
+    let Q : ℕ → Type 0 = λ size. front sums (size + last) + item_place items far start ≤ item_place items far last + front sums (size + start) in
     let here = subst Q long (subst P at leaves) in
     omega (arith, here, rises, walked)
 

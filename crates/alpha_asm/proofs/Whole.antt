@@ -6,12 +6,12 @@ use Rattle.std.proofs.lemmas.Bool.{cases_lt}
 use Rattle.std.proofs.lemmas.List.{drop_all, take_all, length-map}
 use Rattle.alpha_isa.specs.declared.insn.BranchOp.TheVariants.{Br, Bsr, Blbc, Beq, Blt, Ble, Blbs, Bne, Bge, Bgt}
 use Rattle.alpha_isa.specs.Program.{Program, data_of, last_byte, most_bytes, most_words, next_part, text_start, data_start}
-use Rattle.alpha_isa.specs.Words.{word_of}
+use Rattle.alpha_isa.specs.Words.{insn_word}
 use Rattle.alpha_items.specs.declared.item.AsmItem.{AsmItem}
 use Rattle.alpha_items.specs.declared.item.AsmItem.TheVariants.{Label, Name, Plain, Branch, TextAddress, DataAddress}
-use Rattle.alpha_items.specs.Items.{IsItem, names, gives_word}
+use Rattle.alpha_items.specs.Items.{IsItem, names_label, gives_word}
 use Rattle.alpha_items.specs.Assembly.{Assembly, IsWhole, label_index}
-use Rattle.alpha_items.specs.Layout.{item_words, sizes, place, label_place, text_words, IsLeastFar}
+use Rattle.alpha_items.specs.Layout.{item_words, sizes, item_place, label_place, text_words, IsLeastFar}
 use Rattle.alpha_items.specs.Words.{text_insns, fixed_data, Words}
 use Rattle.alpha_items.proofs.Sums.{sum-cons}
 use Rattle.alpha_items.proofs.Far.{length-sizes}
@@ -61,7 +61,7 @@ rest_some (i ∷ items) [] (suc k) e h = absurd (omega (arith, e))
 rest_some (i ∷ items) (f ∷ far) (suc k) e h = rest_some items far k (omega (arith, e)) h
 
 pub entry_inside : (items : List AsmItem) (far : List Bool) (k : ℕ) → length far ≡ length items → list_any gives_word (drop k items) ≡ true →
-    place items far k < text_words items far
+    item_place items far k < text_words items far
 entry_inside items far k e h =
     let some = rest_some items far k e h in
     let whole = whole_text items far k in
@@ -73,10 +73,10 @@ index_step : (b : Bool) (n k size : ℕ) (r : Option ℕ) → cond (not b) (1 + 
 index_step true n k size r h rest = ap Some (omega arith)
 index_step false n k size r h rest = rest (omega (arith, h)) ∙ ap Some (omega arith)
 
-index_found : (l : ℕ) (items : List AsmItem) (n : ℕ) → label_index items l < length items → position_from (names l) n items ≡ Some (n + label_index items l)
+index_found : (l : ℕ) (items : List AsmItem) (n : ℕ) → label_index items l < length items → position_from (names_label l) n items ≡ Some (n + label_index items l)
 index_found l [] n h = absurd (omega (arith, h))
 index_found l (i ∷ items) n h =
-    index_step (names l i) n (label_index items l) (length items) (position_from (names l) (n + 1) items) h (index_found l items (n + 1))
+    index_step (names_label l i) n (label_index items l) (length items) (position_from (names_label l) (n + 1) items) h (index_found l items (n + 1))
 
 any_inside : (items : List AsmItem) (k : ℕ) → list_any gives_word (drop k items) ≡ true → k < length items
 any_inside items k h = ⊎_elim (λ (inside : k < length items). inside)
@@ -117,7 +117,7 @@ plan_made items targets entry far places sound are is least places_are =
     let at : entry ≡ label_index items 0 = is ∙ sound.entry_found in
     let word = entry_inside items far (label_index items 0) least.one_each sound.some_words in
     let P : List ℕ → Type 0 = λ ts. AreTargets items ts in
-    let Q : ℕ → Type 0 = λ k. place items far k < text_words items far in
+    let Q : ℕ → Type 0 = λ k. item_place items far k < text_words items far in
     record {
       are_items = sound.are_items;
       are_targets = subst P (sym are) sound.are_targets;
@@ -153,18 +153,18 @@ pub plan_entry : (items : List AsmItem) (targets : List ℕ) (entry : ℕ) (far 
     (get_or places entry 0 ≡ label_place items far 0) × (get_or places entry 0 < text_words items far)
 plan_entry items targets entry far places plan =
     let at = plan.are_places.at entry (omega (arith, plan.entry_inside)) in
-    (at ∙ ap (place items far) plan.entry_is, omega (arith, at, plan.entry_word))
+    (at ∙ ap (item_place items far) plan.entry_is, omega (arith, at, plan.entry_word))
 
 -- ---- the image
 
 text_length : (items : List AsmItem) (far : List Bool) (start : ℕ) →
-    length (map word_of (text_insns (label_place items far) start 0 items far)) ≡ text_words items far
+    length (map insn_word (text_insns (label_place items far) start 0 items far)) ≡ text_words items far
 text_length items far start =
-    length-map (text_insns (label_place items far) start 0 items far) word_of ∙ length-text_insns (label_place items far) start 0 items far
+    length-map (text_insns (label_place items far) start 0 items far) insn_word ∙ length-text_insns (label_place items far) start 0 items far
 
 pub assembled : (a : Assembly) (far : List Bool) (start : ℕ) (p : Program) → IsLeastFar a.items far →
     start ≡ next_part (text_start + 4 * text_words a.items far) →
-    p.words ≡ map word_of (text_insns (label_place a.items far) start 0 a.items far) →
+    p.words ≡ map insn_word (text_insns (label_place a.items far) start 0 a.items far) →
     data_of p ≡ fixed_data start a.bytes a.fixes → last_byte p.bytes ≢ Some 0 → p.entry ≡ label_place a.items far 0 → Words a p
 assembled a far start p least begins words bytes last entry =
     let count : length p.words ≡ text_words a.items far = ap length words ∙ text_length a.items far start in
@@ -172,14 +172,14 @@ assembled a far start p least begins words bytes last entry =
     record {
       far = far;
       least = least;
-      words = words ∙ ap (λ s. map word_of (text_insns (label_place a.items far) s 0 a.items far)) same;
+      words = words ∙ ap (λ s. map insn_word (text_insns (label_place a.items far) s 0 a.items far)) same;
       data_bytes = bytes ∙ ap (λ s. fixed_data s a.bytes a.fixes) same;
       last = last;
       entry = entry;
     }
 
 pub count_of : (items : List AsmItem) (far : List Bool) (start : ℕ) (ws : List ℕ) →
-    ws ≡ map word_of (text_insns (label_place items far) start 0 items far) → length ws ≡ text_words items far
+    ws ≡ map insn_word (text_insns (label_place items far) start 0 items far) → length ws ≡ text_words items far
 count_of items far start ws is = ap length is ∙ text_length items far start
 
 -- how many words a text has is one number

@@ -3,7 +3,7 @@
 ghost use Rattle.std.specs.Prelude.{◌≡◌, ℕ, [], ◌+◌, ◌-◌, ◌*◌, ◌<◌, ◌≤◌, ◌^◌, length, map, slice_index, IfOk, IfErr};
 ghost use Rattle.bk_memory.specs.Shortage.{MemoryIsShort};
 ghost use Rattle.alpha_isa.specs.Program.{IsLawful, most_words, next_part, text_start};
-ghost use Rattle.alpha_isa.specs.Words.{word_of};
+ghost use Rattle.alpha_isa.specs.Words.{insn_word};
 ghost use Rattle.alpha_items.specs.Assembly.{IsFix, IsWhole};
 ghost use Rattle.alpha_items.specs.Layout.{label_place, text_words};
 ghost use Rattle.alpha_items.specs.Words.{Words, text_insns, fixed_data};
@@ -101,7 +101,7 @@ fn text_of(
     requires start { start < 2 ^ 31 - 2 ^ 27 }
     ensures words { IfOk result
         (λ w. w.items
-        ≡ map word_of
+        ≡ map insn_word
         (text_insns (label_place items.now plan.now.layout.far.items) start 0 items.now plan.now.layout.far.items)) }
 {
     let mut words = Vec::with_capacity(alloc, count_of(items, plan) as usize)?;

@@ -8,7 +8,7 @@
 
 ghost use Rattle.std.specs.Prelude.{◌≡◌, ℕ, ◌+◌, ◌<◌, ◌≤◌, ◌^◌, List, Bool, length, slice_index, IfOk, OnOk};
 ghost use Rattle.std.specs.Bool.{OnTrue, OnFalse, MatchBool};
-ghost use Rattle.alpha_items.specs.Layout.{place, AllReach, IsForced, IsLeastFar};
+ghost use Rattle.alpha_items.specs.Layout.{item_place, AllReach, IsForced, IsLeastFar};
 ghost use Rattle.alpha_asm.specs.model.Sweeps.{AreTargets, SweptBack, SweptForth, BackReachesAt, ForthReachesAt, TooFarBack, TooFarForth, GrowsWhere, ArePlaces, near};
 
 use crate::sizes::{is_branch, words_of_item};

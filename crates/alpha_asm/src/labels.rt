@@ -5,7 +5,7 @@ ghost use Rattle.std.specs.List.{position_from};
 ghost use Rattle.std.specs.HashMap.{get};
 ghost use Rattle.alpha_items.specs.declared.item.AsmItem.{AsmItem};
 ghost use Rattle.alpha_items.specs.Items as items;
-ghost use Rattle.alpha_items.specs.Items.{names};
+ghost use Rattle.alpha_items.specs.Items.{names_label};
 ghost use Rattle.alpha_asm.specs.model.Sweeps.{label_target, target_of};
 
 use alpha_items::item::AsmItem;
@@ -23,7 +23,7 @@ pub(crate) struct Targets {
 
 /// The number of the item that names each label, the first one of each.
 fn label_table(alloc: Global, items: &[AsmItem]) -> Result<HashMap<u32, usize>, AllocError>
-    ensures { IfOk result (λ table. (l : ℕ) → get nat_eq table l ≡ position_from (names l) 0 items.now) }
+    ensures { IfOk result (λ table. (l : ℕ) → get nat_eq table l ≡ position_from (names_label l) 0 items.now) }
 {
     let mut table = HashMap::new(alloc);
     for i in (0..items.len()).rev() {
@@ -54,7 +54,7 @@ fn named_at(table: &HashMap<u32, usize>, label: u32) -> usize
 
 /// The number of the item that names the label which an item uses, and 0 where it uses none.
 fn target(item: &AsmItem, table: &HashMap<u32, usize>) -> usize
-    ensures { (items : List AsmItem) → ((l : ℕ) → get nat_eq table.now l ≡ position_from (names l) 0 items) →
+    ensures { (items : List AsmItem) → ((l : ℕ) → get nat_eq table.now l ≡ position_from (names_label l) 0 items) →
         result ≡ target_of items item.now }
 {
     match label_used(item) {

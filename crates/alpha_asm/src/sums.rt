@@ -6,7 +6,7 @@
 
 ghost use Rattle.std.specs.Prelude.{◌≡◌, ℕ, ◌+◌, ◌*◌, ◌<◌, ◌≤◌, ◌^◌, List, Bool, length, IfOk};
 ghost use Rattle.alpha_items.specs.declared.item.AsmItem.{AsmItem};
-ghost use Rattle.alpha_items.specs.Layout.{sizes, place};
+ghost use Rattle.alpha_items.specs.Layout.{sizes, item_place};
 ghost use Rattle.alpha_asm.specs.model.Sums.{front, HoldsAtMost};
 
 use crate::sizes::words_of_item;
@@ -66,7 +66,7 @@ fn rise(sums: &[u32], range: Range) -> Range
 pub(crate) fn words_between(sums: &[u32], start: usize, end: usize) -> u64
     ensures { (items : List AsmItem) (far : List Bool) → HoldsAtMost (sizes items far) sums.now →
         length far ≡ length items → start ≤ end → end ≤ length items →
-        result + place items far start ≤ place items far end }
+        result + item_place items far start ≤ item_place items far end }
 {
     let count = sums.len() / 2;
     let end = end.min(count);

@@ -3,7 +3,7 @@
 ghost use Rattle.std.specs.Prelude.{◌≡◌, ◌++◌, ◌∷◌, [], ◌<◌, ◌≤◌, ◌+◌, ◌*◌, ◌^◌, pos, ◌-◌, ◌-ℤ◌, false, length, map, OnOk};
 ghost use Rattle.alpha_isa.specs.declared.insn.Fields.TheVariants as fields;
 ghost use Rattle.alpha_isa.specs.Lawful.{AreLawfulFields, IsBranchDisplacement};
-ghost use Rattle.alpha_isa.specs.Words.{word_of};
+ghost use Rattle.alpha_isa.specs.Words.{insn_word};
 ghost use Rattle.alpha_isa.specs.Program.{most_bytes, most_words, word_address};
 ghost use Rattle.alpha_items.specs.Items.{IsItem};
 ghost use Rattle.alpha_items.specs.Layout as layout;
@@ -30,7 +30,7 @@ const TEXT_START: u64 = 65_536;
 /// Appends the word of an instruction.
 fn put(words: &mut Vec<u32>, fields: Fields) -> Result<(), AllocError>
     requires { AreLawfulFields fields }
-    ensures { OnOk result (words.new.items ≡ words.old.items ++ word_of fields ∷ []) }
+    ensures { OnOk result (words.new.items ≡ words.old.items ++ insn_word fields ∷ []) }
 {
     words.push(encode(&Insn32 { fields }))?;
     Ok(())
@@ -56,7 +56,7 @@ fn low_half(address: u64) -> i16
 fn put_address(words: &mut Vec<u32>, ra: u8, address: u64) -> Result<(), AllocError>
     requires register { ra < 32 }
     requires address { address < most_address }
-    ensures { OnOk result (words.new.items ≡ words.old.items ++ map word_of (address_insns ra address)) }
+    ensures { OnOk result (words.new.items ≡ words.old.items ++ map insn_word (address_insns ra address)) }
 {
     put(
         words,
@@ -84,7 +84,7 @@ fn put_jump(words: &mut Vec<u32>, op: JumpOp, ra: u8, address: u64) -> Result<()
     requires address { address < most_address }
     ensures { OnOk result
         (words.new.items ≡ words.old.items
-        ++ map word_of (address_insns scratch address ++ fields.Jump op ra scratch ∷ [])) }
+        ++ map insn_word (address_insns scratch address ++ fields.Jump op ra scratch ∷ [])) }
 {
     put_address(words, SCRATCH, address)?;
     put(
@@ -129,7 +129,7 @@ fn link_jump(op: BranchOp) -> JumpOp
 fn put_far(words: &mut Vec<u32>, op: BranchOp, ra: u8, address: u64) -> Result<(), AllocError>
     requires register { ra < 32 }
     requires address { address < most_address }
-    ensures { OnOk result (words.new.items ≡ words.old.items ++ map word_of (far_insns op ra address)) }
+    ensures { OnOk result (words.new.items ≡ words.old.items ++ map insn_word (far_insns op ra address)) }
 {
     if is_link(op) {
         return put_jump(words, link_jump(op), ra, address);
@@ -168,7 +168,7 @@ fn put_branch(
     requires there { there ≤ most_words }
     requires reaches { far ≡ false → IsBranchDisplacement (layout.displacement (length words.old.items) there) }
     ensures { OnOk result
-        (words.new.items ≡ words.old.items ++ map word_of (branch_insns far op ra (length words.old.items) there)) }
+        (words.new.items ≡ words.old.items ++ map insn_word (branch_insns far op ra (length words.old.items) there)) }
 {
     if far {
         return put_far(words, op, ra, TEXT_START + 4 * there);
@@ -193,7 +193,7 @@ fn put_item(
     requires reaches { far ≡ false → ItemReaches (λ _. there) (length words.old.items) item.now }
     ensures { OnOk result
         (words.new.items ≡ words.old.items
-        ++ map word_of (item_insns (λ _. there) start (length words.old.items) far item.now)) }
+        ++ map insn_word (item_insns (λ _. there) start (length words.old.items) far item.now)) }
 {
     match item {
         AsmItem::Label(_) => Ok(()),
@@ -220,7 +220,7 @@ pub(crate) fn put_text(
     requires laid_out { IsLaidOut items.now targets.now far.now places.now }
     requires start { start < 2 ^ 31 - 2 ^ 27 }
     ensures { OnOk result
-        (words.new.items ≡ map word_of (text_insns (label_place items.now far.now) start 0 items.now far.now)) }
+        (words.new.items ≡ map insn_word (text_insns (label_place items.now far.now) start 0 items.now far.now)) }
 {
     for i in 0..items.len() {
         put_item(words, &items[i], far[i], places[targets[i]], start)?;

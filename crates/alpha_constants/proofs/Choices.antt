@@ -6,14 +6,14 @@ use Rattle.std.proofs.Common.{eq-eqb}
 use Rattle.alpha_constants.specs.declared.recipe.Finish.{Finish}
 use Rattle.alpha_constants.specs.declared.recipe.Finish.TheVariants.{Nothing, ShiftLeft, ShiftRight, LowHalf, AddLower}
 use Rattle.alpha_constants.specs.declared.recipe.Recipe.{Recipe}
-use Rattle.alpha_constants.specs.Recipes.{is_zero, low_part, high_part, one_unless, near_length, lower_length, finish_length, recipe_word, recipe_length, better, recipe_of, by_displacements, by_low_half, by_shift_left, by_shift_right, by_ones_shifted_right, by_halves}
+use Rattle.alpha_constants.specs.Recipes.{is_zero, low_part, high_part, one_unless, near_length, lower_length, finish_length, recipe_word, recipe_length, better_recipe, recipe_of, by_displacements, by_low_half, by_shift_left, by_shift_right, by_ones_shifted_right, by_halves}
 use Rattle.alpha_constants.specs.Laws.{RecipesAreShortest, RecipesMakeWords, RecipesAreShort}
 use Rattle.alpha_constants.proofs.Words.{halves_make}
 
 le_trans : {x y z : ℕ} → x ≤ y → y ≤ z → x ≤ z
 le_trans p q = omega (arith, p, q)
 
-better_makes : (n : ℕ) (a b : Recipe) → recipe_word b ≡ n → recipe_word (better n a b) ≡ n
+better_makes : (n : ℕ) (a b : Recipe) → recipe_word b ≡ n → recipe_word (better_recipe n a b) ≡ n
 better_makes n a b made = by_word (recipe_word a == n) refl
   where
     by_length : (l : Bool) → recipe_word a ≡ n → recipe_word (if l then a else b) ≡ n
@@ -24,7 +24,7 @@ better_makes n a b made = by_word (recipe_word a == n) refl
     by_word true e = by_length (nat_le (recipe_length a) (recipe_length b)) (eqb-true (recipe_word a) n e)
     by_word false e = made
 
-better_second : (n : ℕ) (a b : Recipe) → recipe_length (better n a b) ≤ recipe_length b
+better_second : (n : ℕ) (a b : Recipe) → recipe_length (better_recipe n a b) ≤ recipe_length b
 better_second n a b = by_word (recipe_word a == n)
   where
     by_length : (l : Bool) → nat_le (recipe_length a) (recipe_length b) ≡ l → recipe_length (if l then a else b) ≤ recipe_length b
@@ -35,7 +35,7 @@ better_second n a b = by_word (recipe_word a == n)
     by_word true = by_length (nat_le (recipe_length a) (recipe_length b)) refl
     by_word false = omega arith
 
-better_first : (n : ℕ) (a b : Recipe) → recipe_word a ≡ n → recipe_length (better n a b) ≤ recipe_length a
+better_first : (n : ℕ) (a b : Recipe) → recipe_word a ≡ n → recipe_length (better_recipe n a b) ≤ recipe_length a
 better_first n a b made = by_word (recipe_word a == n) (eq-eqb (recipe_word a) n made)
   where
     by_length : (l : Bool) → nat_le (recipe_length a) (recipe_length b) ≡ l → recipe_length (if l then a else b) ≤ recipe_length a
@@ -50,38 +50,38 @@ better_first n a b made = by_word (recipe_word a == n) (eq-eqb (recipe_word a) n
 
 module _ (n : ℕ) (a b c d e f : Recipe) where
   abbrev best_of_five : Recipe
-  best_of_five = better n b (better n c (better n d (better n e f)))
+  best_of_five = better_recipe n b (better_recipe n c (better_recipe n d (better_recipe n e f)))
 
   abbrev best : Recipe
-  best = better n a best_of_five
+  best = better_recipe n a best_of_five
 
   best_makes : recipe_word f ≡ n → recipe_word best ≡ n
   best_makes made =
-      better_makes n a best_of_five (better_makes n b (better n c (better n d (better n e f)))
-      (better_makes n c (better n d (better n e f)) (better_makes n d (better n e f) (better_makes n e f made))))
+      better_makes n a best_of_five (better_makes n b (better_recipe n c (better_recipe n d (better_recipe n e f)))
+      (better_makes n c (better_recipe n d (better_recipe n e f)) (better_makes n d (better_recipe n e f) (better_makes n e f made))))
 
   first_best : recipe_word a ≡ n → recipe_length best ≤ recipe_length a
   first_best made = better_first n a best_of_five made
 
   second_best : recipe_word b ≡ n → recipe_length best ≤ recipe_length b
   second_best made =
-      le_trans (better_second n a best_of_five) (better_first n b (better n c (better n d (better n e f))) made)
+      le_trans (better_second n a best_of_five) (better_first n b (better_recipe n c (better_recipe n d (better_recipe n e f))) made)
 
-  below_third : recipe_length best ≤ recipe_length (better n c (better n d (better n e f)))
+  below_third : recipe_length best ≤ recipe_length (better_recipe n c (better_recipe n d (better_recipe n e f)))
   below_third =
-      le_trans (better_second n a best_of_five) (better_second n b (better n c (better n d (better n e f))))
+      le_trans (better_second n a best_of_five) (better_second n b (better_recipe n c (better_recipe n d (better_recipe n e f))))
 
   third_best : recipe_word c ≡ n → recipe_length best ≤ recipe_length c
-  third_best made = le_trans below_third (better_first n c (better n d (better n e f)) made)
+  third_best made = le_trans below_third (better_first n c (better_recipe n d (better_recipe n e f)) made)
 
-  below_fourth : recipe_length best ≤ recipe_length (better n d (better n e f))
-  below_fourth = le_trans below_third (better_second n c (better n d (better n e f)))
+  below_fourth : recipe_length best ≤ recipe_length (better_recipe n d (better_recipe n e f))
+  below_fourth = le_trans below_third (better_second n c (better_recipe n d (better_recipe n e f)))
 
   fourth_best : recipe_word d ≡ n → recipe_length best ≤ recipe_length d
-  fourth_best made = le_trans below_fourth (better_first n d (better n e f) made)
+  fourth_best made = le_trans below_fourth (better_first n d (better_recipe n e f) made)
 
-  below_fifth : recipe_length best ≤ recipe_length (better n e f)
-  below_fifth = le_trans below_fourth (better_second n d (better n e f))
+  below_fifth : recipe_length best ≤ recipe_length (better_recipe n e f)
+  below_fifth = le_trans below_fourth (better_second n d (better_recipe n e f))
 
   fifth_best : recipe_word e ≡ n → recipe_length best ≤ recipe_length e
   fifth_best made = le_trans below_fifth (better_first n e f made)

@@ -95,11 +95,11 @@ abbrev pub by_low_half : ℕ → Recipe
 by_low_half n = recipe n LowHalf
 
 -- the first of two recipes where it makes the word and is no longer
-abbrev pub better : (n : ℕ) → (a b : Recipe) → Recipe
-better n a b = if (recipe_word a == n) && nat_le (recipe_length a) (recipe_length b) then a else b
+abbrev pub better_recipe : (n : ℕ) → (a b : Recipe) → Recipe
+better_recipe n a b = if (recipe_word a == n) && nat_le (recipe_length a) (recipe_length b) then a else b
 
 -- the shortest of these, the earlier where two are as short
 abbrev pub recipe_of : ℕ → Recipe
 recipe_of n =
-    better n (by_displacements n) (better n (by_low_half n) (better n (by_shift_left n)
-    (better n (by_shift_right n) (better n (by_ones_shifted_right n) (by_halves n)))))
+    better_recipe n (by_displacements n) (better_recipe n (by_low_half n) (better_recipe n (by_shift_left n)
+    (better_recipe n (by_shift_right n) (better_recipe n (by_ones_shifted_right n) (by_halves n)))))

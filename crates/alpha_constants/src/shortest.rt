@@ -126,7 +126,7 @@ fn by_ones_shifted_right(word: u64) -> Recipe
 
 /// The first of two recipes where it makes the word and is no longer.
 fn better(word: u64, first: Recipe, second: Recipe) -> Recipe
-    ensures { result ≡ recipes.better word first second }
+    ensures { result ≡ recipes.better_recipe word first second }
 {
     if recipe_word(first) == word && recipe_length(first) <= recipe_length(second) {
         first

@@ -23,7 +23,7 @@ use Rattle.alloc_model.specs.Effect.{Temp, holder_eq, is_emptied, writes, change
 use Rattle.alloc_model.specs.Temporaries.{Temps}
 use Rattle.alpha_forms.specs.Straight.{After, goes_with, runs}
 use Rattle.alpha_forms.specs.Registers.{IsOfRegister, MemoryHasBytes, PutsMemory, ComesToMemory}
-use Rattle.alpha_copies.specs.Copies.{part_load, part_store, part_items, moved_items, reach, parts_items, copy_items}
+use Rattle.alpha_copies.specs.Copies.{part_load, part_store, part_items, moved_items, copy_reach, parts_items, copy_items}
 use Rattle.alpha_copies.specs.Laws.{CopiesAreDone, CopiesAreShort}
 use Rattle.alpha_copies.proofs.Parts.{spot, Copyable, moved_content_spot, part_loaded, part_stored, next_copyable, whole, new_bytes}
 
@@ -116,7 +116,7 @@ module _ (widest own : ℕ) (al : Alignment) (o r : ℕ) where
     goes_on = ap (λ m. After s (outer_with_memory w m)) (sym (put_row-nothing w.memory (spot o a) (spot r b) 0 refl));
     kept = λ t is. refl;
   }
-  parts_run (suc n) to from at i j a b s w ea eb p c ok = by_reach (λ to from at i j a b s w. parts_run n to from at i j a b s w) (nat_lt at reach)
+  parts_run (suc n) to from at i j a b s w ea eb p c ok = by_reach (λ to from at i j a b s w. parts_run n to from at i j a b s w) (nat_lt at copy_reach)
     where
       Rest : Type 0
       Rest = (to from at i j a b : ℕ) (s : Temps) (w : Outer) → i + at ≡ a → j + at ≡ b → Pointers s to from o i r j → Copyable w.memory o a r b al (total (alignment_bytes al) n) → MemoryHasBytes w.memory →
@@ -318,7 +318,7 @@ one_of false xs ys n h g = g
 parts_short : (al : Alignment) (n to from at : ℕ) → length (parts_items al n to from at) ≤ 4 * n
 parts_short al zero to from at = omega arith
 parts_short al (suc n) to from at =
-    one_of (nat_lt at reach) (part_items al to from at ++ parts_items al n to from (at + alignment_bytes al))
+    one_of (nat_lt at copy_reach) (part_items al to from at ++ parts_items al n to from (at + alignment_bytes al))
     (moved_items to from at ++ (part_items al 1 2 0 ++ parts_items al n 1 2 (alignment_bytes al))) (4 * suc n)
     (omega (arith, parts_short al n to from (at + alignment_bytes al))) (omega (arith, parts_short al n 1 2 (alignment_bytes al)))
 

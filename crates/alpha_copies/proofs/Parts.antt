@@ -22,7 +22,7 @@ use Rattle.c_arithmetic.proofs.LowBits.{low_bits-extension}
 use Rattle.suifvm_ir.specs.declared.types.Alignment.{Alignment}
 use Rattle.suifvm_ir.specs.declared.types.Alignment.TheVariants.{One, Two, Four, Eight}
 use Rattle.suifvm_ir.specs.Programs.{alignment_bytes}
-use Rattle.alloc_model.specs.Contents.{Content, Plain, Bundle, word, number_or, pointer_or_bundle, content_of, extended_content, unless_fault, pointer_in, pointer_at, load_width, store_width, content_in, loaded_content, when_width, stored_cells, memory_with, stored_memory, pointer_moved}
+use Rattle.alloc_model.specs.Contents.{Content, Plain, Bundle, word_content, number_or, pointer_or_bundle, content_of, extended_content, unless_fault, pointer_in, pointer_at, load_width, store_width, content_in, loaded_content, when_width, stored_cells, memory_with, stored_memory, pointer_moved}
 use Rattle.alpha_forms.specs.Registers.{AreCells, MemoryHasBytes}
 use Rattle.alpha_copies.specs.Copies.{part_load, part_store}
 use Rattle.alpha_copies.proofs.Bytes.{are_row, bytes_with_row, bytes_number}
@@ -43,7 +43,7 @@ bytes_long n = by_low (sign_extension w32 n) (low_bits-extension Int n)
         cc
 
 number_back : (al : Alignment) (cs : List Cell) (n : ℕ) → length cs ≡ alignment_bytes al → AreCells cs → number_of cs ≡ Some n →
-    stored_cells (alignment_bytes al) (extended_content (part_load al) (word n)) ≡ Some cs
+    stored_cells (alignment_bytes al) (extended_content (part_load al) (word_content n)) ≡ Some cs
 number_back One cs n len h e = ap (λ k. Some (bytes_of k n)) (sym len) ∙ ap Some (bytes_number cs n h e)
 number_back Two cs n len h e = ap (λ k. Some (bytes_of k n)) (sym len) ∙ ap Some (bytes_number cs n h e)
 number_back Four cs n len h e = ap Some (bytes_long n) ∙ ap (λ k. Some (bytes_of k n)) (sym len) ∙ ap Some (bytes_number cs n h e)

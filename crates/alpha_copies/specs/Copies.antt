@@ -37,14 +37,14 @@ moved_items to from by =
     Address Lda 1 (source.Temp to) (pos by) ∷ Address Lda 2 (source.Temp from) (pos by) ∷ []
 
 -- the displacement from which on the pointers are moved
-abbrev pub reach : ℕ
-reach = 16384
+abbrev pub copy_reach : ℕ
+copy_reach = 16384
 
 -- so many parts, of which the first stands at a displacement
 abbrev pub parts_items : Alignment → (count to from at : ℕ) → List TempInsn
 parts_items align zero to from at = []
 parts_items align (suc count) to from at =
-    if nat_lt at reach
+    if nat_lt at copy_reach
     then part_items align to from at ++ parts_items align count to from (at + alignment_bytes align)
     else moved_items to from at ++ (part_items align 1 2 0 ++ parts_items align count 1 2 (alignment_bytes align))
 

@@ -21,7 +21,7 @@ use Rattle.vm_meaning.specs.declared.answer.Answer.TheVariants as v
 use Rattle.vm_meaning.specs.Operations.{on_numbers, test_answer, comparison_answer, compare_answer}
 use Rattle.temp_ir.specs.declared.operation.Operation.TheVariants as o
 use Rattle.alloc_model.specs.Contents as contents
-use Rattle.alloc_model.specs.Contents.{Content, Plain, word, ContentAnswer, Gives, content_answer, test_word, operate_answer}
+use Rattle.alloc_model.specs.Contents.{Content, Plain, word_content, ContentAnswer, Gives, content_answer, test_word, operate_answer}
 use Rattle.alpha_forms.specs.Operations.{is_unsigned, less_op, less_or_equal_op}
 use Rattle.alpha_forms.proofs.Prepares.{Matches}
 use Rattle.alpha_forms.proofs.Numbers.{two_numbers}

@@ -41,7 +41,7 @@ use Rattle.alloc_model.specs.Contents as contents
 use Rattle.alloc_model.specs.Contents.{Content, Plain, Gives, TrapsWith, Fails, effect_answer}
 use Rattle.alloc_model.specs.Stores.{put, without}
 use Rattle.alloc_model.specs.Effect as effect
-use Rattle.alloc_model.specs.Effect.{Temp, Fixed, holder_eq, is_emptied, takes, division_answer, words_division, writes}
+use Rattle.alloc_model.specs.Effect.{Temp, Fixed, holder_eq, is_emptied, takes_word, division_answer, words_division, writes}
 use Rattle.alloc_model.specs.Temporaries.{Temps}
 use Rattle.alpha_forms.specs.Straight.{Ran, goes_with, runs}
 use Rattle.alpha_forms.specs.Registers.{CodeAnswers}
@@ -86,7 +86,7 @@ below : (h : ℕ) → ℤ → Bool
 below h (pos n) = nat_lt n h
 below h (negsuc n) = nat_lt n h
 
-fits_below : (w : Width) (z : ℤ) → isa.fits w z ≡ below (2 ^ hbits w) z
+fits_below : (w : Width) (z : ℤ) → isa.fits_signed w z ≡ below (2 ^ hbits w) z
 unfolding below
 fits_below w (pos n) = refl
 fits_below w (negsuc n) = refl
@@ -156,18 +156,18 @@ unfolding size
 size_fits w (pos n) f = f.sfits
 size_fits w (negsuc n) f = f.sfits
 
-fits_as : (w : Width) (z : ℤ) → FitsSigned w z → isa.fits w z ≡ true
+fits_as : (w : Width) (z : ℤ) → FitsSigned w z → isa.fits_signed w z ≡ true
 fits_as w (pos n) f = lt-ltb n (2 ^ hbits w) f.sfits
 fits_as w (negsuc n) f = lt-ltb n (2 ^ hbits w) f.sfits
 
 quotient_int : (a b : ℤ) (x y : ℕ) → FitsSigned w32 a → FitsSigned w32 b → word_from a ≡ x → word_from b ≡ y →
-    isa.fits w32 (int_div a b) ≡ not (is_least_by_minus_one w32 x y)
+    isa.fits_signed w32 (int_div a b) ≡ not (is_least_by_minus_one w32 x y)
 unfolding is_least
 quotient_int a b x y f g e k =
     fits_below w32 (int_div a b) ∙ quotient_test (2 ^ 31) (omega arith) (omega arith) a b x y (size_fits w32 a f) (size_fits w32 b g) e k
 
 quotient_long : (a b : ℤ) (x y : ℕ) → FitsSigned w64 a → FitsSigned w64 b → word_from a ≡ x → word_from b ≡ y →
-    isa.fits w64 (int_div a b) ≡ not (is_least_by_minus_one w64 x y)
+    isa.fits_signed w64 (int_div a b) ≡ not (is_least_by_minus_one w64 x y)
 unfolding is_least
 quotient_long a b x y f g e k =
     fits_below w64 (int_div a b) ∙ quotient_test (2 ^ 63) (omega arith) (omega arith) a b x y (size_fits w64 a f) (size_fits w64 b g) e k
@@ -191,10 +191,10 @@ checked_rest t z r false false is e same = let clash : ⊥ = cc in absurd clash
 
 -- ---- what the routines answer
 
-taken : (r : DivisionRoutine) (a b : ℕ) → takes r a ≡ true → takes r b ≡ true → words_division r a b ≡ effect.outcome_answer (rt.outcome (effect.routine_of r) a b)
+taken : (r : DivisionRoutine) (a b : ℕ) → takes_word r a ≡ true → takes_word r b ≡ true → words_division r a b ≡ effect.outcome_answer (rt.routine_outcome (effect.routine_of r) a b)
 taken r a b f g =
-    ap (λ p. if p && takes r b then effect.outcome_answer (rt.outcome (effect.routine_of r) a b) else Fails) f
-    ∙ ap (λ p. if p then effect.outcome_answer (rt.outcome (effect.routine_of r) a b) else Fails) g
+    ap (λ p. if p && takes_word r b then effect.outcome_answer (rt.routine_outcome (effect.routine_of r) a b) else Fails) f
+    ∙ ap (λ p. if p then effect.outcome_answer (rt.routine_outcome (effect.routine_of r) a b) else Fails) g
 
 extended : (n : ℕ) → sign_extension w32 n ≡ n → (sign_extension w32 n == n) ≡ true
 extended n e = eq-eqb (sign_extension w32 n) n e
@@ -215,7 +215,7 @@ long_fits n = signed_fits Long n
 quotient_signed_int : (x y : ℕ) → extension Int x ≡ x → extension Int y ≡ y → Matches (outcome_answer (c.quotient Int x y)) (words_division Divl x y)
 quotient_signed_int x y e k =
     let z : ℤ = int_div (value Int x) (value Int y) in
-    let same = as_checked z (isa.fits w32 z) (is_least_by_minus_one w32 x y) (quotient_int (value Int x) (value Int y) x y (int_fits x) (int_fits y) (int_value x e) (int_value y k)) in
+    let same = as_checked z (isa.fits_signed w32 z) (is_least_by_minus_one w32 x y) (quotient_int (value Int x) (value Int y) x y (int_fits x) (int_fits y) (int_value x e) (int_value y k)) in
     subst (Matches (outcome_answer (c.quotient Int x y))) (sym (taken Divl x y (extended x e) (extended y k)))
     (by_zero (low_bits Int y == 0) (y == 0) (c.word_or_overflow Int z) (if is_least_by_minus_one w32 x y then rt.Traps 3 else rt.Answers (word_from z))
     (zero_test Int y k refl refl) (subst (Matches (outcome_answer (c.word_or_overflow Int z))) same (checked_int z)))
@@ -223,7 +223,7 @@ quotient_signed_int x y e k =
 quotient_signed_long : (x y : ℕ) → extension Long x ≡ x → extension Long y ≡ y → Matches (outcome_answer (c.quotient Long x y)) (words_division Divq x y)
 quotient_signed_long x y e k =
     let z : ℤ = int_div (value Long x) (value Long y) in
-    let same = as_checked z (isa.fits w64 z) (is_least_by_minus_one w64 x y) (quotient_long (value Long x) (value Long y) x y (long_fits x) (long_fits y) (long_value x e) (long_value y k)) in
+    let same = as_checked z (isa.fits_signed w64 z) (is_least_by_minus_one w64 x y) (quotient_long (value Long x) (value Long y) x y (long_fits x) (long_fits y) (long_value x e) (long_value y k)) in
     subst (Matches (outcome_answer (c.quotient Long x y))) (sym (taken Divq x y refl refl))
     (by_zero (low_bits Long y == 0) (y == 0) (c.word_or_overflow Long z) (if is_least_by_minus_one w64 x y then rt.Traps 3 else rt.Answers (word_from z))
     (zero_test Long y k refl refl) (subst (Matches (outcome_answer (c.word_or_overflow Long z))) same (checked_long z)))

@@ -25,12 +25,12 @@ use Rattle.temp_ir.specs.declared.operation.ExtendOp.TheVariants as e
 use Rattle.temp_ir.specs.declared.insn.SecondOperand.TheVariants as operand
 use Rattle.temp_ir.specs.declared.insn.TempInsn.TheVariants.{Extend}
 use Rattle.alloc_model.specs.Contents as contents
-use Rattle.alloc_model.specs.Contents.{Content, Plain, word, ContentAnswer, Gives, effect_answer, operate_answer, extend_answer}
+use Rattle.alloc_model.specs.Contents.{Content, Plain, word_content, ContentAnswer, Gives, effect_answer, operate_answer, extend_answer}
 use Rattle.alloc_model.specs.Effect.{Temp, writes}
 use Rattle.alloc_model.specs.Temporaries.{Temps}
 use Rattle.alpha_forms.specs.Straight.{runs}
 use Rattle.alpha_forms.specs.Registers.{CodeAnswers}
-use Rattle.alpha_forms.specs.Operations.{on_two, on_number, on_zero, sum_op, product_op, difference_op, is_unsigned, less_op, less_or_equal_op, convert_item}
+use Rattle.alpha_forms.specs.Operations.{on_two, on_literal, on_zero, sum_op, product_op, difference_op, is_unsigned, less_op, less_or_equal_op, convert_item}
 use Rattle.alpha_forms.specs.Laws.{UnaryIsDone, BinaryIsDone, CompareIsDone, ConversionsAreDone}
 use Rattle.alpha_forms.proofs.Prepares.{Matches, nothing_yet, prepare, finish}
 use Rattle.alpha_forms.proofs.Numbers.{sum_matches, product_matches, and_matches, or_matches, xor_matches, difference_matches, negate_matches, complement_matches, move_matches}
@@ -47,42 +47,42 @@ module _ (widest own : ℕ) (s : Temps) (o : Outer) (d : ℕ) where
       (ap (λ c. writes (operate_answer o.memory op c (s (Temp b))) o) ha ∙ ap (λ c. writes (operate_answer o.memory op (Plain x) c) o) hb) m
 
   zero_comes : (op : Operation) (a : ℕ) (x : Value) (w : vm.Answer) → s (Temp a) ≡ Plain x →
-      Matches w (operate_answer o.memory op (word 0) (Plain x)) → CodeAnswers s o d w (runs widest (on_zero op d a ∷ []) own s o)
+      Matches w (operate_answer o.memory op (word_content 0) (Plain x)) → CodeAnswers s o d w (runs widest (on_zero op d a ∷ []) own s o)
   zero_comes op a x w ha m =
-      finish widest own s o [] (s (Temp 0)) (nothing_yet widest own s o) (on_zero op d a) d (operate_answer o.memory op (word 0) (Plain x)) w
-      (record { turn = refl; call = refl; written = refl }) (ap (λ c. writes (operate_answer o.memory op (word 0) c) o) ha) m
+      finish widest own s o [] (s (Temp 0)) (nothing_yet widest own s o) (on_zero op d a) d (operate_answer o.memory op (word_content 0) (Plain x)) w
+      (record { turn = refl; call = refl; written = refl }) (ap (λ c. writes (operate_answer o.memory op (word_content 0) c) o) ha) m
 
   -- a test and its contrary
-  contrary : (b : Bool) → effect_answer (isa.truth ((if b then 1 else 0) == 0)) ≡ Gives (Plain (Word (c.truth (not b))))
+  contrary : (b : Bool) → effect_answer (isa.truth_result ((if b then 1 else 0) == 0)) ≡ Gives (Plain (Word (c.truth (not b))))
   contrary true = refl
   contrary false = refl
 
   not_comes : (a b : ℕ) (x y : Value) → s (Temp a) ≡ Plain x → s (Temp b) ≡ Plain y → (t : Option Bool) →
       Matches (test_answer t) (operate_answer o.memory code.Cmpeq (Plain x) (Plain y)) →
-      CodeAnswers s o d (test_answer (option_map not t)) (runs widest (on_two code.Cmpeq 0 a b ∷ on_number code.Cmpeq d 0 0 ∷ []) own s o)
+      CodeAnswers s o d (test_answer (option_map not t)) (runs widest (on_two code.Cmpeq 0 a b ∷ on_literal code.Cmpeq d 0 0 ∷ []) own s o)
   not_comes a b x y ha hb None m = tt
   not_comes a b x y ha hb (Some t) m =
-      let k = prepare widest own s o [] (s (Temp 0)) (nothing_yet widest own s o) (on_two code.Cmpeq 0 a b) (word (c.truth t)) (record { turn = refl; call = refl; written = refl })
+      let k = prepare widest own s o [] (s (Temp 0)) (nothing_yet widest own s o) (on_two code.Cmpeq 0 a b) (word_content (c.truth t)) (record { turn = refl; call = refl; written = refl })
       (ap (λ c. writes (operate_answer o.memory code.Cmpeq c (s (Temp b))) o) ha ∙ ap (λ c. writes (operate_answer o.memory code.Cmpeq (Plain x) c) o) hb ∙ ap (λ e. writes e o) m) in
-      finish widest own s o (on_two code.Cmpeq 0 a b ∷ []) (word (c.truth t)) k (on_number code.Cmpeq d 0 0) d (operate_answer o.memory code.Cmpeq (k.after (Temp 0)) (word 0))
+      finish widest own s o (on_two code.Cmpeq 0 a b ∷ []) (word_content (c.truth t)) k (on_literal code.Cmpeq d 0 0) d (operate_answer o.memory code.Cmpeq (k.after (Temp 0)) (word_content 0))
       (test_answer (Some (not t))) (record { turn = refl; call = refl; written = refl }) refl
-      (ap (λ c. operate_answer o.memory code.Cmpeq c (word 0)) k.holds ∙ contrary t)
+      (ap (λ c. operate_answer o.memory code.Cmpeq c (word_content 0)) k.holds ∙ contrary t)
 
   -- code of one instruction on a word
-  literal_comes : (op : Operation) (a n k r : ℕ) → s (Temp a) ≡ word n → operate_answer o.memory op (word n) (word k) ≡ contents.word_answer r →
-      CodeAnswers s o d (v.Gives (Word r)) (runs widest (on_number op d a k ∷ []) own s o)
+  literal_comes : (op : Operation) (a n k r : ℕ) → s (Temp a) ≡ word_content n → operate_answer o.memory op (word_content n) (word_content k) ≡ contents.word_answer r →
+      CodeAnswers s o d (v.Gives (Word r)) (runs widest (on_literal op d a k ∷ []) own s o)
   literal_comes op a n k r ha e =
-      finish widest own s o [] (s (Temp 0)) (nothing_yet widest own s o) (on_number op d a k) d (operate_answer o.memory op (s (Temp a)) (word k)) (v.Gives (Word r))
-      (record { turn = refl; call = refl; written = refl }) refl (ap (λ c. operate_answer o.memory op c (word k)) ha ∙ e)
+      finish widest own s o [] (s (Temp 0)) (nothing_yet widest own s o) (on_literal op d a k) d (operate_answer o.memory op (s (Temp a)) (word_content k)) (v.Gives (Word r))
+      (record { turn = refl; call = refl; written = refl }) refl (ap (λ c. operate_answer o.memory op c (word_content k)) ha ∙ e)
 
-  extend_comes : (op : ExtendOp) (a n r : ℕ) → s (Temp a) ≡ word n → extend_answer op (word n) ≡ contents.word_answer r →
+  extend_comes : (op : ExtendOp) (a n r : ℕ) → s (Temp a) ≡ word_content n → extend_answer op (word_content n) ≡ contents.word_answer r →
       CodeAnswers s o d (v.Gives (Word r)) (runs widest (Extend op d (operand.Temp a) ∷ []) own s o)
   extend_comes op a n r ha e =
       finish widest own s o [] (s (Temp 0)) (nothing_yet widest own s o) (Extend op d (operand.Temp a)) d (extend_answer op (s (Temp a))) (v.Gives (Word r))
       (record { turn = refl; call = refl; written = refl }) refl (ap (extend_answer op) ha ∙ e)
 
   -- a conversion
-  convert_comes : (from : MemoryType) (to : VmType) (a n : ℕ) → s (Temp a) ≡ word n → n < 2 ^ 64 →
+  convert_comes : (from : MemoryType) (to : VmType) (a n : ℕ) → s (Temp a) ≡ word_content n → n < 2 ^ 64 →
       CodeAnswers s o d (convert_answer from to (Word n)) (runs widest (convert_item from to d a ∷ []) own s o)
   convert_comes m.S8 S32 a n ha small = extend_comes e.Sextb a n (c.conversion Char Int n) ha (ap contents.word_answer (from_char Int n IsInt))
   convert_comes m.S8 U32 a n ha small = extend_comes e.Sextb a n (c.conversion Char UnsignedInt n) ha (ap contents.word_answer (from_char UnsignedInt n IsUnsignedInt))
@@ -171,7 +171,7 @@ at_most_done ty widest own d a b s o x y i j ha hb = two_comes widest own s o d 
 pub inequalities_done : CompareIsDone NotEqual
 inequalities_done ty widest own d a b s o x y i j ha hb =
     let t = test_of o.memory ty x y in
-    subst (λ w. CodeAnswers s o d w (runs widest (on_two code.Cmpeq 0 a b ∷ on_number code.Cmpeq d 0 0 ∷ []) own s o)) (sym t.unlike)
+    subst (λ w. CodeAnswers s o d w (runs widest (on_two code.Cmpeq 0 a b ∷ on_literal code.Cmpeq d 0 0 ∷ []) own s o)) (sym t.unlike)
     (not_comes widest own s o d a b x y ha hb t.test (subst (λ w. Matches w (operate_answer o.memory code.Cmpeq (Plain x) (Plain y))) t.equal (equal_matches o.memory ty x y)))
 
 pub conversions_done : ConversionsAreDone

@@ -16,7 +16,7 @@ use Rattle.temp_ir.specs.declared.insn.FirstOperand.TheVariants as source
 use Rattle.temp_ir.specs.declared.insn.SecondOperand.TheVariants as operand
 use Rattle.temp_ir.specs.declared.insn.TempInsn.{TempInsn}
 use Rattle.temp_ir.specs.declared.insn.TempInsn.TheVariants.{Address, Operate}
-use Rattle.alloc_model.specs.Contents.{word, content_answer, effect_answer, operate_answer, moved_by, moved_content}
+use Rattle.alloc_model.specs.Contents.{word_content, content_answer, effect_answer, operate_answer, moved_bytes, moved_content}
 use Rattle.alloc_model.specs.Effect.{writes}
 use Rattle.alloc_model.specs.Temporaries.{Temps}
 use Rattle.alpha_constants.specs.declared.recipe.Finish.{Finish}
@@ -51,69 +51,69 @@ one_literal : (op : Operation) (d n : ℕ) → WritesOne (with_literal op d n) d
 one_literal op d n = record { turn = refl; call = refl; written = refl }
 
 module _ (widest own : ℕ) (s : Temps) (o : Outer) (d : ℕ) where
-  then_address : (xs : List TempInsn) (n : ℕ) (op : AddressOp) (z : ℤ) → PutsContent widest xs own s o d (word n) →
-      PutsContent widest (xs ++ Address op d (source.Temp d) z ∷ []) own s o d (word (word_at (n + word_from (moved_by op z))))
+  then_address : (xs : List TempInsn) (n : ℕ) (op : AddressOp) (z : ℤ) → PutsContent widest xs own s o d (word_content n) →
+      PutsContent widest (xs ++ Address op d (source.Temp d) z ∷ []) own s o d (word_content (word_at (n + word_from (moved_bytes op z))))
   then_address xs n op z h =
-      then_put widest own s o d xs (word n) (Address op d (source.Temp d) z) (word (word_at (n + word_from (moved_by op z)))) h (one_address op d z)
-      (ap (λ c. writes (content_answer (moved_content o.memory c (moved_by op z))) o) h.holds)
+      then_put widest own s o d xs (word_content n) (Address op d (source.Temp d) z) (word_content (word_at (n + word_from (moved_bytes op z)))) h (one_address op d z)
+      (ap (λ c. writes (content_answer (moved_content o.memory c (moved_bytes op z))) o) h.holds)
 
   then_literal : (xs : List TempInsn) (n : ℕ) (op : Operation) (k m : ℕ) → operation_effect (operate_op op) n k ≡ Gives m →
-      PutsContent widest xs own s o d (word n) → PutsContent widest (xs ++ with_literal op d k ∷ []) own s o d (word m)
+      PutsContent widest xs own s o d (word_content n) → PutsContent widest (xs ++ with_literal op d k ∷ []) own s o d (word_content m)
   then_literal xs n op k m effect h =
-      then_put widest own s o d xs (word n) (with_literal op d k) (word m) h (one_literal op d k)
-      (ap (λ c. writes (operate_answer o.memory op c (word k)) o) h.holds ∙ ap (λ e. writes (effect_answer e) o) effect)
+      then_put widest own s o d xs (word_content n) (with_literal op d k) (word_content m) h (one_literal op d k)
+      (ap (λ c. writes (operate_answer o.memory op c (word_content k)) o) h.holds ∙ ap (λ e. writes (effect_answer e) o) effect)
 
   -- a displacement more, which is left out where it is zero
-  then_unless : (xs : List TempInsn) (n : ℕ) (op : AddressOp) (z : ℤ) → word_from (moved_by op (pos 0)) ≡ 0 → n < 2 ^ 64 →
-      PutsContent widest xs own s o d (word n) →
-      PutsContent widest (xs ++ unless_zero z (Address op d (source.Temp d) z)) own s o d (word (word_at (n + word_from (moved_by op z))))
+  then_unless : (xs : List TempInsn) (n : ℕ) (op : AddressOp) (z : ℤ) → word_from (moved_bytes op (pos 0)) ≡ 0 → n < 2 ^ 64 →
+      PutsContent widest xs own s o d (word_content n) →
+      PutsContent widest (xs ++ unless_zero z (Address op d (source.Temp d) z)) own s o d (word_content (word_at (n + word_from (moved_bytes op z))))
   then_unless xs n op z none small h = by_zero (is_zero z) refl
     where
       by_zero : (b : Bool) → is_zero z ≡ b →
-          PutsContent widest (xs ++ (if b then [] else Address op d (source.Temp d) z ∷ [])) own s o d (word (word_at (n + word_from (moved_by op z))))
+          PutsContent widest (xs ++ (if b then [] else Address op d (source.Temp d) z ∷ [])) own s o d (word_content (word_at (n + word_from (moved_bytes op z))))
       by_zero true e =
-          subst (λ ys. PutsContent widest ys own s o d (word (word_at (n + word_from (moved_by op z))))) (sym (append-nil xs))
-          (subst (λ k. PutsContent widest xs own s o d (word k)) (nothing_more n (word_from (moved_by op z)) (ap (λ y. word_from (moved_by op y)) (is_zero-true z e) ∙ none) small) h)
+          subst (λ ys. PutsContent widest ys own s o d (word_content (word_at (n + word_from (moved_bytes op z))))) (sym (append-nil xs))
+          (subst (λ k. PutsContent widest xs own s o d (word_content k)) (nothing_more n (word_from (moved_bytes op z)) (ap (λ y. word_from (moved_bytes op y)) (is_zero-true z e) ∙ none) small) h)
       by_zero false e = then_address xs n op z h
 
-  near_puts : (n : ℕ) → PutsContent widest (near_items d n) own s o d (word (near_word n))
+  near_puts : (n : ℕ) → PutsContent widest (near_items d n) own s o d (word_content (near_word n))
   near_puts n = by_high (is_zero (high_part n)) refl
     where
       high : TempInsn
       high = Address Ldah d source.Zero (high_part n)
 
       by_high : (b : Bool) → is_zero (high_part n) ≡ b →
-          PutsContent widest (if b then Address Lda d source.Zero (low_part n) ∷ [] else (high ∷ unless_zero (low_part n) (Address Lda d (source.Temp d) (low_part n)))) own s o d (word (near_word n))
+          PutsContent widest (if b then Address Lda d source.Zero (low_part n) ∷ [] else (high ∷ unless_zero (low_part n) (Address Lda d (source.Temp d) (low_part n)))) own s o d (word_content (near_word n))
       by_high true e =
-          first_put widest own s o d (Address Lda d source.Zero (low_part n)) (word (near_word n)) (from_zero Lda d (low_part n))
-          (ap (λ k. writes (content_answer (Some (word k))) o) (ap (λ z. word_at (word_from (z *ℤ pos 65536) + word_from (low_part n))) (sym (is_zero-true (high_part n) e))))
+          first_put widest own s o d (Address Lda d source.Zero (low_part n)) (word_content (near_word n)) (from_zero Lda d (low_part n))
+          (ap (λ k. writes (content_answer (Some (word_content k))) o) (ap (λ z. word_at (word_from (z *ℤ pos 65536) + word_from (low_part n))) (sym (is_zero-true (high_part n) e))))
       by_high false e =
-          subst (λ k. PutsContent widest (high ∷ unless_zero (low_part n) (Address Lda d (source.Temp d) (low_part n))) own s o d (word k))
+          subst (λ k. PutsContent widest (high ∷ unless_zero (low_part n) (Address Lda d (source.Temp d) (low_part n))) own s o d (word_content k))
           (twice (word_from (high_part n *ℤ pos 65536)) (word_from (low_part n)))
           (then_unless (high ∷ []) (word_at (0 + word_from (high_part n *ℤ pos 65536))) Lda (low_part n) refl (word_at-below (0 + word_from (high_part n *ℤ pos 65536)))
-          (first_put widest own s o d high (word (word_at (0 + word_from (high_part n *ℤ pos 65536)))) (from_zero Ldah d (high_part n)) refl))
+          (first_put widest own s o d high (word_content (word_at (0 + word_from (high_part n *ℤ pos 65536)))) (from_zero Ldah d (high_part n)) refl))
 
-  lower_puts : (xs : List TempInsn) (n lower : ℕ) → n < 2 ^ 64 → PutsContent widest xs own s o d (word n) →
-      PutsContent widest (xs ++ lower_items d lower) own s o d (word (word_at (n + near_word lower)))
+  lower_puts : (xs : List TempInsn) (n lower : ℕ) → n < 2 ^ 64 → PutsContent widest xs own s o d (word_content n) →
+      PutsContent widest (xs ++ lower_items d lower) own s o d (word_content (word_at (n + near_word lower)))
   lower_puts xs n lower small h =
-      subst (λ ys. PutsContent widest ys own s o d (word (word_at (n + near_word lower))))
+      subst (λ ys. PutsContent widest ys own s o d (word_content (word_at (n + near_word lower))))
       (append_assoc xs (unless_zero (high_part lower) (Address Ldah d (source.Temp d) (high_part lower))) (unless_zero (low_part lower) (Address Lda d (source.Temp d) (low_part lower))))
-      (subst (λ k. PutsContent widest ((xs ++ unless_zero (high_part lower) (Address Ldah d (source.Temp d) (high_part lower))) ++ unless_zero (low_part lower) (Address Lda d (source.Temp d) (low_part lower))) own s o d (word k))
+      (subst (λ k. PutsContent widest ((xs ++ unless_zero (high_part lower) (Address Ldah d (source.Temp d) (high_part lower))) ++ unless_zero (low_part lower) (Address Lda d (source.Temp d) (low_part lower))) own s o d (word_content k))
       (thrice n (word_from (high_part lower *ℤ pos 65536)) (word_from (low_part lower)))
       (then_unless (xs ++ unless_zero (high_part lower) (Address Ldah d (source.Temp d) (high_part lower))) (word_at (n + word_from (high_part lower *ℤ pos 65536))) Lda (low_part lower) refl (word_at-below (n + word_from (high_part lower *ℤ pos 65536)))
       (then_unless xs n Ldah (high_part lower) refl small h)))
 
-  finish_puts : (xs : List TempInsn) (n : ℕ) (f : Finish) → PutsContent widest xs own s o d (word n) →
-      PutsContent widest (xs ++ finish_items d f) own s o d (word (finish_word f n))
-  finish_puts xs n Nothing h = subst (λ ys. PutsContent widest ys own s o d (word n)) (sym (append-nil xs)) h
+  finish_puts : (xs : List TempInsn) (n : ℕ) (f : Finish) → PutsContent widest xs own s o d (word_content n) →
+      PutsContent widest (xs ++ finish_items d f) own s o d (word_content (finish_word f n))
+  finish_puts xs n Nothing h = subst (λ ys. PutsContent widest ys own s o d (word_content n)) (sym (append-nil xs)) h
   finish_puts xs n (ShiftLeft k) h = then_literal xs n Sll k (word_at (n * 2 ^ (k % 64))) refl h
   finish_puts xs n (ShiftRight k) h = then_literal xs n Srl k (n / 2 ^ (k % 64)) refl h
   finish_puts xs n LowHalf h = then_literal xs n Zapnot 15 (n % 2 ^ 32) (ap Gives (kept_bytes-long n)) h
   finish_puts xs n (AddLower lower) h =
-      subst (λ ys. PutsContent widest ys own s o d (word (word_at (word_at (n * 2 ^ 32) + near_word lower)))) (append_assoc xs (with_literal Sll d 32 ∷ []) (lower_items d lower))
+      subst (λ ys. PutsContent widest ys own s o d (word_content (word_at (word_at (n * 2 ^ 32) + near_word lower)))) (append_assoc xs (with_literal Sll d 32 ∷ []) (lower_items d lower))
       (lower_puts (xs ++ with_literal Sll d 32 ∷ []) (word_at (n * 2 ^ 32)) lower (word_at-below (n * 2 ^ 32)) (then_literal xs n Sll 32 (word_at (n * 2 ^ 32)) refl h))
 
-  recipe_puts : (r : Recipe) → PutsContent widest (recipe_items d r) own s o d (word (recipe_word r))
+  recipe_puts : (r : Recipe) → PutsContent widest (recipe_items d r) own s o d (word_content (recipe_word r))
   recipe_puts r = finish_puts (near_items d r.near) (near_word r.near) r.finish (near_puts r.near)
 
 pub constants_made : ConstantsAreMade
@@ -121,12 +121,12 @@ unfolding constant_items
 constants_made widest own d n s o small = by_zero (n == 0) refl
   where
     by_zero : (b : Bool) → (n == 0) ≡ b →
-        PutsContent widest (if b then Operate Bis d source.Zero (operand.Literal 0) ∷ [] else recipe_items d (recipe_of n)) own s o d (word n)
+        PutsContent widest (if b then Operate Bis d source.Zero (operand.Literal 0) ∷ [] else recipe_items d (recipe_of n)) own s o d (word_content n)
     by_zero true e =
-        first_put widest own s o d (Operate Bis d source.Zero (operand.Literal 0)) (word n) (record { turn = refl; call = refl; written = refl })
+        first_put widest own s o d (Operate Bis d source.Zero (operand.Literal 0)) (word_content n) (record { turn = refl; call = refl; written = refl })
         (ap (λ k. writes (effect_answer (Gives k)) o) (sym (eqb-true n 0 e)))
     by_zero false e =
-        subst (λ k. PutsContent widest (recipe_items d (recipe_of n)) own s o d (word k)) (makes_words n small) (recipe_puts widest own s o d (recipe_of n))
+        subst (λ k. PutsContent widest (recipe_items d (recipe_of n)) own s o d (word_content k)) (makes_words n small) (recipe_puts widest own s o d (recipe_of n))
 
 -- ---- lengths
 

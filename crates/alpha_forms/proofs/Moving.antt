@@ -29,7 +29,7 @@ use Rattle.vm_meaning.specs.declared.answer.Answer.TheVariants as v
 use Rattle.vm_meaning.specs.Operations.{on_number, outcome_answer, shift_number, shift_by, shift_answer}
 use Rattle.temp_ir.specs.declared.operation.Operation.TheVariants as code
 use Rattle.alloc_model.specs.Contents as contents
-use Rattle.alloc_model.specs.Contents.{Content, Plain, word, operate_answer}
+use Rattle.alloc_model.specs.Contents.{Content, Plain, word_content, operate_answer}
 use Rattle.alloc_model.specs.Effect.{Temp, writes}
 use Rattle.alloc_model.specs.Temporaries.{Temps}
 use Rattle.alpha_forms.specs.Straight.{runs}
@@ -140,11 +140,11 @@ module _ (widest own : ℕ) (s : Temps) (o : Outer) (d a b : ℕ) (ia : IsOfRegi
   left_narrow t wide is n k ex ey e small =
       by_places t k (λ c. CodeAnswers s o d (outcome_answer (left_shift_by t n c)) (runs widest (on_two code.Sll 0 a b ∷ extended_long d 0 ∷ []) own s o)) small tt
       (λ lt.
-      let h = prepare widest own s o [] (s (Temp 0)) (nothing_yet widest own s o) (on_two code.Sll 0 a b) (word (word_at (n * 2 ^ (k % 64)))) (record { turn = refl; call = refl; written = refl })
-      (ap (λ c. writes (operate_answer o.memory code.Sll c (s (Temp b))) o) (ha ∙ ap Plain ex) ∙ ap (λ c. writes (operate_answer o.memory code.Sll (word n) c) o) (hb ∙ ap Plain ey)) in
-      finish widest own s o (on_two code.Sll 0 a b ∷ []) (word (word_at (n * 2 ^ (k % 64)))) h (extended_long d 0) d (operate_answer o.memory code.Addl (h.after (Temp 0)) (word 0))
+      let h = prepare widest own s o [] (s (Temp 0)) (nothing_yet widest own s o) (on_two code.Sll 0 a b) (word_content (word_at (n * 2 ^ (k % 64)))) (record { turn = refl; call = refl; written = refl })
+      (ap (λ c. writes (operate_answer o.memory code.Sll c (s (Temp b))) o) (ha ∙ ap Plain ex) ∙ ap (λ c. writes (operate_answer o.memory code.Sll (word_content n) c) o) (hb ∙ ap Plain ey)) in
+      finish widest own s o (on_two code.Sll 0 a b ∷ []) (word_content (word_at (n * 2 ^ (k % 64)))) h (extended_long d 0) d (operate_answer o.memory code.Addl (h.after (Temp 0)) (word_content 0))
       (v.Gives (Word (extension t (n * 2 ^ k)))) (record { turn = refl; call = refl; written = refl }) refl
-      (ap (λ c. operate_answer o.memory code.Addl c (word 0)) h.holds ∙ ap contents.word_answer (low_extended n k (bits (width t)) lt (omega (arith, wide)) ∙ sym (is (n * 2 ^ k)))))
+      (ap (λ c. operate_answer o.memory code.Addl c (word_content 0)) h.holds ∙ ap contents.word_answer (low_extended n k (bits (width t)) lt (omega (arith, wide)) ∙ sym (is (n * 2 ^ k)))))
 
   left_wide : (t : IntegerType) → bits (width t) ≡ 64 → ((i : ℕ) → extension t i ≡ word_at i) → (n k : ℕ) → x ≡ Word n → y ≡ Word k →
       extension t n ≡ n → k < 2 ^ 64 →
@@ -176,13 +176,13 @@ module _ (widest own : ℕ) (s : Temps) (o : Outer) (d a b : ℕ) (ia : IsOfRegi
   logical_narrow n k ex ey small =
       by_places UnsignedInt k (λ c. CodeAnswers s o d (outcome_answer (right_shift_by UnsignedInt n c)) (runs widest (items.logical_right_items true d a b) own s o)) small tt
       (λ lt.
-      let f = prepare widest own s o [] (s (Temp 0)) (nothing_yet widest own s o) (items.on_number code.Zapnot 0 a 15) (word (kept_bytes 8 n 15)) (record { turn = refl; call = refl; written = refl })
-      (ap (λ c. writes (operate_answer o.memory code.Zapnot c (word 15)) o) (ha ∙ ap Plain ex)) in
-      let g = prepare widest own s o (items.on_number code.Zapnot 0 a 15 ∷ []) (word (kept_bytes 8 n 15)) f (on_two code.Srl 0 0 b) (word (kept_bytes 8 n 15 / 2 ^ (k % 64))) (record { turn = refl; call = refl; written = refl })
-      (ap (λ c. writes (operate_answer o.memory code.Srl c (f.after (Temp b))) o) f.holds ∙ ap (λ c. writes (operate_answer o.memory code.Srl (word (kept_bytes 8 n 15)) c) o) (f.kept b ib ∙ hb ∙ ap Plain ey)) in
-      finish widest own s o (items.on_number code.Zapnot 0 a 15 ∷ on_two code.Srl 0 0 b ∷ []) (word (kept_bytes 8 n 15 / 2 ^ (k % 64))) g (extended_long d 0) d (operate_answer o.memory code.Addl (g.after (Temp 0)) (word 0))
+      let f = prepare widest own s o [] (s (Temp 0)) (nothing_yet widest own s o) (items.on_literal code.Zapnot 0 a 15) (word_content (kept_bytes 8 n 15)) (record { turn = refl; call = refl; written = refl })
+      (ap (λ c. writes (operate_answer o.memory code.Zapnot c (word_content 15)) o) (ha ∙ ap Plain ex)) in
+      let g = prepare widest own s o (items.on_literal code.Zapnot 0 a 15 ∷ []) (word_content (kept_bytes 8 n 15)) f (on_two code.Srl 0 0 b) (word_content (kept_bytes 8 n 15 / 2 ^ (k % 64))) (record { turn = refl; call = refl; written = refl })
+      (ap (λ c. writes (operate_answer o.memory code.Srl c (f.after (Temp b))) o) f.holds ∙ ap (λ c. writes (operate_answer o.memory code.Srl (word_content (kept_bytes 8 n 15)) c) o) (f.kept b ib ∙ hb ∙ ap Plain ey)) in
+      finish widest own s o (items.on_literal code.Zapnot 0 a 15 ∷ on_two code.Srl 0 0 b ∷ []) (word_content (kept_bytes 8 n 15 / 2 ^ (k % 64))) g (extended_long d 0) d (operate_answer o.memory code.Addl (g.after (Temp 0)) (word_content 0))
       (v.Gives (Word (words.word UnsignedInt (int_shr (value UnsignedInt n) k)))) (record { turn = refl; call = refl; written = refl }) refl
-      (ap (λ c. operate_answer o.memory code.Addl c (word 0)) g.holds
+      (ap (λ c. operate_answer o.memory code.Addl c (word_content 0)) g.holds
       ∙ ap (λ i. contents.word_answer (sign_extension w32 (i / 2 ^ (k % 64) + 0))) (kept_bytes-long n)
       ∙ ap contents.word_answer (right_extended n k lt)))
 

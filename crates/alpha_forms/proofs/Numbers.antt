@@ -33,7 +33,7 @@ use Rattle.vm_meaning.specs.declared.answer.Answer.TheVariants as v
 use Rattle.vm_meaning.specs.Operations.{on_number, on_numbers, outcome_answer, word_answer, value_answer, distance_answer, unary_answer, binary_answer}
 use Rattle.temp_ir.specs.declared.operation.Operation.TheVariants as o
 use Rattle.alloc_model.specs.Contents as contents
-use Rattle.alloc_model.specs.Contents.{Content, Plain, word, ContentAnswer, Gives, distance_word, content_answer, effect_answer, operate_answer}
+use Rattle.alloc_model.specs.Contents.{Content, Plain, word_content, ContentAnswer, Gives, distance_word, content_answer, effect_answer, operate_answer}
 use Rattle.alpha_forms.specs.Operations.{sum_op, difference_op, product_op}
 use Rattle.alpha_forms.proofs.Prepares.{Matches}
 
@@ -61,15 +61,15 @@ small t n e = subst (λ k. k < 2 ^ 64) e (extension-below t n)
 
 -- ---- results that have to fit
 
-pub fits_int : (z : ℤ) → types.fits Int z ≡ isa.fits w32 z
+pub fits_int : (z : ℤ) → types.fits Int z ≡ isa.fits_signed w32 z
 fits_int (pos n) = grind (arith, nat_tests)
 fits_int (negsuc n) = grind (arith, nat_tests)
 
-pub fits_long : (z : ℤ) → types.fits Long z ≡ isa.fits w64 z
+pub fits_long : (z : ℤ) → types.fits Long z ≡ isa.fits_signed w64 z
 fits_long (pos n) = grind (arith, nat_tests)
 fits_long (negsuc n) = grind (arith, nat_tests)
 
-fits_number : (w : Width) (z : ℤ) → isa.fits w z ≡ true → FitsSigned w z
+fits_number : (w : Width) (z : ℤ) → isa.fits_signed w z ≡ true → FitsSigned w z
 fits_number w (pos n) e = record { sfits = ltb-true n _ e }
 fits_number w (negsuc n) e = record { sfits = ltb-true n _ e }
 
@@ -91,7 +91,7 @@ long_word z e = ap (λ n. extension Long n) (residue-fits z f) ∙ in_word z f
 pub checked_int : (z : ℤ) → Matches (outcome_answer (c.word_or_overflow Int z)) (effect_answer (checked_effect w32 z))
 checked_int z = by_fit (types.fits Int z) refl (sym (fits_int z))
   where
-    by_fit : (b : Bool) → types.fits Int z ≡ b → isa.fits w32 z ≡ types.fits Int z →
+    by_fit : (b : Bool) → types.fits Int z ≡ b → isa.fits_signed w32 z ≡ types.fits Int z →
         Matches (outcome_answer (if b then outcome.Word (words.word Int z) else c.overflow)) (effect_answer (checked_effect w32 z))
     by_fit true e f = ap (λ b. effect_answer (if b then isa.Gives (word_from z) else isa.Overflows)) (f ∙ e) ∙ ap contents.word_answer (sym (int_word z e))
     by_fit false e f = ap (λ b. effect_answer (if b then isa.Gives (word_from z) else isa.Overflows)) (f ∙ e)
@@ -99,7 +99,7 @@ checked_int z = by_fit (types.fits Int z) refl (sym (fits_int z))
 pub checked_long : (z : ℤ) → Matches (outcome_answer (c.word_or_overflow Long z)) (effect_answer (checked_effect w64 z))
 checked_long z = by_fit (types.fits Long z) refl (sym (fits_long z))
   where
-    by_fit : (b : Bool) → types.fits Long z ≡ b → isa.fits w64 z ≡ types.fits Long z →
+    by_fit : (b : Bool) → types.fits Long z ≡ b → isa.fits_signed w64 z ≡ types.fits Long z →
         Matches (outcome_answer (if b then outcome.Word (words.word Long z) else c.overflow)) (effect_answer (checked_effect w64 z))
     by_fit true e f = ap (λ b. effect_answer (if b then isa.Gives (word_from z) else isa.Overflows)) (f ∙ e) ∙ ap contents.word_answer (sym (long_word z e))
     by_fit false e f = ap (λ b. effect_answer (if b then isa.Gives (word_from z) else isa.Overflows)) (f ∙ e)
@@ -282,40 +282,40 @@ module _ (m : Memory) where
       (λ x y e k. ap contents.word_answer (sym (word-difference UnsignedLong x y (small UnsignedLong y k))))
   difference_matches P64 a b = difference_pointer a b
 
-  pub negate_matches : (ty : VmType) (a : Value) → Matches (unary_answer Negate ty a) (operate_answer m (difference_op ty) (word 0) (Plain a))
+  pub negate_matches : (ty : VmType) (a : Value) → Matches (unary_answer Negate ty a) (operate_answer m (difference_op ty) (word_content 0) (Plain a))
   negate_matches S32 a =
-      one_number Int a (λ t x. outcome_answer (c.negation t x)) (λ a. operate_answer m o.SublV (word 0) (Plain a))
+      one_number Int a (λ t x. outcome_answer (c.negation t x)) (λ a. operate_answer m o.SublV (word_content 0) (Plain a))
       (λ x e. subst (λ z. Matches (outcome_answer (c.word_or_overflow Int z)) (effect_answer (checked_effect w32 (pos 0 -ℤ value Int x)))) (from_zero (value Int x)) (checked_int (pos 0 -ℤ value Int x)))
   negate_matches U32 a =
-      one_number UnsignedInt a (λ t x. outcome_answer (c.negation t x)) (λ a. operate_answer m o.Subl (word 0) (Plain a))
+      one_number UnsignedInt a (λ t x. outcome_answer (c.negation t x)) (λ a. operate_answer m o.Subl (word_content 0) (Plain a))
       (λ x e. ap contents.word_answer (ap (λ k. extension UnsignedInt k) (nothing_before (2 ^ 64 - x)) ∙ sym (word-negation UnsignedInt x (small UnsignedInt x e))))
   negate_matches S64 a =
-      one_number Long a (λ t x. outcome_answer (c.negation t x)) (λ a. operate_answer m o.SubqV (word 0) (Plain a))
+      one_number Long a (λ t x. outcome_answer (c.negation t x)) (λ a. operate_answer m o.SubqV (word_content 0) (Plain a))
       (λ x e. subst (λ z. Matches (outcome_answer (c.word_or_overflow Long z)) (effect_answer (checked_effect w64 (pos 0 -ℤ value Long x)))) (from_zero (value Long x)) (checked_long (pos 0 -ℤ value Long x)))
   negate_matches U64 a =
-      one_number UnsignedLong a (λ t x. outcome_answer (c.negation t x)) (λ a. operate_answer m o.Subq (word 0) (Plain a))
+      one_number UnsignedLong a (λ t x. outcome_answer (c.negation t x)) (λ a. operate_answer m o.Subq (word_content 0) (Plain a))
       (λ x e. ap contents.word_answer (ap (λ k. extension UnsignedLong k) (nothing_before (2 ^ 64 - x)) ∙ sym (word-negation UnsignedLong x (small UnsignedLong x e))))
   negate_matches P64 a = tt
 
-  pub complement_matches : (ty : VmType) (a : Value) → Matches (unary_answer Complement ty a) (operate_answer m o.Ornot (word 0) (Plain a))
+  pub complement_matches : (ty : VmType) (a : Value) → Matches (unary_answer Complement ty a) (operate_answer m o.Ornot (word_content 0) (Plain a))
   complement_matches S32 a =
-      one_number Int a (λ t x. word_answer (c.complement t x)) (λ a. operate_answer m o.Ornot (word 0) (Plain a))
+      one_number Int a (λ t x. word_answer (c.complement t x)) (λ a. operate_answer m o.Ornot (word_content 0) (Plain a))
       (λ x e. ap contents.word_answer (sym (complement_long x e)))
   complement_matches U32 a =
-      one_number UnsignedInt a (λ t x. word_answer (c.complement t x)) (λ a. operate_answer m o.Ornot (word 0) (Plain a))
+      one_number UnsignedInt a (λ t x. word_answer (c.complement t x)) (λ a. operate_answer m o.Ornot (word_content 0) (Plain a))
       (λ x e. ap contents.word_answer (sym (complement_long x e)))
   complement_matches S64 a =
-      one_number Long a (λ t x. word_answer (c.complement t x)) (λ a. operate_answer m o.Ornot (word 0) (Plain a))
+      one_number Long a (λ t x. word_answer (c.complement t x)) (λ a. operate_answer m o.Ornot (word_content 0) (Plain a))
       (λ x e. ap contents.word_answer (complement_quad x))
   complement_matches U64 a =
-      one_number UnsignedLong a (λ t x. word_answer (c.complement t x)) (λ a. operate_answer m o.Ornot (word 0) (Plain a))
+      one_number UnsignedLong a (λ t x. word_answer (c.complement t x)) (λ a. operate_answer m o.Ornot (word_content 0) (Plain a))
       (λ x e. ap contents.word_answer (complement_quad x))
   complement_matches P64 a = tt
 
-  move_number : (t : IntegerType) (a : Value) → Matches (on_number (Some t) a (λ t x. word_answer x)) (operate_answer m o.Bis (word 0) (Plain a))
-  move_number t a = one_number t a (λ t x. word_answer x) (λ a. operate_answer m o.Bis (word 0) (Plain a)) (λ x e. refl)
+  move_number : (t : IntegerType) (a : Value) → Matches (on_number (Some t) a (λ t x. word_answer x)) (operate_answer m o.Bis (word_content 0) (Plain a))
+  move_number t a = one_number t a (λ t x. word_answer x) (λ a. operate_answer m o.Bis (word_content 0) (Plain a)) (λ x e. refl)
 
-  pub move_matches : (ty : VmType) (a : Value) → Matches (unary_answer Move ty a) (operate_answer m o.Bis (word 0) (Plain a))
+  pub move_matches : (ty : VmType) (a : Value) → Matches (unary_answer Move ty a) (operate_answer m o.Bis (word_content 0) (Plain a))
   move_matches S32 a = move_number Int a
   move_matches U32 a = move_number UnsignedInt a
   move_matches S64 a = move_number Long a

@@ -17,16 +17,16 @@ use Rattle.suifvm_ir.specs.declared.insn.VmObject.{VmObject}
 use Rattle.suifvm_ir.specs.declared.insn.VmObject.TheVariants.{Global, Local}
 use Rattle.vm_meaning.specs.declared.answer.Answer.TheVariants as v
 use Rattle.vm_meaning.specs.Operations.{is_value_of, place_address, number_holds}
-use Rattle.vm_meaning.specs.Effect.{is_taken}
+use Rattle.vm_meaning.specs.Effect.{is_branch_taken}
 use Rattle.temp_ir.specs.declared.insn.TempInsn.{TempInsn}
 use Rattle.temp_ir.specs.declared.insn.TempInsn.TheVariants.{ObjectAddress}
-use Rattle.alloc_model.specs.Contents.{Plain, Gives, word, test_of}
+use Rattle.alloc_model.specs.Contents.{Plain, Gives, word_content, branch_test}
 use Rattle.alloc_model.specs.Effect.{Temp, place_content, writes}
 use Rattle.alloc_model.specs.Temporaries.{Temps}
 use Rattle.alpha_forms.specs.Straight.{PutsContent, runs}
 use Rattle.alpha_forms.specs.Registers.{PutsValue, CodeAnswers}
 use Rattle.alpha_forms.specs.Constants.{constant_items}
-use Rattle.alpha_forms.specs.Operations.{branch_op}
+use Rattle.alpha_forms.specs.Operations.{temp_branch}
 use Rattle.alpha_forms.specs.Laws.{ConstantsAreLoaded, AddressesAreLoaded, BranchesAreTaken}
 use Rattle.alpha_forms.proofs.Making.{constants_made}
 use Rattle.alpha_forms.proofs.Runs.{first_put}
@@ -54,7 +54,7 @@ addresses_loaded widest own d plus place s o =
 
 -- ---- branches
 
-number_test : (op : VmBranchOp) (m : Memory) (n : ℕ) → test_of (branch_op op) m (word n) ≡ Some (is_taken op (not (n == 0)))
+number_test : (op : VmBranchOp) (m : Memory) (n : ℕ) → branch_test (temp_branch op) m (word_content n) ≡ Some (is_branch_taken op (not (n == 0)))
 number_test IfTrue m n = refl
 number_test IfFalse m n = by_test (n == 0)
   where
@@ -63,18 +63,18 @@ number_test IfFalse m n = by_test (n == 0)
     by_test false = refl
 
 number_taken : (op : VmBranchOp) (t : IntegerType) (m : Memory) (v : Value) (b : Bool) → number_holds (Some t) v ≡ Some b →
-    test_of (branch_op op) m (Plain v) ≡ Some (is_taken op b)
+    branch_test (temp_branch op) m (Plain v) ≡ Some (is_branch_taken op b)
 number_taken op t m (Word n) b e = by_word (is_word t n) e
   where
-    by_word : (w : Bool) → (if w then Some (not (n == 0)) else None) ≡ Some b → test_of (branch_op op) m (word n) ≡ Some (is_taken op b)
-    by_word true e = number_test op m n ∙ ap (λ a. Some (is_taken op a)) (same_Some (not (n == 0)) b e)
+    by_word : (w : Bool) → (if w then Some (not (n == 0)) else None) ≡ Some b → branch_test (temp_branch op) m (word_content n) ≡ Some (is_branch_taken op b)
+    by_word true e = number_test op m n ∙ ap (λ a. Some (is_branch_taken op a)) (same_Some (not (n == 0)) b e)
     by_word false e = absurd (none-some b e)
 number_taken op t m (Address p) b e = absurd (none-some b e)
 number_taken op t m Unset b e = absurd (none-some b e)
 
 pointer_taken : (op : VmBranchOp) (m : Memory) (v : Value) (b : Bool) → option_map not (is_null m v) ≡ Some b →
-    test_of (branch_op op) m (Plain v) ≡ Some (is_taken op b)
-pointer_taken op m (Word zero) b e = number_test op m 0 ∙ ap (λ a. Some (is_taken op a)) (same_Some false b e)
+    branch_test (temp_branch op) m (Plain v) ≡ Some (is_branch_taken op b)
+pointer_taken op m (Word zero) b e = number_test op m 0 ∙ ap (λ a. Some (is_branch_taken op a)) (same_Some false b e)
 pointer_taken op m (Word (suc n)) b e = absurd (none-some b e)
 pointer_taken IfTrue m (Address p) b e = e
 pointer_taken IfFalse m (Address p) b e = by_null (is_null m (Address p)) e

@@ -14,7 +14,7 @@ use Rattle.mem_model.specs.Memory.{Memory, load_at}
 use Rattle.mem_model.specs.Pointers.{ptr_plus, is_live, is_offset, size_at, pointer_plus}
 use Rattle.mem_model.specs.World.{Outer}
 use Rattle.mem_model.proofs.Pointers.{when-some, when-true}
-use Rattle.alpha_isa.specs.Arithmetic.{fits, word_from}
+use Rattle.alpha_isa.specs.Arithmetic.{fits_signed, word_from}
 use Rattle.alpha_isa.proofs.Arithmetic.{signed-word_from}
 use Rattle.c_arithmetic.specs.declared.integer_type.IntegerType.{IntegerType}
 use Rattle.c_arithmetic.specs.declared.integer_type.IntegerType.TheVariants.{Char, UnsignedChar, Short, UnsignedShort, Int, UnsignedInt, Long, UnsignedLong}
@@ -32,7 +32,7 @@ use Rattle.temp_ir.specs.declared.insn.FirstOperand.TheVariants as source
 use Rattle.temp_ir.specs.declared.insn.SecondOperand.TheVariants as operand
 use Rattle.temp_ir.specs.declared.insn.TempInsn.{TempInsn}
 use Rattle.temp_ir.specs.declared.insn.TempInsn.TheVariants.{Load, Operate, Extend}
-use Rattle.alloc_model.specs.Contents.{Content, Plain, word, Gives, content_answer, operate_answer, extend_answer, pointer_in, pointer_at, load_width, extended_content, content_in, loaded_content}
+use Rattle.alloc_model.specs.Contents.{Content, Plain, word_content, Gives, content_answer, operate_answer, extend_answer, pointer_in, pointer_at, load_width, extended_content, content_in, loaded_content}
 use Rattle.alloc_model.specs.Effect.{Temp, writes}
 use Rattle.alloc_model.specs.Temporaries.{Temps}
 use Rattle.alpha_forms.specs.Straight.{runs}
@@ -64,7 +64,7 @@ word_from-below (ℤ.negsuc n) f = omega arith
 module _ (widest own : ℕ) (s : Temps) (o : Outer) where
   -- the sum of a pointer and a number
   moved_answer : (v : Value) (plus : ℤ) (q : Ptr) → FitsSigned w64 plus → pointer_plus o.memory v plus ≡ Some (Address q) →
-      operate_answer o.memory Addq (Plain v) (word (word_from plus)) ≡ Gives (Plain (Address q))
+      operate_answer o.memory Addq (Plain v) (word_content (word_from plus)) ≡ Gives (Plain (Address q))
   moved_answer (Word n) plus q f e = absurd (none-some (Address q) e)
   moved_answer Unset plus q f e = absurd (none-some (Address q) e)
   moved_answer (Address a) plus q f e =
@@ -74,8 +74,8 @@ module _ (widest own : ℕ) (s : Temps) (o : Outer) where
   pub far_moves : (p : ℕ) (v : Value) (plus : ℤ) (q : Ptr) → IsOfRegister p → FitsSigned w64 plus → s (Temp p) ≡ Plain v →
       pointer_plus o.memory v plus ≡ Some (Address q) → Prepared widest own s o (far_items p plus) (Plain (Address q))
   far_moves p v plus q of f held e =
-      let h = from_put widest own s o (constant_items 0 (word_from plus)) (word (word_from plus)) (constants_made widest own 0 (word_from plus) s o (word_from-below plus f)) in
-      prepare widest own s o (constant_items 0 (word_from plus)) (word (word_from plus)) h (Operate Addq 0 (source.Temp p) (operand.Temp 0)) (Plain (Address q))
+      let h = from_put widest own s o (constant_items 0 (word_from plus)) (word_content (word_from plus)) (constants_made widest own 0 (word_from plus) s o (word_from-below plus f)) in
+      prepare widest own s o (constant_items 0 (word_from plus)) (word_content (word_from plus)) h (Operate Addq 0 (source.Temp p) (operand.Temp 0)) (Plain (Address q))
       (record { turn = refl; call = refl; written = refl })
       (ap (λ c. writes (operate_answer o.memory Addq c (h.after (Temp 0))) o) (h.kept p of ∙ held)
       ∙ ap (λ c. writes (operate_answer o.memory Addq (Plain v) c) o) h.holds
@@ -104,7 +104,7 @@ module _ (widest own : ℕ) (s : Temps) (o : Outer) where
 
     -- numbers
     number_comes : (op : LoadOp) (t : IntegerType) → MemoryHasBytes o.memory →
-        ((n : ℕ) → n < 256 ^ load_width op → extended_content op (word n) ≡ word (extension t n)) →
+        ((n : ℕ) → n < 256 ^ load_width op → extended_content op (word_content n) ≡ word_content (extension t n)) →
         CodeAnswers s o d (load_answer (Some t) (load_at o.memory q (load_width op) false)) (runs widest (xs ++ plain_load op d p z) own s o)
     number_comes op t bytes extends = plain_comes op false (Some t) extended
       where
@@ -116,7 +116,7 @@ module _ (widest own : ℕ) (s : Temps) (o : Outer) where
 
     -- and those whose sign is extended by an instruction of its own
     extended_comes : (op : LoadOp) (extend : ExtendOp) (t : IntegerType) →
-        ((n : ℕ) → extended_content op (word n) ≡ word n) → ((n : ℕ) → extend_answer extend (word n) ≡ Gives (word (extension t n))) →
+        ((n : ℕ) → extended_content op (word_content n) ≡ word_content n) → ((n : ℕ) → extend_answer extend (word_content n) ≡ Gives (word_content (extension t n))) →
         CodeAnswers s o d (load_answer (Some t) (load_at o.memory q (load_width op) false)) (runs widest (xs ++ extended_load op extend d p z) own s o)
     extended_comes op extend t keeps extends = by_result (load_at o.memory q (load_width op) false) refl
       where
@@ -128,10 +128,10 @@ module _ (widest own : ℕ) (s : Temps) (o : Outer) where
 
         of_number : (n : ℕ) → load_at o.memory q (load_width op) false ≡ Ok (Word n) → CodeAnswers s o d (v.Gives (Word (extension t n))) (runs widest (xs ++ (load ∷ last ∷ [])) own s o)
         of_number n e =
-            let k = prepare widest own s o xs c h load (word n) (record { turn = refl; call = refl; written = refl })
+            let k = prepare widest own s o xs c h load (word_content n) (record { turn = refl; call = refl; written = refl })
             (ap (λ y. writes (content_answer y) o) (content_loaded op false (Word n) e ∙ ap Some (keeps n))) in
             subst (λ ys. CodeAnswers s o d (v.Gives (Word (extension t n))) (runs widest ys own s o)) (append_assoc xs (load ∷ []) (last ∷ []))
-            (finish widest own s o (xs ++ load ∷ []) (word n) k last d (extend_answer extend (k.after (Temp 0))) (v.Gives (Word (extension t n)))
+            (finish widest own s o (xs ++ load ∷ []) (word_content n) k last d (extend_answer extend (k.after (Temp 0))) (v.Gives (Word (extension t n)))
             (record { turn = refl; call = refl; written = refl }) refl (ap (extend_answer extend) k.holds ∙ extends n))
 
         by_result : (r : Result Value MemFault) → load_at o.memory q (load_width op) false ≡ r →
@@ -145,13 +145,13 @@ module _ (widest own : ℕ) (s : Temps) (o : Outer) where
         CodeAnswers s o d (load_answer (memory_integer ty) (load_at o.memory q (access_bytes (memory_integer ty)) (is_pointer_access (memory_integer ty))))
         (runs widest (xs ++ near_load ty d p z) own s o)
     near_comes S8 bytes = extended_comes Ldbu Sextb Char (λ n. refl) (λ n. refl)
-    near_comes U8 bytes = number_comes Ldbu UnsignedChar bytes (λ n small. ap word (let e : n ≡ n % 2 ^ 8 = omega arith in e))
+    near_comes U8 bytes = number_comes Ldbu UnsignedChar bytes (λ n small. ap word_content (let e : n ≡ n % 2 ^ 8 = omega arith in e))
     near_comes S16 bytes = extended_comes Ldwu Sextw Short (λ n. refl) (λ n. refl)
-    near_comes U16 bytes = number_comes Ldwu UnsignedShort bytes (λ n small. ap word (let e : n ≡ n % 2 ^ 16 = omega arith in e))
+    near_comes U16 bytes = number_comes Ldwu UnsignedShort bytes (λ n small. ap word_content (let e : n ≡ n % 2 ^ 16 = omega arith in e))
     near_comes S32 bytes = number_comes Ldl Int bytes (λ n small. refl)
     near_comes U32 bytes = number_comes Ldl UnsignedInt bytes (λ n small. refl)
-    near_comes S64 bytes = number_comes Ldq Long bytes (λ n small. ap word (let e : n ≡ n % 2 ^ 64 = omega arith in e))
-    near_comes U64 bytes = number_comes Ldq UnsignedLong bytes (λ n small. ap word (let e : n ≡ n % 2 ^ 64 = omega arith in e))
+    near_comes S64 bytes = number_comes Ldq Long bytes (λ n small. ap word_content (let e : n ≡ n % 2 ^ 64 = omega arith in e))
+    near_comes U64 bytes = number_comes Ldq UnsignedLong bytes (λ n small. ap word_content (let e : n ≡ n % 2 ^ 64 = omega arith in e))
     near_comes P64 bytes = plain_comes Ldq true None (λ w e. refl)
 
 -- ---- loads
@@ -175,4 +175,4 @@ loads_done widest own d p ty plus s o v of f bytes held = by_pointer (pointer_pl
     by_pointer None e = tt
     by_pointer (Some (Word n)) e = tt
     by_pointer (Some Unset) e = tt
-    by_pointer (Some (Address q)) e = by_fit q e (fits w16 plus)
+    by_pointer (Some (Address q)) e = by_fit q e (fits_signed w16 plus)

@@ -12,10 +12,10 @@ use Rattle.mem_model.specs.declared.value.Cell.TheVariants.{Empty, Byte, Part}
 use Rattle.mem_model.specs.declared.value.MemFault.{MemFault}
 use Rattle.mem_model.specs.declared.value.MemFault.TheVariants.{Never, PartPointer}
 use Rattle.mem_model.specs.Cells.{bytes_of, parts_of, number_of, pointer_of, first_pointer, cells_eq, is_empty, value_of, value_or_fault}
-use Rattle.mem_model.specs.Memory.{Memory, read_fault, unless, row_at, load_at, object_at, place_of}
+use Rattle.mem_model.specs.Memory.{Memory, read_fault, fault_or, row_at, load_at, object_at, place_of}
 use Rattle.mem_model.proofs.RowValues.{cells_eq-true, cell_eq-true, pointer_of-null}
 use Rattle.temp_ir.specs.declared.operation.LoadOp.{LoadOp}
-use Rattle.alloc_model.specs.Contents.{Plain, word, content_of, number_or, pointer_or_bundle, load_width, extended_content, content_in, unless_fault}
+use Rattle.alloc_model.specs.Contents.{Plain, word_content, content_of, number_or, pointer_or_bundle, load_width, extended_content, content_in, unless_fault}
 use Rattle.alpha_forms.specs.Registers.{AreCells, MemoryHasBytes}
 
 -- ---- values
@@ -31,7 +31,7 @@ number_content cells v = by_number (number_of cells)
     by_number (Some n) e = ap Plain (same_Some (Word n) v e)
     by_number None e = absurd (none-some v e)
 
-null_content : content_of (bytes_of 8 0) ≡ word 0
+null_content : content_of (bytes_of 8 0) ≡ word_content 0
 unfolding number_of bytes_of pointer_of
 null_content = refl
 
@@ -88,7 +88,7 @@ pub loaded : (m : Memory) (p : Ptr) (op : LoadOp) (pointer : Bool) (v : Value) �
 unfolding load_at
 loaded m p op pointer v = by_fault (read_fault m p (load_width op) (load_width op))
   where
-    by_fault : (f : Option MemFault) → unless f (value_or_fault pointer (row_at m p (load_width op))) ≡ Ok v →
+    by_fault : (f : Option MemFault) → fault_or f (value_or_fault pointer (row_at m p (load_width op))) ≡ Ok v →
         unless_fault f (extended_content op (content_of (row_at m p (load_width op)))) ≡ Some (extended_content op (Plain v))
     by_fault (Some f) e = absurd cc
     by_fault None e = ap (λ c. Some (extended_content op c)) (read_content pointer (row_at m p (load_width op)) v e)
@@ -143,7 +143,7 @@ loaded_small m p w n h = by_fault (read_fault m p w w)
     by_empty true e = absurd cc
     by_empty false e = row_small m p w n h (word_number (row_at m p w) n (ok_some (value_of false (row_at m p w)) (Word n) PartPointer e))
 
-    by_fault : (f : Option MemFault) → unless f (value_or_fault false (row_at m p w)) ≡ Ok (Word n) → n < 256 ^ w
+    by_fault : (f : Option MemFault) → fault_or f (value_or_fault false (row_at m p w)) ≡ Ok (Word n) → n < 256 ^ w
     by_fault (Some f) e = absurd cc
     by_fault None e = by_empty (list_any is_empty (row_at m p w)) e
 
@@ -160,6 +160,6 @@ number_loaded m p w v = by_fault (read_fault m p w w)
     by_empty true e = absurd cc
     by_empty false e = by_number (number_of (row_at m p w)) (ok_some (value_of false (row_at m p w)) v PartPointer e)
 
-    by_fault : (f : Option MemFault) → unless f (value_or_fault false (row_at m p w)) ≡ Ok v → (n : ℕ) × (v ≡ Word n)
+    by_fault : (f : Option MemFault) → fault_or f (value_or_fault false (row_at m p w)) ≡ Ok v → (n : ℕ) × (v ≡ Word n)
     by_fault (Some f) e = absurd cc
     by_fault None e = by_empty (list_any is_empty (row_at m p w)) e

@@ -4,9 +4,9 @@ use Rattle.std.specs.Prelude.{map, if◌then◌else◌}
 use Rattle.mem_model.specs.World.{Outer}
 use Rattle.machine_model.specs.Code.{Act, Writes, Jumps, Calls, Returns, Stops}
 use Rattle.temp_ir.specs.declared.insn.TempInsn.{TempInsn}
-use Rattle.alloc_model.specs.Contents.{Content, unset}
+use Rattle.alloc_model.specs.Contents.{Content, unset_content}
 use Rattle.alloc_model.specs.Stores.{without, put, put_all}
-use Rattle.alloc_model.specs.Effect.{Holder, Temp, Fixed, Incoming, Outgoing, holder_eq, holders_read, holders_written, is_call, is_emptied, does, takes_turn}
+use Rattle.alloc_model.specs.Effect.{Holder, Temp, Fixed, Incoming, Outgoing, holder_eq, holders_read, holders_written, calls_function, is_emptied, does, takes_turn}
 use Rattle.alloc_model.specs.Temporaries.{Temps}
 use Rattle.alpha_forms.specs.Straight.{Ran, After, Halted, NotStraight, goes_with, runs, PutsContent}
 
@@ -42,17 +42,17 @@ pub put_beside : (d : ℕ) (c : Content) (s : Temps) (h : Holder) → holder_eq 
     put holder_eq (Temp d) c s h ≡ s h
 put_beside d c s h other = ap (λ b. if b then c else s h) other
 
-pub without_plain : (x : TempInsn) → is_call x ≡ false → (s : Temps) (h : Holder) → without (is_emptied x) s h ≡ s h
+pub without_plain : (x : TempInsn) → calls_function x ≡ false → (s : Temps) (h : Holder) → without (is_emptied x) s h ≡ s h
 without_plain x plain s (Temp k) = refl
 without_plain x plain s (Fixed k) = refl
 without_plain x plain s (Incoming k) = refl
-without_plain x plain s (Outgoing k) = ap (λ b. if b then unset else s (Outgoing k)) plain
+without_plain x plain s (Outgoing k) = ap (λ b. if b then unset_content else s (Outgoing k)) plain
 
 -- ---- instructions that write one temporary
 
 pub record WritesOne (x : TempInsn) (d : ℕ) : Type 0 where
   pub turn : takes_turn x ≡ false
-  pub call : is_call x ≡ false
+  pub call : calls_function x ≡ false
   pub written : holders_written x ≡ Temp d ∷ []
 
 pub step_writes : (widest : ℕ) (x : TempInsn) (xs : List TempInsn) (own : ℕ) (s : Temps) (o p : Outer) (d : ℕ) (c : Content) →

@@ -9,10 +9,10 @@ use Rattle.mem_model.specs.declared.value.Value.TheVariants.{Word, Address, Unse
 use Rattle.mem_model.specs.declared.value.MemFault.{MemFault}
 use Rattle.mem_model.specs.declared.value.Cell.{Cell}
 use Rattle.mem_model.specs.Cells.{bytes_of, parts_of, cells_of}
-use Rattle.mem_model.specs.Memory.{Memory, unless, write_fault, put_row, store_at}
+use Rattle.mem_model.specs.Memory.{Memory, fault_or, write_fault, put_row, store_at}
 use Rattle.mem_model.specs.Pointers.{pointer_plus}
 use Rattle.mem_model.specs.World.{Outer}
-use Rattle.alpha_isa.specs.Arithmetic.{fits}
+use Rattle.alpha_isa.specs.Arithmetic.{fits_signed}
 use Rattle.suifvm_ir.specs.declared.types.MemoryType.{MemoryType}
 use Rattle.suifvm_ir.specs.declared.types.MemoryType.TheVariants.{S8, U8, S16, U16, S32, U32, S64, U64, P64}
 use Rattle.vm_meaning.specs.Operations.{memory_integer, access_bytes, is_storable, ok_of, store_through}
@@ -25,7 +25,7 @@ use Rattle.alloc_model.specs.Effect.{Temp, changes, is_emptied}
 use Rattle.alloc_model.specs.Temporaries.{Temps}
 use Rattle.alpha_forms.specs.Straight.{After, goes_with, runs}
 use Rattle.alpha_forms.specs.Registers.{PutsMemory, ComesToMemory}
-use Rattle.alpha_forms.specs.Accesses.{far_items, store_op, near_store, store_by, store_items}
+use Rattle.alpha_forms.specs.Accesses.{far_items, temp_store, near_store, store_by, store_items}
 use Rattle.alpha_forms.specs.Laws.{StoresAreDone}
 use Rattle.alpha_forms.proofs.Runs.{on_after, runs-append, without_plain}
 use Rattle.alpha_forms.proofs.Prepares.{Prepared, nothing_yet}
@@ -37,13 +37,13 @@ puts_cells : (m : Memory) (q : Ptr) (width : ℕ) (w : Value) (cells : List Cell
 unfolding store_at
 puts_cells m q width w cells is n = by_fault (write_fault m q width width)
   where
-    by_fault : (f : Option MemFault) → ok_of (unless f (Ok (put_row m q (cells_of width w)))) ≡ Some n →
+    by_fault : (f : Option MemFault) → ok_of (fault_or f (Ok (put_row m q (cells_of width w)))) ≡ Some n →
         unless_fault f (put_row m q cells) ≡ Some n
     by_fault (Some f) e = absurd (none-some n e)
     by_fault None e = ap (λ cs. Some (put_row m q cs)) (sym is) ∙ e
 
 -- a type stores as many bytes as its operation
-widths : (ty : MemoryType) → access_bytes (memory_integer ty) ≡ store_width (store_op ty)
+widths : (ty : MemoryType) → access_bytes (memory_integer ty) ≡ store_width (temp_store ty)
 widths S8 = refl
 widths U8 = refl
 widths S16 = refl
@@ -54,7 +54,7 @@ widths S64 = refl
 widths U64 = refl
 widths P64 = refl
 
-pointer_width : (ty : MemoryType) (p : Ptr) → is_storable (memory_integer ty) (Address p) ≡ true → store_width (store_op ty) ≡ 8
+pointer_width : (ty : MemoryType) (p : Ptr) → is_storable (memory_integer ty) (Address p) ≡ true → store_width (temp_store ty) ≡ 8
 pointer_width S8 p e = absurd cc
 pointer_width U8 p e = absurd cc
 pointer_width S16 p e = absurd cc
@@ -66,34 +66,34 @@ pointer_width U64 p e = refl
 pointer_width P64 p e = refl
 
 stored_with : (m : Memory) (ty : MemoryType) (q : Ptr) (w : Value) (n : Memory) → is_storable (memory_integer ty) w ≡ true →
-    ok_of (store_at m q (store_width (store_op ty)) w) ≡ Some n →
-    memory_with m (store_width (store_op ty)) (Some q) (stored_cells (store_width (store_op ty)) (Plain w)) ≡ Some n
+    ok_of (store_at m q (store_width (temp_store ty)) w) ≡ Some n →
+    memory_with m (store_width (temp_store ty)) (Some q) (stored_cells (store_width (temp_store ty)) (Plain w)) ≡ Some n
 unfolding cells_of
-stored_with m ty q (Word k) n storable e = puts_cells m q (store_width (store_op ty)) (Word k) (bytes_of (store_width (store_op ty)) k) refl n e
+stored_with m ty q (Word k) n storable e = puts_cells m q (store_width (temp_store ty)) (Word k) (bytes_of (store_width (temp_store ty)) k) refl n e
 stored_with m ty q (Address p) n storable e =
-    ap (λ b. memory_with m (store_width (store_op ty)) (Some q) (when_width (b == 8) (parts_of p))) (pointer_width ty p storable)
-    ∙ puts_cells m q (store_width (store_op ty)) (Address p) (parts_of p) refl n e
+    ap (λ b. memory_with m (store_width (temp_store ty)) (Some q) (when_width (b == 8) (parts_of p))) (pointer_width ty p storable)
+    ∙ puts_cells m q (store_width (temp_store ty)) (Address p) (parts_of p) refl n e
 stored_with m ty q Unset n storable e = absurd cc
 
 module _ (widest own : ℕ) (s : Temps) (o : Outer) (ty : MemoryType) (a : ℕ) (w : Value) (xs : List TempInsn) (c : Content)
     (h : Prepared widest own s o xs c) (p : ℕ) (z : ℤ) (q : Ptr) (value : h.after (Temp a) ≡ Plain w)
     (at : pointer_at o.memory (h.after (Temp p)) z ≡ Some q) where
   store : TempInsn
-  store = Store (store_op ty) (source.Temp a) p z
+  store = Store (temp_store ty) (source.Temp a) p z
 
   store_comes : (n : Memory) → is_storable (memory_integer ty) w ≡ true →
-      ok_of (store_at o.memory q (store_width (store_op ty)) w) ≡ Some n →
+      ok_of (store_at o.memory q (store_width (temp_store ty)) w) ≡ Some n →
       PutsMemory s o n (runs widest (xs ++ near_store ty a p z) own s o)
   store_comes n storable e = record {
-    after = without (is_emptied (Store (store_op ty) (source.Temp a) p z)) h.after;
+    after = without (is_emptied (Store (temp_store ty) (source.Temp a) p z)) h.after;
     goes_on =
         runs-append widest xs (near_store ty a p z) own s o
         ∙ ap (λ r. on_after r (λ t u. runs widest (near_store ty a p z) own t u)) h.ran
-        ∙ ap (λ m. goes_with (Store (store_op ty) (source.Temp a) p z) h.after (changes m o) (λ t u. After t u))
-        (ap (λ k. memory_with o.memory (store_width (store_op ty)) k (stored_cells (store_width (store_op ty)) (h.after (Temp a)))) at
-        ∙ ap (λ k. memory_with o.memory (store_width (store_op ty)) (Some q) (stored_cells (store_width (store_op ty)) k)) value
+        ∙ ap (λ m. goes_with (Store (temp_store ty) (source.Temp a) p z) h.after (changes m o) (λ t u. After t u))
+        (ap (λ k. memory_with o.memory (store_width (temp_store ty)) k (stored_cells (store_width (temp_store ty)) (h.after (Temp a)))) at
+        ∙ ap (λ k. memory_with o.memory (store_width (temp_store ty)) (Some q) (stored_cells (store_width (temp_store ty)) k)) value
         ∙ stored_with o.memory ty q w n storable e);
-    kept = λ t i. without_plain (Store (store_op ty) (source.Temp a) p z) refl h.after (Temp t) ∙ h.kept t i;
+    kept = λ t i. without_plain (Store (temp_store ty) (source.Temp a) p z) refl h.after (Temp t) ∙ h.kept t i;
   }
 
   near_stored : ComesToMemory s o (store_through o.memory (memory_integer ty) (Some (Address q)) w) (runs widest (xs ++ near_store ty a p z) own s o)
@@ -129,4 +129,4 @@ stores_done widest own p a ty plus s o v w of value_of f held value = by_pointer
     by_pointer None e = tt
     by_pointer (Some (Word n)) e = tt
     by_pointer (Some Unset) e = tt
-    by_pointer (Some (Address q)) e = by_fit q e (fits w16 plus)
+    by_pointer (Some (Address q)) e = by_fit q e (fits_signed w16 plus)

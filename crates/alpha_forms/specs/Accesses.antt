@@ -2,7 +2,7 @@
 -- first, as a word, so that the pointer moves by all of it at once.
 use Rattle.std.specs.Prelude.{ℕ, ℤ, pos, List, [], ◌∷◌, ◌++◌, Option, Some, None, if◌then◌else◌}
 use Rattle.std.specs.Int.{w16}
-use Rattle.alpha_isa.specs.Arithmetic.{fits, word_from}
+use Rattle.alpha_isa.specs.Arithmetic.{fits_signed, word_from}
 use Rattle.suifvm_ir.specs.declared.types.MemoryType.{MemoryType}
 use Rattle.suifvm_ir.specs.declared.types.MemoryType.TheVariants.{S8, U8, S16, U16, S32, U32, S64, U64, P64}
 use Rattle.temp_ir.specs.declared.operation.LoadOp.{LoadOp}
@@ -20,7 +20,7 @@ use Rattle.alpha_forms.specs.Constants.{constant_items}
 
 -- a number of bytes, where it is a displacement of 16 bits
 abbrev pub near_part : ℤ → Option ℤ
-near_part plus = if fits w16 plus then Some plus else None
+near_part plus = if fits_signed w16 plus then Some plus else None
 
 -- the pointer that is moved by a number is put into temporary 0
 abbrev pub far_items : (pointer : ℕ) (plus : ℤ) → List TempInsn
@@ -52,19 +52,19 @@ load_by ty d pointer plus None = far_items pointer plus ++ near_load ty d 0 (pos
 abbrev pub load_items : MemoryType → (d pointer : ℕ) (plus : ℤ) → List TempInsn
 load_items ty d pointer plus = load_by ty d pointer plus (near_part plus)
 
-abbrev pub store_op : MemoryType → StoreOp
-store_op S8 = Stb
-store_op U8 = Stb
-store_op S16 = Stw
-store_op U16 = Stw
-store_op S32 = Stl
-store_op U32 = Stl
-store_op S64 = Stq
-store_op U64 = Stq
-store_op P64 = Stq
+abbrev pub temp_store : MemoryType → StoreOp
+temp_store S8 = Stb
+temp_store U8 = Stb
+temp_store S16 = Stw
+temp_store U16 = Stw
+temp_store S32 = Stl
+temp_store U32 = Stl
+temp_store S64 = Stq
+temp_store U64 = Stq
+temp_store P64 = Stq
 
 abbrev pub near_store : MemoryType → (value pointer : ℕ) (plus : ℤ) → List TempInsn
-near_store ty value pointer plus = Store (store_op ty) (source.Temp value) pointer plus ∷ []
+near_store ty value pointer plus = Store (temp_store ty) (source.Temp value) pointer plus ∷ []
 
 abbrev pub store_by : MemoryType → (pointer : ℕ) (plus : ℤ) (value : ℕ) → Option ℤ → List TempInsn
 store_by ty pointer plus value (Some near) = near_store ty value pointer near

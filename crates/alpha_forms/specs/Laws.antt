@@ -4,7 +4,7 @@ use Rattle.std.specs.Int.{w64}
 use Rattle.mem_model.specs.declared.value.Value.{Value}
 use Rattle.mem_model.specs.declared.value.Value.TheVariants.{Word}
 use Rattle.mem_model.specs.World.{Outer}
-use Rattle.alloc_model.specs.Contents.{Plain, word, test_of}
+use Rattle.alloc_model.specs.Contents.{Plain, word_content, branch_test}
 use Rattle.alloc_model.specs.Effect.{Temp}
 use Rattle.alloc_model.specs.Temporaries.{Temps}
 use Rattle.mem_model.specs.Memory.{Memory}
@@ -18,7 +18,7 @@ use Rattle.suifvm_ir.specs.declared.insn.VmBranchOp.{VmBranchOp}
 use Rattle.suifvm_ir.specs.declared.insn.VmObject.{VmObject}
 use Rattle.vm_meaning.specs.declared.answer.Answer.{Answer}
 use Rattle.vm_meaning.specs.declared.answer.Answer.TheVariants.{Gives}
-use Rattle.vm_meaning.specs.Effect.{is_taken}
+use Rattle.vm_meaning.specs.Effect.{is_branch_taken}
 use Rattle.temp_ir.specs.declared.insn.TempInsn.{TempInsn}
 use Rattle.temp_ir.specs.declared.insn.TempInsn.TheVariants.{ObjectAddress}
 use Rattle.vm_meaning.specs.Operations as vm
@@ -28,13 +28,13 @@ use Rattle.alpha_forms.specs.Straight.{runs, PutsContent}
 use Rattle.alpha_forms.specs.Constants.{recipe_items, constant_items}
 use Rattle.alpha_forms.specs.Registers.{IsOfRegister, IsHeldWord, MemoryHasBytes, CodeAnswers, ComesToMemory}
 use Rattle.alpha_forms.specs.Accesses.{load_items, store_items}
-use Rattle.alpha_forms.specs.Operations.{unary_items, binary_items, shift_items, compare_items, branch_op, convert_items}
+use Rattle.alpha_forms.specs.Operations.{unary_items, binary_items, shift_items, compare_items, temp_branch, convert_items}
 
 -- the code of a constant puts the word into the temporary, whatever was held before
 abbrev pub ConstantsAreMade : Type 0
 ConstantsAreMade =
     (widest own d n : ℕ) (s : Temps) (o : Outer) → n < 2 ^ 64
-    → PutsContent widest (constant_items d n) own s o d (word n)
+    → PutsContent widest (constant_items d n) own s o d (word_content n)
 
 -- a recipe has as many instructions as its length says, and a constant has five at most
 abbrev pub RecipesHaveLengths : Type 0
@@ -59,7 +59,7 @@ AddressesAreLoaded =
 abbrev pub BranchesAreTaken : Type 0
 BranchesAreTaken =
     (op : VmBranchOp) (ty : VmType) (m : Memory) (v : Value) (b : Bool) → vm.value_holds m ty v ≡ Some b →
-    test_of (branch_op op) m (Plain v) ≡ Some (is_taken op b)
+    branch_test (temp_branch op) m (Plain v) ≡ Some (is_branch_taken op b)
 
 -- the code of a load puts what the load answers, and that of a store leaves the memory that the store leaves, wherever
 -- they have a meaning; v is what the register of the pointer holds, and w that of the value

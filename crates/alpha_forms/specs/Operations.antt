@@ -32,15 +32,15 @@ use Rattle.temp_ir.specs.declared.insn.TempInsn.TheVariants.{Operate, Extend, To
 abbrev pub on_two : Operation → (d a b : ℕ) → TempInsn
 on_two op d a b = Operate op d (source.Temp a) (operand.Temp b)
 
-abbrev pub on_number : Operation → (d a number : ℕ) → TempInsn
-on_number op d a number = Operate op d (source.Temp a) (operand.Literal number)
+abbrev pub on_literal : Operation → (d a number : ℕ) → TempInsn
+on_literal op d a number = Operate op d (source.Temp a) (operand.Literal number)
 
 abbrev pub on_zero : Operation → (d a : ℕ) → TempInsn
 on_zero op d a = Operate op d source.Zero (operand.Temp a)
 
 -- the low 32 bits of a temporary with their sign above them
 abbrev pub extended_long : (d a : ℕ) → TempInsn
-extended_long d a = on_number o.Addl d a 0
+extended_long d a = on_literal o.Addl d a 0
 
 -- a type has 4 bytes
 abbrev pub is_narrow : VmType → Bool
@@ -117,7 +117,7 @@ left_items true d a b = on_two o.Sll 0 a b ∷ extended_long d 0 ∷ []
 left_items false d a b = on_two o.Sll d a b ∷ []
 
 abbrev pub logical_right_items : (narrow : Bool) → (d a b : ℕ) → List TempInsn
-logical_right_items true d a b = on_number o.Zapnot 0 a 15 ∷ on_two o.Srl 0 0 b ∷ extended_long d 0 ∷ []
+logical_right_items true d a b = on_literal o.Zapnot 0 a 15 ∷ on_two o.Srl 0 0 b ∷ extended_long d 0 ∷ []
 logical_right_items false d a b = on_two o.Srl d a b ∷ []
 
 abbrev pub shift_items : ShiftOp → VmType → (d a b : ℕ) → List TempInsn
@@ -144,22 +144,22 @@ less_or_equal_op false = o.Cmple
 
 abbrev pub compare_items : CompareOp → VmType → (d a b : ℕ) → List TempInsn
 compare_items Equal ty d a b = on_two o.Cmpeq d a b ∷ []
-compare_items NotEqual ty d a b = on_two o.Cmpeq 0 a b ∷ on_number o.Cmpeq d 0 0 ∷ []
+compare_items NotEqual ty d a b = on_two o.Cmpeq 0 a b ∷ on_literal o.Cmpeq d 0 0 ∷ []
 compare_items Less ty d a b = on_two (less_op (is_unsigned ty)) d a b ∷ []
 compare_items LessOrEqual ty d a b = on_two (less_or_equal_op (is_unsigned ty)) d a b ∷ []
 
 -- ---- branches: Bne is taken where a value is neither zero nor null, and Beq where it is
 
-abbrev pub branch_op : vm.VmBranchOp → TempBranchOp
-branch_op IfTrue = Bne
-branch_op IfFalse = Beq
+abbrev pub temp_branch : vm.VmBranchOp → TempBranchOp
+temp_branch IfTrue = Bne
+temp_branch IfFalse = Beq
 
 -- ---- conversions
 
 -- the low 32 bits, with their sign above them where the result has 4 bytes, and zeros where it has 8
 abbrev pub from_unsigned_item : (narrow : Bool) → (d a : ℕ) → TempInsn
 from_unsigned_item true d a = extended_long d a
-from_unsigned_item false d a = on_number o.Zapnot d a 15
+from_unsigned_item false d a = on_literal o.Zapnot d a 15
 
 abbrev pub from_wide_item : (narrow : Bool) → (d a : ℕ) → TempInsn
 from_wide_item true d a = extended_long d a
@@ -167,9 +167,9 @@ from_wide_item false d a = on_zero o.Bis d a
 
 abbrev pub convert_item : MemoryType → VmType → (d a : ℕ) → TempInsn
 convert_item m.S8 to d a = Extend Sextb d (operand.Temp a)
-convert_item m.U8 to d a = on_number o.Zapnot d a 1
+convert_item m.U8 to d a = on_literal o.Zapnot d a 1
 convert_item m.S16 to d a = Extend Sextw d (operand.Temp a)
-convert_item m.U16 to d a = on_number o.Zapnot d a 3
+convert_item m.U16 to d a = on_literal o.Zapnot d a 3
 convert_item m.S32 to d a = extended_long d a
 convert_item m.U32 to d a = from_unsigned_item (is_narrow to) d a
 convert_item m.S64 to d a = from_wide_item (is_narrow to) d a

@@ -128,7 +128,7 @@ pub fn put_load(
 
 /// The operation of a store.
 fn store_op(ty: MemoryType) -> StoreOp
-    ensures { result ≡ accesses.store_op ty }
+    ensures { result ≡ accesses.temp_store ty }
 {
     match ty {
         MemoryType::S8 => StoreOp::Stb,

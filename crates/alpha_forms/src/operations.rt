@@ -27,7 +27,7 @@ pub(crate) fn on_two(op: Operation, destination: u32, left: u32, right: u32) -> 
 
 /// An operation on a temporary and a number.
 fn on_number(op: Operation, destination: u32, left: u32, number: u8) -> TempInsn
-    ensures { result ≡ operations.on_number op destination left number }
+    ensures { result ≡ operations.on_literal op destination left number }
 {
     TempInsn::Operate {
         op,
@@ -320,7 +320,7 @@ pub fn put_compare(
 
 /// The operation of a branch.
 pub fn branch_op(op: VmBranchOp) -> temp_ir::operation::TempBranchOp
-    ensures { result ≡ operations.branch_op op }
+    ensures { result ≡ operations.temp_branch op }
 {
     match op {
         VmBranchOp::IfTrue => temp_ir::operation::TempBranchOp::Bne,

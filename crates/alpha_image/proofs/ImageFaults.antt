@@ -7,9 +7,9 @@ use Rattle.std.proofs.lemmas.Bool.{ltb-false, eqb-true}
 use Rattle.std.proofs.Math.Seq.{take-add}
 use Rattle.std.specs.Prelude.{flat_map}
 use Rattle.alpha_isa.specs.Program.{Program, IsLawful, most_bytes}
-use Rattle.alpha_isa.specs.ImageFormat.{mark, number, spelling_with, image_spelling, version_one_spelling, IsImage}
+use Rattle.alpha_isa.specs.ImageFormat.{mark, four_bytes, spelling_with, image_spelling, version_one_spelling, IsImage}
 use Rattle.std.specs.Option.{option_eq}
-use Rattle.alpha_image.specs.ImageFault.{number_at, version_of, word_count, byte_count, entry_of, zeros_of, has_zeros_field, text_offset, first_of, differs_at, field_fault, mark_fault, version_fault, words_fault, bytes_fault, entry_fault, zeros_fault, version_part_fault, size_part_fault, length_fault, header_fault, image_fault}
+use Rattle.alpha_image.specs.ImageFault.{number_at, version_of, word_count, byte_count, entry_of, zeros_of, has_zeros_field, text_offset, first_place, differs_at, field_fault, mark_fault, version_fault, words_fault, bytes_fault, entry_fault, zeros_fault, version_part_fault, size_part_fault, length_fault, header_fault, image_fault}
 
 drop-nil : {A : Type 0} (k : ℕ) → ◌≡◌ {A = List A} (drop k []) []
 drop-nil zero = refl
@@ -46,27 +46,27 @@ bytes-take (suc n) (x ∷ xs) h zero = h zero
 bytes-take (suc n) (x ∷ xs) h (suc i) = bytes-take n xs (λ k. h (suc k)) i
 
 -- four bytes are spelled by their number
-number-number_at : (bytes : List ℕ) (at : ℕ) → AreBytes bytes → at + 4 ≤ length bytes → number (number_at bytes at) ≡ take 4 (drop at bytes)
+number-number_at : (bytes : List ℕ) (at : ℕ) → AreBytes bytes → at + 4 ≤ length bytes → four_bytes (number_at bytes at) ≡ take 4 (drop at bytes)
 number-number_at bytes at h within =
     le_bytes_4 (take 4 (drop at bytes)) (number_at bytes at) (simp (length-take, length-drop) (omega arith)) (bytes-take 4 (drop at bytes) (bytes-drop at bytes h)) refl
 
-field_split : (bytes : List ℕ) (at : ℕ) → AreBytes bytes → at + 4 ≤ length bytes → drop at bytes ≡ number (number_at bytes at) ++ drop (at + 4) bytes
+field_split : (bytes : List ℕ) (at : ℕ) → AreBytes bytes → at + 4 ≤ length bytes → drop at bytes ≡ four_bytes (number_at bytes at) ++ drop (at + 4) bytes
 field_split bytes at h within =
     sym (take-append-drop 4 (drop at bytes))
     ∙ ap (λ front. front ++ drop 4 (drop at bytes)) (sym (number-number_at bytes at h within))
-    ∙ ap (λ rest. number (number_at bytes at) ++ rest) (drop-drop 4 at bytes)
+    ∙ ap (λ rest. four_bytes (number_at bytes at) ++ rest) (drop-drop 4 at bytes)
 
 -- one number more is read
-pub more_numbers : (bytes words : List ℕ) (start i n : ℕ) → AreBytes bytes → start + 4 * i + 4 ≤ length bytes → flat_map number words ≡ take (4 * i) (drop start bytes) → n ≡ number_at bytes (start + 4 * i) → flat_map number (words ++ n ∷ []) ≡ take (4 * (i + 1)) (drop start bytes)
+pub more_numbers : (bytes words : List ℕ) (start i n : ℕ) → AreBytes bytes → start + 4 * i + 4 ≤ length bytes → flat_map four_bytes words ≡ take (4 * i) (drop start bytes) → n ≡ number_at bytes (start + 4 * i) → flat_map four_bytes (words ++ n ∷ []) ≡ take (4 * (i + 1)) (drop start bytes)
 more_numbers bytes words start i n h within so_far is =
     let longer : 4 * (i + 1) ≡ 4 * i + 4 = omega arith in
-    flat_map-append number words (n ∷ [])
-    ∙ ap (λ front. front ++ (number n ++ [])) so_far
-    ∙ ap (λ last. take (4 * i) (drop start bytes) ++ last) (append-nil (number n) ∙ ap number is ∙ number-number_at bytes (start + 4 * i) h within ∙ ap (take 4) (sym (drop-drop (4 * i) start bytes)))
+    flat_map-append four_bytes words (n ∷ [])
+    ∙ ap (λ front. front ++ (four_bytes n ++ [])) so_far
+    ∙ ap (λ last. take (4 * i) (drop start bytes) ++ last) (append-nil (four_bytes n) ∙ ap four_bytes is ∙ number-number_at bytes (start + 4 * i) h within ∙ ap (take 4) (sym (drop-drop (4 * i) start bytes)))
     ∙ sym (take-add (4 * i) 4 (drop start bytes))
     ∙ ap (λ k. take k (drop start bytes)) (sym longer)
 
-pub none_first : (a b : Option ℕ) → first_of a b ≡ None → (a ≡ None) × (b ≡ None)
+pub none_first : (a b : Option ℕ) → first_place a b ≡ None → (a ≡ None) × (b ≡ None)
 none_first None b e = (refl, e)
 none_first (Some x) b e = let clash : ⊥ = cc in absurd clash
 
@@ -97,8 +97,8 @@ record AreFields (bytes : List ℕ) : Type 0 where
 fields_are : (bytes : List ℕ) → header_fault bytes ≡ None → AreFields bytes
 unfolding header_fault
 fields_are bytes e =
-    let behind_bytes : Option ℕ = first_of (entry_fault bytes) (zeros_fault bytes) in
-    let behind_words : Option ℕ = first_of (bytes_fault bytes) behind_bytes in
+    let behind_bytes : Option ℕ = first_place (entry_fault bytes) (zeros_fault bytes) in
+    let behind_words : Option ℕ = first_place (bytes_fault bytes) behind_bytes in
     let parts = none_first (version_part_fault bytes) (size_part_fault bytes) e in
     let front = none_first (mark_fault bytes) (version_fault bytes) parts.0 in
     let words = none_first (words_fault bytes) behind_words parts.1 in
@@ -114,18 +114,18 @@ fields_are bytes e =
     }
 
 -- what they spell
-header_is : (bytes : List ℕ) → AreBytes bytes → AreFields bytes → bytes ≡ mark ++ (number (version_of bytes) ++ (number (word_count bytes) ++ (number (byte_count bytes) ++ (number (entry_of bytes) ++ drop 20 bytes))))
+header_is : (bytes : List ℕ) → AreBytes bytes → AreFields bytes → bytes ≡ mark ++ (four_bytes (version_of bytes) ++ (four_bytes (word_count bytes) ++ (four_bytes (byte_count bytes) ++ (four_bytes (entry_of bytes) ++ drop 20 bytes))))
 header_is bytes h fields =
     let whole : 20 ≤ length bytes = fields.whole in
     fields.mark
     ∙ ap (λ rest. mark ++ rest) (field_split bytes 4 h (omega arith)
-    ∙ ap (λ rest. number (version_of bytes) ++ rest) (field_split bytes 8 h (omega arith)
-    ∙ ap (λ rest. number (word_count bytes) ++ rest) (field_split bytes 12 h (omega arith)
-    ∙ ap (λ rest. number (byte_count bytes) ++ rest) (field_split bytes 16 h (omega arith)))))
+    ∙ ap (λ rest. four_bytes (version_of bytes) ++ rest) (field_split bytes 8 h (omega arith)
+    ∙ ap (λ rest. four_bytes (word_count bytes) ++ rest) (field_split bytes 12 h (omega arith)
+    ∙ ap (λ rest. four_bytes (byte_count bytes) ++ rest) (field_split bytes 16 h (omega arith)))))
 
 -- an image that was read of bytes, whose text begins at t
 pub record WasRead (bytes : List ℕ) (t : ℕ) (p : Program) : Type 0 where
-  pub words : flat_map number p.words ≡ take (4 * word_count bytes) (drop t bytes)
+  pub words : flat_map four_bytes p.words ≡ take (4 * word_count bytes) (drop t bytes)
   pub rest : p.bytes ≡ drop (t + 4 * word_count bytes) bytes
   pub word_count : length p.words ≡ word_count bytes
   pub byte_count : length p.bytes ≡ byte_count bytes
@@ -133,27 +133,27 @@ pub record WasRead (bytes : List ℕ) (t : ℕ) (p : Program) : Type 0 where
 
 -- The image whose words and bytes stand behind right fields, for the fields that its version has besides.
 spelled_as : (bytes fields : List ℕ) (version t : ℕ) (p : Program) → WasRead bytes t p
-    → bytes ≡ mark ++ (number version ++ (number (word_count bytes) ++ (number (byte_count bytes) ++ (number (entry_of bytes) ++ (fields ++ drop t bytes)))))
+    → bytes ≡ mark ++ (four_bytes version ++ (four_bytes (word_count bytes) ++ (four_bytes (byte_count bytes) ++ (four_bytes (entry_of bytes) ++ (fields ++ drop t bytes)))))
     → bytes ≡ spelling_with version fields p
 spelled_as bytes fields version t p r e =
-    let behind : drop t bytes ≡ flat_map number p.words ++ p.bytes =
+    let behind : drop t bytes ≡ flat_map four_bytes p.words ++ p.bytes =
     sym (take-append-drop (4 * word_count bytes) (drop t bytes))
     ∙ ap (λ front. front ++ drop (4 * word_count bytes) (drop t bytes)) (sym r.words)
-    ∙ ap (λ rest. flat_map number p.words ++ rest) (drop-drop (4 * word_count bytes) t bytes ∙ sym r.rest) in
+    ∙ ap (λ rest. flat_map four_bytes p.words ++ rest) (drop-drop (4 * word_count bytes) t bytes ∙ sym r.rest) in
     e
-    ∙ ap (λ n. mark ++ (number version ++ (number n ++ (number (byte_count bytes) ++ (number (entry_of bytes) ++ (fields ++ drop t bytes)))))) (sym r.word_count)
-    ∙ ap (λ n. mark ++ (number version ++ (number (length p.words) ++ (number n ++ (number (entry_of bytes) ++ (fields ++ drop t bytes)))))) (sym r.byte_count)
-    ∙ ap (λ n. mark ++ (number version ++ (number (length p.words) ++ (number (length p.bytes) ++ (number n ++ (fields ++ drop t bytes)))))) (sym r.entry)
-    ∙ ap (λ rest. mark ++ (number version ++ (number (length p.words) ++ (number (length p.bytes) ++ (number p.entry ++ (fields ++ rest)))))) behind
+    ∙ ap (λ n. mark ++ (four_bytes version ++ (four_bytes n ++ (four_bytes (byte_count bytes) ++ (four_bytes (entry_of bytes) ++ (fields ++ drop t bytes)))))) (sym r.word_count)
+    ∙ ap (λ n. mark ++ (four_bytes version ++ (four_bytes (length p.words) ++ (four_bytes n ++ (four_bytes (entry_of bytes) ++ (fields ++ drop t bytes)))))) (sym r.byte_count)
+    ∙ ap (λ n. mark ++ (four_bytes version ++ (four_bytes (length p.words) ++ (four_bytes (length p.bytes) ++ (four_bytes n ++ (fields ++ drop t bytes)))))) (sym r.entry)
+    ∙ ap (λ rest. mark ++ (four_bytes version ++ (four_bytes (length p.words) ++ (four_bytes (length p.bytes) ++ (four_bytes p.entry ++ (fields ++ rest)))))) behind
 
 with_version : (bytes : List ℕ) (version : ℕ) (rest : List ℕ) → version_of bytes ≡ version
-    → bytes ≡ mark ++ (number (version_of bytes) ++ (number (word_count bytes) ++ (number (byte_count bytes) ++ (number (entry_of bytes) ++ drop 20 bytes))))
+    → bytes ≡ mark ++ (four_bytes (version_of bytes) ++ (four_bytes (word_count bytes) ++ (four_bytes (byte_count bytes) ++ (four_bytes (entry_of bytes) ++ drop 20 bytes))))
     → drop 20 bytes ≡ rest
-    → bytes ≡ mark ++ (number version ++ (number (word_count bytes) ++ (number (byte_count bytes) ++ (number (entry_of bytes) ++ rest))))
+    → bytes ≡ mark ++ (four_bytes version ++ (four_bytes (word_count bytes) ++ (four_bytes (byte_count bytes) ++ (four_bytes (entry_of bytes) ++ rest))))
 with_version bytes version rest is header behind =
     header
-    ∙ ap (λ n. mark ++ (number n ++ (number (word_count bytes) ++ (number (byte_count bytes) ++ (number (entry_of bytes) ++ drop 20 bytes))))) is
-    ∙ ap (λ b. mark ++ (number version ++ (number (word_count bytes) ++ (number (byte_count bytes) ++ (number (entry_of bytes) ++ b))))) behind
+    ∙ ap (λ n. mark ++ (four_bytes n ++ (four_bytes (word_count bytes) ++ (four_bytes (byte_count bytes) ++ (four_bytes (entry_of bytes) ++ drop 20 bytes))))) is
+    ∙ ap (λ b. mark ++ (four_bytes version ++ (four_bytes (word_count bytes) ++ (four_bytes (byte_count bytes) ++ (four_bytes (entry_of bytes) ++ b))))) behind
 
 -- a version with a field for the zeros is 2, and the field is whole; one without is 1
 second_one : (a : Bool) → a || false ≡ true → a ≡ true
@@ -172,9 +172,9 @@ unfolding image_spelling
 spelled_two bytes p h fields has zeros r =
     let whole : 24 ≤ length bytes = zeros_whole bytes has fields.zeros in
     let is : number_at bytes 20 ≡ p.zeros = sym (zeros ∙ ap (λ b. cond b (number_at bytes 20) 0) has) in
-    spelled_as bytes (number p.zeros) 2 24 p r
-    (with_version bytes 2 (number p.zeros ++ drop 24 bytes) (eqb-true (version_of bytes) 2 has) (header_is bytes h fields)
-    (field_split bytes 20 h whole ∙ ap (λ n. number n ++ drop 24 bytes) is))
+    spelled_as bytes (four_bytes p.zeros) 2 24 p r
+    (with_version bytes 2 (four_bytes p.zeros ++ drop 24 bytes) (eqb-true (version_of bytes) 2 has) (header_is bytes h fields)
+    (field_split bytes 20 h whole ∙ ap (λ n. four_bytes n ++ drop 24 bytes) is))
 
 spelled_one : (bytes : List ℕ) (p : Program) → AreBytes bytes → AreFields bytes → has_zeros_field bytes ≡ false → WasRead bytes 20 p → bytes ≡ version_one_spelling p
 unfolding version_one_spelling
@@ -196,7 +196,7 @@ found bytes p h e zeros r lawful = record {
 
 -- the parts of an image as they were read
 pub was_read : (bytes words rest : List ℕ) (w n entry z t : ℕ) → w ≡ word_count bytes → n ≡ byte_count bytes → entry ≡ entry_of bytes → t ≡ text_offset bytes
-    → length bytes ≡ t + 4 * w + n → flat_map number words ≡ take (4 * w) (drop t bytes) → length words ≡ w → rest ≡ drop (t + 4 * w) bytes
+    → length bytes ≡ t + 4 * w + n → flat_map four_bytes words ≡ take (4 * w) (drop t bytes) → length words ≡ w → rest ≡ drop (t + 4 * w) bytes
     → WasRead bytes (text_offset bytes) (record { words = words; bytes = rest; zeros = z; entry = entry })
 was_read bytes words rest w n entry z t w_is n_is entry_is t_is due spelled_words count rest_is =
     let size : length rest ≡ n = ap length rest_is ∙ simp length-drop (omega arith) in
@@ -211,4 +211,4 @@ was_read bytes words rest w n entry z t w_is n_is entry_is t_is due spelled_word
 -- behind right fields the length alone decides
 pub image_fault-length : (bytes : List ℕ) (fault : Option ℕ) → header_fault bytes ≡ None → length_fault bytes ≡ fault → image_fault bytes ≡ fault
 unfolding image_fault
-image_fault-length bytes fault header e = ap (λ h. first_of h (length_fault bytes)) header ∙ e
+image_fault-length bytes fault header e = ap (λ h. first_place h (length_fault bytes)) header ∙ e

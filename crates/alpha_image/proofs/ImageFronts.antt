@@ -6,7 +6,7 @@ use Rattle.std.specs.Int.{w32, from_le_bytes}
 use Rattle.alpha_isa.specs.Program.{most_words, most_bytes}
 use Rattle.alpha_isa.specs.ImageFormat.{mark}
 use Rattle.alpha_image.specs.Limits.{most_image}
-use Rattle.alpha_image.specs.ImageFault.{number_at, version_of, word_count, byte_count, entry_of, zeros_of, has_zeros_field, text_offset, due_length, first_of, differs_at, field_fault, mark_fault, version_fault, words_fault, bytes_fault, entry_fault, zeros_fault, version_part_fault, size_part_fault, length_fault, header_fault, image_fault}
+use Rattle.alpha_image.specs.ImageFault.{number_at, version_of, word_count, byte_count, entry_of, zeros_of, has_zeros_field, text_offset, due_length, first_place, differs_at, field_fault, mark_fault, version_fault, words_fault, bytes_fault, entry_fault, zeros_fault, version_part_fault, size_part_fault, length_fault, header_fault, image_fault}
 use Rattle.alpha_image.proofs.ImageFaults.{field_is, none_first}
 
 -- one more byte than the longest image has
@@ -61,8 +61,8 @@ zeros_fault_take bytes long =
     ap (λ b. cond b (field_fault (take limit bytes) 20 front) None) (has_take bytes)
     ∙ ap (λ o. cond (has_zeros_field bytes) o None) (field_take bytes 20 front whole (omega arith) long same)
 
-both_same : (a a' b b' : Option ℕ) → a ≡ a' → b ≡ b' → first_of a b ≡ first_of a' b'
-both_same a a' b b' p q = ap (λ x. first_of x b) p ∙ ap (λ y. first_of a' y) q
+both_same : (a a' b b' : Option ℕ) → a ≡ a' → b ≡ b' → first_place a b ≡ first_place a' b'
+both_same a a' b b' p q = ap (λ x. first_place x b) p ∙ ap (λ y. first_place a' y) q
 
 header_take : (bytes : List ℕ) → limit ≤ length bytes → header_fault (take limit bytes) ≡ header_fault bytes
 unfolding header_fault
@@ -88,8 +88,8 @@ second_true false b e = let clash : ⊥ = cc in absurd clash
 few : (bytes : List ℕ) → header_fault bytes ≡ None → (word_count bytes ≤ most_words) × (byte_count bytes ≤ most_bytes)
 unfolding header_fault
 few bytes e =
-    let behind_bytes : Option ℕ = first_of (entry_fault bytes) (zeros_fault bytes) in
-    let behind_words : Option ℕ = first_of (bytes_fault bytes) behind_bytes in
+    let behind_bytes : Option ℕ = first_place (entry_fault bytes) (zeros_fault bytes) in
+    let behind_words : Option ℕ = first_place (bytes_fault bytes) behind_bytes in
     let parts = none_first (version_part_fault bytes) (size_part_fault bytes) e in
     let c = none_first (words_fault bytes) behind_words parts.1 in
     let d = none_first (bytes_fault bytes) behind_bytes c.1 in
@@ -112,7 +112,7 @@ too_many bytes due e long =
 by_header : (bytes : List ℕ) → limit ≤ length bytes → (header : Option ℕ) → header_fault bytes ≡ header → image_fault (take limit bytes) ≡ image_fault bytes
 unfolding image_fault
 by_header bytes long (Some at) e =
-    ap (λ h. first_of h (length_fault (take limit bytes))) (header_take bytes long ∙ e) ∙ sym (ap (λ h. first_of h (length_fault bytes)) e)
+    ap (λ h. first_place h (length_fault (take limit bytes))) (header_take bytes long ∙ e) ∙ sym (ap (λ h. first_place h (length_fault bytes)) e)
 by_header bytes long None e =
     let bounds = few bytes e in
     let text : text_offset bytes ≤ 24 = text_within (has_zeros_field bytes) in
@@ -122,10 +122,10 @@ by_header bytes long None e =
     ∙ ap (λ n. text_offset bytes + 4 * word_count bytes + n) (count_take bytes) in
     let short : due_length bytes < limit = omega (arith, bounds.0, bounds.1, text) in
     let front : due_length bytes < length (take limit bytes) = simp length-take (omega (arith, short)) in
-    ap (λ h. first_of h (length_fault (take limit bytes))) (header_take bytes long ∙ e)
+    ap (λ h. first_place h (length_fault (take limit bytes))) (header_take bytes long ∙ e)
     ∙ too_many (take limit bytes) (due_length bytes) due front
     ∙ sym (too_many bytes (due_length bytes) refl (omega (arith, short)))
-    ∙ sym (ap (λ h. first_of h (length_fault bytes)) e)
+    ∙ sym (ap (λ h. first_place h (length_fault bytes)) e)
 
 pub front_fault : (bytes : List ℕ) → limit ≤ length bytes → image_fault (take limit bytes) ≡ image_fault bytes
 front_fault bytes long = by_header bytes long (header_fault bytes) refl

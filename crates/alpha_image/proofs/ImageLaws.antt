@@ -5,23 +5,23 @@ use Rattle.std.proofs.lemmas.Bool.{le-ltb, lt-ltb, le-leb}
 use Rattle.std.specs.Prelude.{flat_map}
 use Rattle.std.specs.Int.{w32, from_le_bytes}
 use Rattle.alpha_isa.specs.Program.{Program, IsLawful, most_bytes}
-use Rattle.alpha_isa.specs.ImageFormat.{number, image_spelling, version_one_spelling, IsImage}
+use Rattle.alpha_isa.specs.ImageFormat.{four_bytes, image_spelling, version_one_spelling, IsImage}
 use Rattle.alpha_image.specs.Limits.{most_image}
-use Rattle.alpha_image.specs.ImageFault.{version_of, word_count, byte_count, entry_of, zeros_of, has_zeros_field, text_offset, due_length, first_of, field_fault, mark_fault, version_fault, words_fault, bytes_fault, entry_fault, zeros_fault, version_part_fault, size_part_fault, length_fault, header_fault, image_fault}
+use Rattle.alpha_image.specs.ImageFault.{version_of, word_count, byte_count, entry_of, zeros_of, has_zeros_field, text_offset, due_length, first_place, field_fault, mark_fault, version_fault, words_fault, bytes_fault, entry_fault, zeros_fault, version_part_fault, size_part_fault, length_fault, header_fault, image_fault}
 
 abbrev AreWords : List ℕ → Type 0
 AreWords words = (i : ℕ) → get_or words i 0 < 2 ^ 32
 
 -- a number of 32 bits is read again
-again : (n : ℕ) → n < 2 ^ 32 → from_le_bytes w32 (number n) ≡ n
+again : (n : ℕ) → n < 2 ^ 32 → from_le_bytes w32 (four_bytes n) ≡ n
 again n small = from_le_bytes-to_le_bytes_4 n small
 
-length-numbers : (words : List ℕ) → length (flat_map number words) ≡ 4 * length words
+length-numbers : (words : List ℕ) → length (flat_map four_bytes words) ≡ 4 * length words
 length-numbers [] = refl
 length-numbers (w ∷ ws) = ap (λ n. suc (suc (suc (suc n)))) (length-numbers ws) ∙ omega arith
 
-length-behind : (p : Program) → length (flat_map number p.words ++ p.bytes) ≡ 4 * length p.words + length p.bytes
-length-behind p = length-append (flat_map number p.words) p.bytes ∙ ap (λ n. n + length p.bytes) (length-numbers p.words)
+length-behind : (p : Program) → length (flat_map four_bytes p.words ++ p.bytes) ≡ 4 * length p.words + length p.bytes
+length-behind p = length-append (flat_map four_bytes p.words) p.bytes ∙ ap (λ n. n + length p.bytes) (length-numbers p.words)
 
 -- the fields of an image's bytes, whose text begins at t
 record HasFields (bytes : List ℕ) (p : Program) (t : ℕ) : Type 0 where
@@ -35,7 +35,7 @@ record HasFields (bytes : List ℕ) (p : Program) (t : ℕ) : Type 0 where
   pub least : 20 ≤ t
   pub most : t ≤ 24
   pub size : length bytes ≡ t + 4 * length p.words + length p.bytes
-  pub behind : drop t bytes ≡ flat_map number p.words ++ p.bytes
+  pub behind : drop t bytes ≡ flat_map four_bytes p.words ++ p.bytes
 
 fields_two : (p : Program) → IsLawful p → HasFields (image_spelling p) p 24
 unfolding image_spelling
@@ -80,8 +80,8 @@ no_field_fault bytes at is_right whole right =
     let long : nat_lt (length bytes) (at + 4) ≡ false = le-ltb (length bytes) (at + 4) whole in
     rw (long, right) refl
 
-both_none : (a b : Option ℕ) → a ≡ None → b ≡ None → first_of a b ≡ None
-both_none a b e f = ap (λ x. first_of x b) e ∙ f
+both_none : (a b : Option ℕ) → a ≡ None → b ≡ None → first_place a b ≡ None
+both_none a b e f = ap (λ x. first_place x b) e ∙ f
 
 no_length_fault : (bytes : List ℕ) → length bytes ≡ due_length bytes → length_fault bytes ≡ None
 no_length_fault bytes e =
@@ -106,8 +106,8 @@ no_fields_fault : (bytes : List ℕ) (p : Program) (t : ℕ) → IsLawful p → 
 unfolding image_fault header_fault
 no_fields_fault bytes p t lawful f =
     let long : 20 ≤ length bytes = omega (arith, f.size, f.least) in
-    let behind_bytes : Option ℕ = first_of (entry_fault bytes) (zeros_fault bytes) in
-    let behind_words : Option ℕ = first_of (bytes_fault bytes) behind_bytes in
+    let behind_bytes : Option ℕ = first_place (entry_fault bytes) (zeros_fault bytes) in
+    let behind_words : Option ℕ = first_place (bytes_fault bytes) behind_bytes in
     both_none (header_fault bytes) (length_fault bytes)
     (both_none (version_part_fault bytes) (size_part_fault bytes)
     (both_none (mark_fault bytes) (version_fault bytes) f.mark (no_field_fault bytes 4 _ (omega arith) f.version))
@@ -124,13 +124,13 @@ pub longest : (bytes : List ℕ) (p : Program) → IsImage bytes p → length by
 longest bytes p is = let f = fields_of bytes p is in omega (arith, f.1.size, f.1.most, is.lawful.words, is.lawful.bytes)
 
 -- lists of words with the same bytes, and what follows them
-words_once : (ws vs r s : List ℕ) → AreWords ws → AreWords vs → length ws ≡ length vs → flat_map number ws ++ r ≡ flat_map number vs ++ s → (ws ≡ vs) × (r ≡ s)
+words_once : (ws vs r s : List ℕ) → AreWords ws → AreWords vs → length ws ≡ length vs → flat_map four_bytes ws ++ r ≡ flat_map four_bytes vs ++ s → (ws ≡ vs) × (r ≡ s)
 words_once [] [] r s a b n e = (refl, e)
 words_once [] (v ∷ vs) r s a b n e = absurd (omega arith)
 words_once (w ∷ ws) [] r s a b n e = absurd (omega arith)
 words_once (w ∷ ws) (v ∷ vs) r s a b n e =
     let same : w ≡ v = sym (again w (a 0)) ∙ ap (λ bytes. from_le_bytes w32 (take 4 bytes)) e ∙ again v (b 0) in
-    let rest : flat_map number ws ++ r ≡ flat_map number vs ++ s = ap (drop 4) e in
+    let rest : flat_map four_bytes ws ++ r ≡ flat_map four_bytes vs ++ s = ap (drop 4) e in
     let tail = words_once ws vs r s (λ i. a (suc i)) (λ i. b (suc i)) (omega arith) rest in
     (ap (λ x. x ∷ ws) same ∙ ap (λ xs. v ∷ xs) tail.0, tail.1)
 
@@ -139,7 +139,7 @@ same_fields bytes p q t u is_p is_q f g =
     let counts : length p.words ≡ length q.words = sym f.words ∙ g.words in
     let entries : p.entry ≡ q.entry = sym f.entry ∙ g.entry in
     let zeros : p.zeros ≡ q.zeros = sym f.zeros ∙ g.zeros in
-    let rest : flat_map number p.words ++ p.bytes ≡ flat_map number q.words ++ q.bytes = sym f.behind ∙ ap (λ k. drop k bytes) (sym f.text ∙ g.text) ∙ g.behind in
+    let rest : flat_map four_bytes p.words ++ p.bytes ≡ flat_map four_bytes q.words ++ q.bytes = sym f.behind ∙ ap (λ k. drop k bytes) (sym f.text ∙ g.text) ∙ g.behind in
     let parts = words_once p.words q.words p.bytes q.bytes is_p.are_words is_q.are_words counts rest in
     ap (λ (words : List ℕ). let r : Program = record { words = words; bytes = p.bytes; zeros = p.zeros; entry = p.entry } in r) parts.0
     ∙ ap (λ (rest : List ℕ). let r : Program = record { words = q.words; bytes = rest; zeros = p.zeros; entry = p.entry } in r) parts.1

@@ -38,9 +38,9 @@ abbrev pub due_length : List ℕ → ℕ
 due_length bytes = text_offset bytes + 4 * word_count bytes + byte_count bytes
 
 -- a place, or else the next one
-abbrev pub first_of : Option ℕ → Option ℕ → Option ℕ
-first_of None later = later
-first_of (Some at) later = Some at
+abbrev pub first_place : Option ℕ → Option ℕ → Option ℕ
+first_place None later = later
+first_place (Some at) later = Some at
 
 -- the first byte that differs from those that are due, from number i on
 abbrev pub differs_at : List ℕ → List ℕ → ℕ → Option ℕ
@@ -75,14 +75,15 @@ zeros_fault bytes =
 
 -- what says that the bytes are an image and of which version, then what says how large it is
 abbrev pub version_part_fault : List ℕ → Option ℕ
-version_part_fault bytes = first_of (mark_fault bytes) (version_fault bytes)
+version_part_fault bytes = first_place (mark_fault bytes) (version_fault bytes)
 
 abbrev pub size_part_fault : List ℕ → Option ℕ
 size_part_fault bytes =
-    first_of (words_fault bytes) (first_of (bytes_fault bytes) (first_of (entry_fault bytes) (zeros_fault bytes)))
+    first_place (words_fault bytes) (first_place (bytes_fault bytes)
+    (first_place (entry_fault bytes) (zeros_fault bytes)))
 
 unfoldable pub header_fault : List ℕ → Option ℕ
-header_fault bytes = first_of (version_part_fault bytes) (size_part_fault bytes)
+header_fault bytes = first_place (version_part_fault bytes) (size_part_fault bytes)
 
 -- words and bytes that are not all there, or more than are due
 abbrev pub length_fault : List ℕ → Option ℕ
@@ -91,4 +92,4 @@ length_fault bytes =
     else if nat_lt (due_length bytes) (length bytes) then Some (due_length bytes) else None
 
 unfoldable pub image_fault : List ℕ → Option ℕ
-image_fault bytes = first_of (header_fault bytes) (length_fault bytes)
+image_fault bytes = first_place (header_fault bytes) (length_fault bytes)

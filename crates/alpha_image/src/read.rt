@@ -5,7 +5,7 @@ ghost use Rattle.std.specs.Option.{option_eq};
 ghost use Rattle.std.specs.Int.{w32, from_le_bytes};
 ghost use Rattle.bk_memory.specs.Shortage.{MemoryIsShort};
 ghost use Rattle.alpha_isa.specs.Program.{Program, most_words, most_bytes};
-ghost use Rattle.alpha_isa.specs.ImageFormat.{mark, IsImage, number as number_bytes};
+ghost use Rattle.alpha_isa.specs.ImageFormat.{mark, IsImage, four_bytes as number_bytes};
 ghost use Rattle.alpha_image.specs.declared.read.ImageFault.TheVariants.{NoMemory};
 ghost use Rattle.alpha_image.specs.ImageFault as spec;
 ghost use Rattle.alpha_image.specs.ReadImage.{IsImageFault};

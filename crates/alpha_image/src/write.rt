@@ -2,7 +2,7 @@
 
 ghost use Rattle.std.specs.Prelude.{◌≡◌, ◌+◌, ◌*◌, ◌<◌, ◌^◌, ◌++◌, flat_map, length, IfOk, OnOk};
 ghost use Rattle.alpha_isa.specs.Program.{IsLawful};
-ghost use Rattle.alpha_isa.specs.ImageFormat.{number, image_spelling};
+ghost use Rattle.alpha_isa.specs.ImageFormat.{four_bytes, image_spelling};
 
 use alpha_isa::image::Image;
 use std::alloc::{AllocError, Global};
@@ -41,7 +41,7 @@ pub fn image_bytes(alloc: Global, image: &Image) -> Result<Vec<u8>, AllocError>
 /// Appends numbers, each in four bytes.
 fn push_numbers(bytes: &mut Vec<u8>, numbers: &[u32]) -> Result<(), AllocError>
     requires { length bytes.old.items + 4 * length numbers.now < 2 ^ 64 }
-    ensures { OnOk result (bytes.new.items ≡ bytes.old.items ++ flat_map number numbers.now) }
+    ensures { OnOk result (bytes.new.items ≡ bytes.old.items ++ flat_map four_bytes numbers.now) }
 {
     // the length is set once, which takes less time than to set it with each number
     let start = bytes.len();
@@ -53,7 +53,7 @@ fn push_numbers(bytes: &mut Vec<u8>, numbers: &[u32]) -> Result<(), AllocError>
 /// Writes numbers over bytes, each in four of them.
 fn put_numbers(bytes: &mut [u8], numbers: &[u32])
     requires { length bytes.old ≡ 4 * length numbers.now }
-    ensures { bytes.new ≡ flat_map number numbers.now }
+    ensures { bytes.new ≡ flat_map four_bytes numbers.now }
 {
     for i in 0..numbers.len() {
         bytes[4 * i..4 * i + 4].copy_from_slice(&numbers[i].to_le_bytes());
@@ -62,7 +62,7 @@ fn put_numbers(bytes: &mut [u8], numbers: &[u32])
 
 /// Appends a number in four bytes, the lowest first.
 fn push_number(bytes: &mut Vec<u8>, n: u32) -> Result<(), AllocError>
-    ensures { OnOk result (bytes.new.items ≡ bytes.old.items ++ number n) }
+    ensures { OnOk result (bytes.new.items ≡ bytes.old.items ++ four_bytes n) }
 {
     bytes.extend_from_slice(&n.to_le_bytes())
 }

@@ -10,7 +10,7 @@ use Rattle.alpha_isa.specs.declared.insn.BranchOp.{BranchOp}
 use Rattle.alpha_isa.specs.Arithmetic.{OperationEffect, Gives, Keeps, Overflows}
 use Rattle.alpha_isa.specs.Program.{Program, instruction_at, data_start, stack_start}
 use Rattle.alpha_isa.specs.State.{State, register, with_register, with_bytes, with_part, lies_in}
-use Rattle.alpha_isa.specs.Step.{MachineNext, Goes, Over, Done, Trap, next_instruction, stuck, input_word, input_rest, load_into, go_on_stored, memory_step, branch_step, links, next_pc, address, jump_step, operate_step, service_step, pal_step, insn_step, fetched_step, step, go_on, exec}
+use Rattle.alpha_isa.specs.Step.{MachineNext, Goes, Over, Done, Trap, next_instruction, stuck_at, input_word, input_rest, load_into, go_on_stored, memory_step, branch_step, links, next_pc, memory_address, jump_step, operate_step, service_step, pal_step, insn_step, fetched_step, step, go_on, exec}
 use Rattle.alpha_isa.specs.Laws.{output_at, Extends}
 
 -- ---- one run after another
@@ -43,7 +43,7 @@ given : (ra word : ℕ) (s : State) → Grows s.output (next_instruction (with_r
 given ra word s = still s.output (next_instruction (with_register ra word s)) (with_register-output ra word s)
 
 loaded_grows : (value : List ℕ → ℕ) (ra : ℕ) (o : Option (List ℕ)) (s : State) → Grows s.output (load_into value ra o s)
-loaded_grows value ra None s = still s.output (stuck s) refl
+loaded_grows value ra None s = still s.output (stuck_at s) refl
 loaded_grows value ra (Some bytes) s = given ra (value bytes) s
 
 one_of : (old : List ℕ) (b : Bool) (x y : MachineNext) → Grows old x → Grows old y → Grows old (cond b x y)
@@ -51,10 +51,10 @@ one_of old true x y f g = f
 one_of old false x y f g = g
 
 stored_one : (s : State) (b c d : Bool) (t u : State) → t.output ≡ s.output → u.output ≡ s.output → Grows s.output (go_on_stored (cond b None (cond c (Some t) (cond d (Some u) None))) s)
-stored_one s true c d t u e f = still s.output (stuck s) refl
+stored_one s true c d t u e f = still s.output (stuck_at s) refl
 stored_one s false true d t u e f = still s.output (next_instruction t) e
 stored_one s false false true t u e f = still s.output (next_instruction u) f
-stored_one s false false false t u e f = still s.output (stuck s) refl
+stored_one s false false false t u e f = still s.output (stuck_at s) refl
 
 stored_grows : (p : Program) (s : State) (a : ℕ) (new : List ℕ) → Grows s.output (go_on_stored (with_bytes p s a new) s)
 stored_grows p s a new =
@@ -70,10 +70,10 @@ memory_grows p Ldbu ra rb disp s = loaded_grows _ ra _ s
 memory_grows p Ldwu ra rb disp s = loaded_grows _ ra _ s
 memory_grows p Ldl ra rb disp s = loaded_grows _ ra _ s
 memory_grows p Ldq ra rb disp s = loaded_grows _ ra _ s
-memory_grows p Stb ra rb disp s = stored_grows p s (address s rb disp) (to_le_bytes w8 (register s ra))
-memory_grows p Stw ra rb disp s = stored_grows p s (address s rb disp) (to_le_bytes w16 (register s ra))
-memory_grows p Stl ra rb disp s = stored_grows p s (address s rb disp) (to_le_bytes w32 (register s ra))
-memory_grows p Stq ra rb disp s = stored_grows p s (address s rb disp) (to_le_bytes w64 (register s ra))
+memory_grows p Stb ra rb disp s = stored_grows p s (memory_address s rb disp) (to_le_bytes w8 (register s ra))
+memory_grows p Stw ra rb disp s = stored_grows p s (memory_address s rb disp) (to_le_bytes w16 (register s ra))
+memory_grows p Stl ra rb disp s = stored_grows p s (memory_address s rb disp) (to_le_bytes w32 (register s ra))
+memory_grows p Stq ra rb disp s = stored_grows p s (memory_address s rb disp) (to_le_bytes w64 (register s ra))
 
 branch_grows : (op : BranchOp) (ra : ℕ) (disp : ℤ) (s : State) → Grows s.output (branch_step op ra disp s)
 branch_grows op ra disp s =
@@ -95,15 +95,15 @@ service_grows number s =
     let puts : MachineNext = next_instruction (record s { output = s.output ++ (register s 16 % 256) ∷ [] }) in
     let rest : State = record s { input = input_rest s.input } in
     let takes : MachineNext = next_instruction (with_register 0 (input_word s.input) rest) in
-    one_of s.output (eqb number 1) ends (cond (eqb number 2) puts (cond (eqb number 3) takes (stuck s))) (still s.output ends refl)
-    (one_of s.output (eqb number 2) puts (cond (eqb number 3) takes (stuck s)) (put_grows (register s 16 % 256) s)
-    (one_of s.output (eqb number 3) takes (stuck s) (still s.output takes (with_register-output 0 (input_word s.input) rest)) (still s.output (stuck s) refl)))
+    one_of s.output (eqb number 1) ends (cond (eqb number 2) puts (cond (eqb number 3) takes (stuck_at s))) (still s.output ends refl)
+    (one_of s.output (eqb number 2) puts (cond (eqb number 3) takes (stuck_at s)) (put_grows (register s 16 % 256) s)
+    (one_of s.output (eqb number 3) takes (stuck_at s) (still s.output takes (with_register-output 0 (input_word s.input) rest)) (still s.output (stuck_at s) refl)))
 
 pal_grows : (function : ℕ) (s : State) → Grows s.output (pal_step function s)
 pal_grows function s =
     let traps : MachineNext = Over (Trap (register s 16)) s in
-    one_of s.output (eqb function 0x83) (service_step (register s 0) s) (cond (eqb function 0xAA) traps (stuck s)) (service_grows (register s 0) s)
-    (one_of s.output (eqb function 0xAA) traps (stuck s) (still s.output traps refl) (still s.output (stuck s) refl))
+    one_of s.output (eqb function 0x83) (service_step (register s 0) s) (cond (eqb function 0xAA) traps (stuck_at s)) (service_grows (register s 0) s)
+    (one_of s.output (eqb function 0xAA) traps (stuck_at s) (still s.output traps refl) (still s.output (stuck_at s) refl))
 
 insn_grows : (p : Program) (i : Fields) (s : State) → Grows s.output (insn_step p i s)
 insn_grows p (fields.Memory op ra rb disp) s = memory_grows p op ra rb disp s
@@ -113,7 +113,7 @@ insn_grows p (fields.Operate op ra rb rc) s = operate_grows _ rc s
 insn_grows p (fields.Pal function) s = pal_grows function s
 
 fetched_grows : (p : Program) (o : Option Fields) (s : State) → Grows s.output (fetched_step p o s)
-fetched_grows p None s = still s.output (stuck s) refl
+fetched_grows p None s = still s.output (stuck_at s) refl
 fetched_grows p (Some i) s = insn_grows p i s
 
 step_grows : (p : Program) (s : State) → Grows s.output (step p s)

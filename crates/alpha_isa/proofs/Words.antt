@@ -16,9 +16,9 @@ use Rattle.alpha_isa.specs.declared.insn.JumpOp.{JumpOp}
 use Rattle.alpha_isa.specs.declared.insn.JumpOp.TheVariants.{Jmp, Jsr, Ret}
 use Rattle.alpha_isa.specs.declared.insn.OperateOp.{OperateOp}
 use Rattle.alpha_isa.specs.declared.insn.OperateOp.TheVariants.{Addl, Subl, Cmpult, Addq, S4addq, Subq, Cmpeq, S8addq, Cmpule, AddlV, SublV, Cmplt, AddqV, SubqV, Cmple, And, Bic, Bis, Cmoveq, Cmovne, Ornot, Xor, Eqv, Zapnot, Srl, Sll, Sra, Mull, Mulq, Umulh, MullV, MulqV, Sextb, Sextw}
-use Rattle.alpha_isa.specs.Lawful.{AreLawfulFields, IsOperand, IsDisplacement, IsBranchDisplacement, IsFirstOperand, is_call}
+use Rattle.alpha_isa.specs.Lawful.{AreLawfulFields, IsOperand, IsDisplacement, IsBranchDisplacement, IsFirstOperand, is_pal_function}
 use Rattle.alpha_isa.specs.Codes.{memory_code, branch_code, jump_code, operate_opcode, operate_function, memory_at, branch_at, jump_at, operate_at, memory_ops, branch_ops, jump_ops, operate_ops}
-use Rattle.alpha_isa.specs.Words.{branch_bits, branch_displacement, operand_bits, word_of, opcode_of, ra_of, rb_of, rc_of, operand_at, extends, operation, memory_insn, branch_insn, jump_insn, operate_insn, pal_insn, is_operate, insn_of}
+use Rattle.alpha_isa.specs.Words.{branch_bits, branch_displacement, operand_bits, insn_word, opcode_of, ra_of, rb_of, rc_of, operand_at, extends, operation, memory_insn, branch_insn, jump_insn, operate_insn, pal_insn, is_operate, insn_of}
 
 -- ---- from an instruction to its word and back
 
@@ -309,7 +309,7 @@ jump_small Jmp = lit< tt
 jump_small Jsr = lit< tt
 jump_small Ret = lit< tt
 
-pal_decoded : (n : ℕ) → is_call n ≡ true → insn_of n ≡ Some (fields.Pal n)
+pal_decoded : (n : ℕ) → is_pal_function n ≡ true → insn_of n ≡ Some (fields.Pal n)
 unfolding insn_of pal_insn
 pal_decoded n p = elim (or_cases (eqb n 0x83) (eqb n 0xAA) p) [
   | inl e ↦ rw (eqb-true n 0x83 e) refl
@@ -317,7 +317,7 @@ pal_decoded n p = elim (or_cases (eqb n 0x83) (eqb n 0xAA) p) [
 ]
 
 -- the word of a lawful instruction stands for it
-pub word_decoded : (i : Fields) → AreLawfulFields i → insn_of (word_of i) ≡ Some i
+pub word_decoded : (i : Fields) → AreLawfulFields i → insn_of (insn_word i) ≡ Some i
 word_decoded (fields.Memory op ra rb disp) l = memory_decoded op (memory_code op) ra rb (cast_unsigned w16 disp) disp refl l.0 l.1 (displacement_small disp l.2) (displacement_again disp l.2)
 word_decoded (fields.Branch op ra disp) l = branch_decoded op (branch_code op) ra (branch_bits disp) disp refl l.0 (branch_small disp l.1) (branch_again disp l.1)
 word_decoded (fields.Jump op ra rb) l = jump_decoded op (jump_code op) ra rb refl (jump_small op) l.0 l.1
@@ -371,7 +371,7 @@ branch_within n true e small = (ltb-true n (2 ^ 20) e, refl)
 branch_within n false e small = let high : 2 ^ 20 ≤ n = ltb-false n (2 ^ 20) e in (omega arith, omega arith)
 
 abbrev Stands : ℕ → Fields → Type 0
-Stands w i = AreLawfulFields i × (word_of i ≡ w)
+Stands w i = AreLawfulFields i × (insn_word i ≡ w)
 
 memory_stands : (op : MemoryOp) (w : ℕ) → memory_code op ≡ opcode_of w → Stands w (fields.Memory op (ra_of w) (rb_of w) (cast_signed w16 (w % 2 ^ 16)))
 memory_stands op w e =
@@ -431,7 +431,7 @@ first_back Sextb ra p e = eqb-true ra 31 (not-false (eqb ra 31) e)
 first_back Sextw ra p e = eqb-true ra 31 (not-false (eqb ra 31) e)
 first_back _ ra p e = p
 
-operate_stands : (op : OperateOp) (rb : Operand) (w : ℕ) → operate_opcode op ≡ opcode_of w → operate_function op ≡ w / 2 ^ 5 % 128 → operand_bits rb ≡ w / 2 ^ 12 % 512 * 2 ^ 12 → word_of (fields.Operate op (ra_of w) rb (rc_of w)) ≡ w
+operate_stands : (op : OperateOp) (rb : Operand) (w : ℕ) → operate_opcode op ≡ opcode_of w → operate_function op ≡ w / 2 ^ 5 % 128 → operand_bits rb ≡ w / 2 ^ 12 % 512 * 2 ^ 12 → insn_word (fields.Operate op (ra_of w) rb (rc_of w)) ≡ w
 operate_stands op rb w e f bits = rw (e, f, bits) (omega arith)
 
 operation_effect : (o : Option OperateOp) (p : Option Operand) (w : ℕ) (i : Fields) → o ≡ operate_at (opcode_of w) (w / 2 ^ 5 % 128) → p ≡ operand_at w → operation o p (ra_of w) (rc_of w) ≡ Some i → Stands w i
@@ -455,13 +455,13 @@ operate_back w i e = operation_effect (operate_at (opcode_of w) (w / 2 ^ 5 % 128
 pal_back : (w : ℕ) (i : Fields) → pal_insn w ≡ Some i → Stands w i
 unfolding pal_insn
 pal_back w i e =
-    elim (chosen (is_call w) (Some (fields.Pal w)) None (Some i) e) [
+    elim (chosen (is_pal_function w) (Some (fields.Pal w)) None (Some i) e) [
       | inl h ↦ (let same : fields.Pal w ≡ i = cc in subst (Stands w) same (h.0, refl))
       | inr h ↦ cc
     ]
 
 -- the instruction that a word stands for is lawful, and the word is its word
-pub decoded_word : (w : ℕ) (i : Fields) → insn_of w ≡ Some i → AreLawfulFields i × (word_of i ≡ w)
+pub decoded_word : (w : ℕ) (i : Fields) → insn_of w ≡ Some i → AreLawfulFields i × (insn_word i ≡ w)
 unfolding insn_of
 decoded_word w i e =
     let o : ℕ = opcode_of w in

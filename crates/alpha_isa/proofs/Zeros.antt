@@ -11,24 +11,24 @@ use Rattle.alpha_isa.specs.declared.insn.MemoryOp.{MemoryOp}
 use Rattle.alpha_isa.specs.declared.insn.MemoryOp.TheVariants.{Lda, Ldah, Ldbu, Ldwu, Stw, Stb, Ldl, Ldq, Stl, Stq}
 use Rattle.alpha_isa.specs.Words.{insn_of}
 use Rattle.alpha_isa.specs.Arithmetic.{sign_extension}
-use Rattle.alpha_isa.specs.Program.{Program, HoldsSame, HasZerosCut, last_byte, data_of, data_size, text_start, next_part, data_start, stack_start, instruction_at, word_address}
-use Rattle.alpha_isa.specs.State.{State, register, lies_in, part_of, with_part, bytes_at, with_bytes}
-use Rattle.alpha_isa.specs.Step.{MachineNext, Goes, Over, load_into, go_on_stored, memory_step, insn_step, fetched_step, step, go_on, exec, address}
-use Rattle.alpha_isa.specs.Behave.{behave_a, behaviour, start}
+use Rattle.alpha_isa.specs.Program.{Program, HoldsSame, HasZerosCut, last_byte, data_of, image_data_size, text_start, next_part, data_start, stack_start, instruction_at, word_address}
+use Rattle.alpha_isa.specs.State.{State, register, lies_in, byte_range, with_part, bytes_at, with_bytes}
+use Rattle.alpha_isa.specs.Step.{MachineNext, Goes, Over, load_into, go_on_stored, memory_step, insn_step, fetched_step, step, go_on, exec, memory_address}
+use Rattle.alpha_isa.specs.Behave.{behave_a, behaviour, start_state}
 
 -- ---- the same places
 
-pub size_is : (p : Program) → length (data_of p) ≡ data_size p
+pub size_is : (p : Program) → length (data_of p) ≡ image_data_size p
 size_is p = length-append p.bytes (replicate p.zeros 0) ∙ ap (λ n. length p.bytes + n) (length-replicate p.zeros 0)
 
-same_size : (p q : Program) → HoldsSame p q → data_size q ≡ data_size p
+same_size : (p q : Program) → HoldsSame p q → image_data_size q ≡ image_data_size p
 same_size p q same = sym (size_is q) ∙ ap length same.data_bytes ∙ size_is p
 
 same_data : (p q : Program) → HoldsSame p q → data_start q ≡ data_start p
 same_data p q same = ap (λ (words : List ℕ). next_part (text_start + 4 * length words)) same.words
 
 same_stack : (p q : Program) → HoldsSame p q → stack_start q ≡ stack_start p
-same_stack p q same = ap (λ n. next_part (n + data_size q)) (same_data p q same) ∙ ap (λ n. next_part (data_start p + n)) (same_size p q same)
+same_stack p q same = ap (λ n. next_part (n + image_data_size q)) (same_data p q same) ∙ ap (λ n. next_part (data_start p + n)) (same_size p q same)
 
 instruction_in : List ℕ → ℕ → Option Fields
 instruction_in words pc = cond (nat_lt pc text_start) None (option_and_then insn_of (slice_get words ((pc - text_start) / 4)))
@@ -43,8 +43,8 @@ same_instruction p q pc same = ap (λ words. instruction_in words pc) same.words
 abbrev bytes_by : ℕ → ℕ → State → ℕ → ℕ → Option (List ℕ)
 bytes_by d t s a n =
     cond (not (eqb (a % n) 0)) None
-    (cond (lies_in a n d s.data_bytes) (Some (part_of s.data_bytes (a - d) n))
-    (cond (lies_in a n t s.stack_bytes) (Some (part_of s.stack_bytes (a - t) n)) None))
+    (cond (lies_in a n d s.data_bytes) (Some (byte_range s.data_bytes (a - d) n))
+    (cond (lies_in a n t s.stack_bytes) (Some (byte_range s.stack_bytes (a - t) n)) None))
 
 abbrev stored_by : ℕ → ℕ → State → ℕ → List ℕ → Option State
 stored_by d t s a new =
@@ -69,14 +69,14 @@ stores_same p q a new s same = ap (λ o. go_on_stored o s) (same_stored p q s a 
 memory_same : (p q : Program) (op : MemoryOp) (ra rb : ℕ) (disp : ℤ) (s : State) → HoldsSame p q → memory_step q op ra rb disp s ≡ memory_step p op ra rb disp s
 memory_same p q Lda ra rb disp s same = refl
 memory_same p q Ldah ra rb disp s same = refl
-memory_same p q Ldbu ra rb disp s same = loads_same p q (from_le_bytes w8) ra (address s rb disp) 1 s same
-memory_same p q Ldwu ra rb disp s same = loads_same p q (from_le_bytes w16) ra (address s rb disp) 2 s same
-memory_same p q Ldl ra rb disp s same = loads_same p q (λ bytes. sign_extension w32 (from_le_bytes w32 bytes)) ra (address s rb disp) 4 s same
-memory_same p q Ldq ra rb disp s same = loads_same p q (from_le_bytes w64) ra (address s rb disp) 8 s same
-memory_same p q Stb ra rb disp s same = stores_same p q (address s rb disp) (to_le_bytes w8 (register s ra)) s same
-memory_same p q Stw ra rb disp s same = stores_same p q (address s rb disp) (to_le_bytes w16 (register s ra)) s same
-memory_same p q Stl ra rb disp s same = stores_same p q (address s rb disp) (to_le_bytes w32 (register s ra)) s same
-memory_same p q Stq ra rb disp s same = stores_same p q (address s rb disp) (to_le_bytes w64 (register s ra)) s same
+memory_same p q Ldbu ra rb disp s same = loads_same p q (from_le_bytes w8) ra (memory_address s rb disp) 1 s same
+memory_same p q Ldwu ra rb disp s same = loads_same p q (from_le_bytes w16) ra (memory_address s rb disp) 2 s same
+memory_same p q Ldl ra rb disp s same = loads_same p q (λ bytes. sign_extension w32 (from_le_bytes w32 bytes)) ra (memory_address s rb disp) 4 s same
+memory_same p q Ldq ra rb disp s same = loads_same p q (from_le_bytes w64) ra (memory_address s rb disp) 8 s same
+memory_same p q Stb ra rb disp s same = stores_same p q (memory_address s rb disp) (to_le_bytes w8 (register s ra)) s same
+memory_same p q Stw ra rb disp s same = stores_same p q (memory_address s rb disp) (to_le_bytes w16 (register s ra)) s same
+memory_same p q Stl ra rb disp s same = stores_same p q (memory_address s rb disp) (to_le_bytes w32 (register s ra)) s same
+memory_same p q Stq ra rb disp s same = stores_same p q (memory_address s rb disp) (to_le_bytes w64 (register s ra)) s same
 
 insn_same : (p q : Program) (i : Fields) (s : State) → HoldsSame p q → insn_step q i s ≡ insn_step p i s
 insn_same p q (fields.Memory op ra rb disp) s same = memory_same p q op ra rb disp s same
@@ -114,14 +114,14 @@ start_by entry t bytes stack input = record {
   output = [];
 }
 
-start_same : (p q : Program) (stack : ℕ) (input : List ℕ) → HoldsSame p q → start q stack input ≡ start p stack input
+start_same : (p q : Program) (stack : ℕ) (input : List ℕ) → HoldsSame p q → start_state q stack input ≡ start_state p stack input
 start_same p q stack input same =
     ap (λ e. start_by e (stack_start q) (data_of q) stack input) same.entry
     ∙ ap (λ t. start_by p.entry t (data_of q) stack input) (same_stack p q same)
     ∙ ap (λ bytes. start_by p.entry (stack_start p) bytes stack input) same.data_bytes
 
 pub behave_same : (p q : Program) (stack : ℕ) (input : List ℕ) (m : ℕ) → HoldsSame p q → behave_a q stack input m ≡ behave_a p stack input m
-behave_same p q stack input m same = ap behaviour (exec_same p q same m (start q stack input) ∙ ap (exec p m) (start_same p q stack input same))
+behave_same p q stack input m same = ap behaviour (exec_same p q same m (start_state q stack input) ∙ ap (exec p m) (start_same p q stack input same))
 
 -- ---- zeros are cut in one way
 

@@ -25,17 +25,17 @@ abbrev pub sign_extension : Width → ℕ → ℕ
 sign_extension w n = word_from (signed_value w n)
 
 -- a signed number lies in the range of its width
-abbrev pub fits : Width → ℤ → Bool
-fits w (pos n) = nat_lt n (2 ^ hbits w)
-fits w (negsuc n) = nat_lt n (2 ^ hbits w)
+abbrev pub fits_signed : Width → ℤ → Bool
+fits_signed w (pos n) = nat_lt n (2 ^ hbits w)
+fits_signed w (negsuc n) = nat_lt n (2 ^ hbits w)
 
 -- each bit of a word turned
-abbrev pub complement : ℕ → ℕ
-complement n = 2 ^ 64 - 1 - n
+abbrev pub word_complement : ℕ → ℕ
+word_complement n = 2 ^ 64 - 1 - n
 
 -- n - m, as a number that is the same modulo 2^64
-abbrev pub difference : ℕ → ℕ → ℕ
-difference n m = n + (2 ^ 64 - m)
+abbrev pub word_difference : ℕ → ℕ → ℕ
+word_difference n m = n + (2 ^ 64 - m)
 
 -- of the low k bytes of n, those whose bit in the mask is 1
 abbrev pub kept_bytes : ℕ → ℕ → ℕ → ℕ
@@ -51,50 +51,50 @@ pub data OperationEffect : Type 0 where
   Overflows : OperationEffect
 
 -- a result of 64 bits; one of 32 bits, with its sign extended; a truth value
-abbrev pub quad : ℕ → OperationEffect
-quad n = Gives (word_at n)
+abbrev pub quad_result : ℕ → OperationEffect
+quad_result n = Gives (word_at n)
 
-abbrev pub long : ℕ → OperationEffect
-long n = Gives (sign_extension w32 n)
+abbrev pub long_result : ℕ → OperationEffect
+long_result n = Gives (sign_extension w32 n)
 
-abbrev pub truth : Bool → OperationEffect
-truth b = Gives (if b then 1 else 0)
+abbrev pub truth_result : Bool → OperationEffect
+truth_result b = Gives (if b then 1 else 0)
 
 -- a signed result, which traps where it does not fit
 abbrev pub checked_effect : Width → ℤ → OperationEffect
-checked_effect w z = if fits w z then Gives (word_from z) else Overflows
+checked_effect w z = if fits_signed w z then Gives (word_from z) else Overflows
 
 -- an operation on the words of its two operands
 abbrev pub operation_effect : OperateOp → ℕ → ℕ → OperationEffect
-operation_effect Addl a b = long (a + b)
-operation_effect Subl a b = long (difference a b)
-operation_effect Cmpult a b = truth (nat_lt a b)
-operation_effect Addq a b = quad (a + b)
-operation_effect S4addq a b = quad (4 * a + b)
-operation_effect Subq a b = quad (difference a b)
-operation_effect Cmpeq a b = truth (a == b)
-operation_effect S8addq a b = quad (8 * a + b)
-operation_effect Cmpule a b = truth (nat_le a b)
+operation_effect Addl a b = long_result (a + b)
+operation_effect Subl a b = long_result (word_difference a b)
+operation_effect Cmpult a b = truth_result (nat_lt a b)
+operation_effect Addq a b = quad_result (a + b)
+operation_effect S4addq a b = quad_result (4 * a + b)
+operation_effect Subq a b = quad_result (word_difference a b)
+operation_effect Cmpeq a b = truth_result (a == b)
+operation_effect S8addq a b = quad_result (8 * a + b)
+operation_effect Cmpule a b = truth_result (nat_le a b)
 operation_effect AddlV a b = checked_effect w32 (signed_value w32 a +ℤ signed_value w32 b)
 operation_effect SublV a b = checked_effect w32 (signed_value w32 a -ℤ signed_value w32 b)
-operation_effect Cmplt a b = truth (int_lt (signed_value w64 a) (signed_value w64 b))
+operation_effect Cmplt a b = truth_result (int_lt (signed_value w64 a) (signed_value w64 b))
 operation_effect AddqV a b = checked_effect w64 (signed_value w64 a +ℤ signed_value w64 b)
 operation_effect SubqV a b = checked_effect w64 (signed_value w64 a -ℤ signed_value w64 b)
-operation_effect Cmple a b = truth (int_le (signed_value w64 a) (signed_value w64 b))
+operation_effect Cmple a b = truth_result (int_le (signed_value w64 a) (signed_value w64 b))
 operation_effect And a b = Gives (bit_and a b)
-operation_effect Bic a b = Gives (bit_and a (complement b))
+operation_effect Bic a b = Gives (bit_and a (word_complement b))
 operation_effect Bis a b = Gives (bit_or a b)
 operation_effect Cmoveq a b = if a == 0 then Gives b else Keeps
 operation_effect Cmovne a b = if a == 0 then Keeps else Gives b
-operation_effect Ornot a b = Gives (bit_or a (complement b))
+operation_effect Ornot a b = Gives (bit_or a (word_complement b))
 operation_effect Xor a b = Gives (bit_xor a b)
-operation_effect Eqv a b = Gives (bit_xor a (complement b))
+operation_effect Eqv a b = Gives (bit_xor a (word_complement b))
 operation_effect Zapnot a b = Gives (kept_bytes 8 a b)
 operation_effect Srl a b = Gives (a / 2 ^ (b % 64))
-operation_effect Sll a b = quad (a * 2 ^ (b % 64))
+operation_effect Sll a b = quad_result (a * 2 ^ (b % 64))
 operation_effect Sra a b = Gives (word_from (int_shr (signed_value w64 a) (b % 64)))
-operation_effect Mull a b = long (a * b)
-operation_effect Mulq a b = quad (a * b)
+operation_effect Mull a b = long_result (a * b)
+operation_effect Mulq a b = quad_result (a * b)
 operation_effect Umulh a b = Gives (a * b / 2 ^ 64)
 operation_effect MullV a b = checked_effect w32 (signed_value w32 a *ℤ signed_value w32 b)
 operation_effect MulqV a b = checked_effect w64 (signed_value w64 a *ℤ signed_value w64 b)

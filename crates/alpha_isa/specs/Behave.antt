@@ -12,8 +12,8 @@ pub record IsStack (size : ℕ) : Type 0 where
   pub whole : size % 16 ≡ 0
 
 -- where a run begins: the data is that of the image, register 30 stands at the end of the stack, all else is zero
-abbrev pub start : Program → ℕ → List ℕ → State
-start p stack input = record {
+abbrev pub start_state : Program → ℕ → List ℕ → State
+start_state p stack input = record {
   pc = word_address p.entry;
   registers = slice_set (replicate 32 0) 30 (stack_start p + stack);
   data_bytes = data_of p;
@@ -41,7 +41,7 @@ behaviour (step.Over h s) = behaviour_of_halt h s.output
 
 -- the run of an image on a stack of this size and this input, in at most m steps
 abbrev pub behave_a : Program → ℕ → List ℕ → ℕ → Behaviour
-behave_a p stack input m = behaviour (exec p m (start p stack input))
+behave_a p stack input m = behaviour (exec p m (start_state p stack input))
 
 -- what was written
 abbrev pub output_of : Behaviour → List ℕ

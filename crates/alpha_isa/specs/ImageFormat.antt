@@ -4,8 +4,8 @@ use Rattle.std.specs.Int.{w32, to_le_bytes}
 use Rattle.alpha_isa.specs.Program.{Program, IsLawful}
 
 -- a number in four bytes, the lowest first
-abbrev pub number : ℕ → List ℕ
-number n = to_le_bytes w32 n
+abbrev pub four_bytes : ℕ → List ℕ
+four_bytes n = to_le_bytes w32 n
 
 -- the mark of an image: the bytes of `MSA1`
 abbrev pub mark : List ℕ
@@ -15,13 +15,13 @@ mark = 0x4D ∷ 0x53 ∷ 0x41 ∷ 0x31 ∷ []
 -- the words and the bytes
 abbrev pub spelling_with : ℕ → List ℕ → Program → List ℕ
 spelling_with version fields p =
-    mark ++ (number version
-    ++ (number (length p.words)
-    ++ (number (length p.bytes) ++ (number p.entry ++ (fields ++ (flat_map number p.words ++ p.bytes))))))
+    mark ++ (four_bytes version
+    ++ (four_bytes (length p.words)
+    ++ (four_bytes (length p.bytes) ++ (four_bytes p.entry ++ (fields ++ (flat_map four_bytes p.words ++ p.bytes))))))
 
 -- version 2, which is what is written, has a field for the zeros
 unfoldable pub image_spelling : Program → List ℕ
-image_spelling p = spelling_with 2 (number p.zeros) p
+image_spelling p = spelling_with 2 (four_bytes p.zeros) p
 
 -- version 1 has no further field
 unfoldable pub version_one_spelling : Program → List ℕ

@@ -32,8 +32,8 @@ IsFirstOperand Sextw ra = ra ≡ 31
 IsFirstOperand _ ra = IsRegister ra
 
 -- the calls of privileged code that there are: a service, and a trap
-abbrev pub is_call : ℕ → Bool
-is_call function = (function == 0x83) || (function == 0xAA)
+abbrev pub is_pal_function : ℕ → Bool
+is_pal_function function = (function == 0x83) || (function == 0xAA)
 
 -- each field is in its range
 abbrev pub AreLawfulFields : Fields → Type 0
@@ -41,4 +41,4 @@ AreLawfulFields (fields.Memory op ra rb disp) = IsRegister ra × IsRegister rb �
 AreLawfulFields (fields.Branch op ra disp) = IsRegister ra × IsBranchDisplacement disp
 AreLawfulFields (fields.Jump op ra rb) = IsRegister ra × IsRegister rb
 AreLawfulFields (fields.Operate op ra rb rc) = IsFirstOperand op ra × IsOperand rb × IsRegister rc
-AreLawfulFields (fields.Pal function) = IsTrue (is_call function)
+AreLawfulFields (fields.Pal function) = IsTrue (is_pal_function function)

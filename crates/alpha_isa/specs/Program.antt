@@ -15,8 +15,8 @@ pub record Program : Type 0 where
 abbrev pub data_of : Program → List ℕ
 data_of p = p.bytes ++ replicate p.zeros 0
 
-abbrev pub data_size : Program → ℕ
-data_size p = length p.bytes + p.zeros
+abbrev pub image_data_size : Program → ℕ
+image_data_size p = length p.bytes + p.zeros
 
 -- the limits of an image, in words and bytes
 abbrev pub most_words : ℕ
@@ -30,7 +30,7 @@ pub record IsLawful (p : Program) : Type 0 where
   pub some_words : 1 ≤ length p.words
   pub words : length p.words ≤ most_words
   pub are_words : (i : ℕ) → get_or p.words i 0 < 2 ^ 32
-  pub bytes : data_size p ≤ most_bytes
+  pub bytes : image_data_size p ≤ most_bytes
   pub entry : p.entry < length p.words
 
 -- each part begins at a multiple of 65,536: the text at the first, the next part at or past its end
@@ -43,14 +43,14 @@ next_part n = (n + 65535) / part_size * part_size
 abbrev pub text_start : ℕ
 text_start = part_size
 
-abbrev pub text_end : Program → ℕ
-text_end p = text_start + 4 * length p.words
+abbrev pub end_of_text : Program → ℕ
+end_of_text p = text_start + 4 * length p.words
 
 abbrev pub data_start : Program → ℕ
-data_start p = next_part (text_end p)
+data_start p = next_part (end_of_text p)
 
 abbrev pub stack_start : Program → ℕ
-stack_start p = next_part (data_start p + data_size p)
+stack_start p = next_part (data_start p + image_data_size p)
 
 -- the address of a word of the text
 abbrev pub word_address : ℕ → ℕ

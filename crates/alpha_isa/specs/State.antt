@@ -20,17 +20,17 @@ register s r = if r == 31 then 0 else slice_index s.registers r
 abbrev pub with_register : ℕ → ℕ → State → State
 with_register r word s = if r == 31 then s else record s { registers = slice_set s.registers r word }
 
-abbrev pub operand : State → Operand → ℕ
-operand s (Reg r) = register s r
-operand s (Literal n) = n
+abbrev pub operand_value : State → Operand → ℕ
+operand_value s (Reg r) = register s r
+operand_value s (Literal n) = n
 
 -- n bytes from an address on lie in a part of the memory that begins at start
 abbrev pub lies_in : ℕ → ℕ → ℕ → List ℕ → Bool
 lies_in a n start bytes = nat_le start a && nat_le (a + n) (start + length bytes)
 
 -- n bytes from number i on, and the list with bytes in their place
-abbrev pub part_of : List ℕ → ℕ → ℕ → List ℕ
-part_of bytes i n = take n (drop i bytes)
+abbrev pub byte_range : List ℕ → ℕ → ℕ → List ℕ
+byte_range bytes i n = take n (drop i bytes)
 
 abbrev pub with_part : List ℕ → ℕ → List ℕ → List ℕ
 with_part bytes i new = take i bytes ++ (new ++ drop (i + length new) bytes)
@@ -39,8 +39,8 @@ with_part bytes i new = take i bytes ++ (new ++ drop (i + length new) bytes)
 abbrev pub bytes_at : Program → State → ℕ → ℕ → Option (List ℕ)
 bytes_at p s a n =
     if not (a % n == 0) then None
-    else if lies_in a n (data_start p) s.data_bytes then Some (part_of s.data_bytes (a - data_start p) n)
-    else if lies_in a n (stack_start p) s.stack_bytes then Some (part_of s.stack_bytes (a - stack_start p) n)
+    else if lies_in a n (data_start p) s.data_bytes then Some (byte_range s.data_bytes (a - data_start p) n)
+    else if lies_in a n (stack_start p) s.stack_bytes then Some (byte_range s.stack_bytes (a - stack_start p) n)
     else None
 
 -- the state with bytes in the place of those at an address, under the same condition

@@ -10,7 +10,7 @@ use Rattle.alpha_isa.specs.declared.insn.BranchOp.{BranchOp}
 use Rattle.alpha_isa.specs.declared.insn.BranchOp.TheVariants.{Br, Bsr, Blbc, Beq, Blt, Ble, Blbs, Bne, Bge, Bgt}
 use Rattle.alpha_isa.specs.Arithmetic.{OperationEffect, Gives, Keeps, Overflows, word_at, word_from, signed_value, sign_extension, operation_effect}
 use Rattle.alpha_isa.specs.Program.{Program, instruction_at}
-use Rattle.alpha_isa.specs.State.{State, register, with_register, operand, bytes_at, with_bytes}
+use Rattle.alpha_isa.specs.State.{State, register, with_register, operand_value, bytes_at, with_bytes}
 
 -- how a run ends: with a status, by a trap, or at a place where there is nothing that it can do
 pub data Halt : Type 0 where
@@ -30,51 +30,55 @@ next_pc s = s.pc + 4
 abbrev pub next_instruction : State → MachineNext
 next_instruction s = Goes (record s { pc = next_pc s })
 
-abbrev pub stuck : State → MachineNext
-stuck s = Over (Stuck s.pc) s
+abbrev pub stuck_at : State → MachineNext
+stuck_at s = Over (Stuck s.pc) s
 
 -- ---- addresses and memory
 
 -- a register plus a displacement
-abbrev pub address : State → ℕ → ℤ → ℕ
-address s rb disp = word_at (register s rb + word_from disp)
+abbrev pub memory_address : State → ℕ → ℤ → ℕ
+memory_address s rb disp = word_at (register s rb + word_from disp)
 
 -- a load gives what was read to a register, and a store goes on from what was written
 abbrev pub load_into : (List ℕ → ℕ) → ℕ → Option (List ℕ) → State → MachineNext
-load_into value ra None s = stuck s
+load_into value ra None s = stuck_at s
 load_into value ra (Some bytes) s = next_instruction (with_register ra (value bytes) s)
 
 abbrev pub go_on_stored : Option State → State → MachineNext
-go_on_stored None s = stuck s
+go_on_stored None s = stuck_at s
 go_on_stored (Some t) s = next_instruction t
 
 abbrev pub memory_step : Program → MemoryOp → ℕ → ℕ → ℤ → State → MachineNext
-memory_step p Lda ra rb disp s = next_instruction (with_register ra (address s rb disp) s)
-memory_step p Ldah ra rb disp s = next_instruction (with_register ra (address s rb (disp *ℤ pos 65536)) s)
-memory_step p Ldbu ra rb disp s = load_into (from_le_bytes w8) ra (bytes_at p s (address s rb disp) 1) s
-memory_step p Ldwu ra rb disp s = load_into (from_le_bytes w16) ra (bytes_at p s (address s rb disp) 2) s
+memory_step p Lda ra rb disp s = next_instruction (with_register ra (memory_address s rb disp) s)
+memory_step p Ldah ra rb disp s = next_instruction (with_register ra (memory_address s rb (disp *ℤ pos 65536)) s)
+memory_step p Ldbu ra rb disp s = load_into (from_le_bytes w8) ra (bytes_at p s (memory_address s rb disp) 1) s
+memory_step p Ldwu ra rb disp s = load_into (from_le_bytes w16) ra (bytes_at p s (memory_address s rb disp) 2) s
 memory_step p Ldl ra rb disp s =
-    load_into (λ bytes. sign_extension w32 (from_le_bytes w32 bytes)) ra (bytes_at p s (address s rb disp) 4) s
-memory_step p Ldq ra rb disp s = load_into (from_le_bytes w64) ra (bytes_at p s (address s rb disp) 8) s
-memory_step p Stb ra rb disp s = go_on_stored (with_bytes p s (address s rb disp) (to_le_bytes w8 (register s ra))) s
-memory_step p Stw ra rb disp s = go_on_stored (with_bytes p s (address s rb disp) (to_le_bytes w16 (register s ra))) s
-memory_step p Stl ra rb disp s = go_on_stored (with_bytes p s (address s rb disp) (to_le_bytes w32 (register s ra))) s
-memory_step p Stq ra rb disp s = go_on_stored (with_bytes p s (address s rb disp) (to_le_bytes w64 (register s ra))) s
+    load_into (λ bytes. sign_extension w32 (from_le_bytes w32 bytes)) ra (bytes_at p s (memory_address s rb disp) 4) s
+memory_step p Ldq ra rb disp s = load_into (from_le_bytes w64) ra (bytes_at p s (memory_address s rb disp) 8) s
+memory_step p Stb ra rb disp s =
+    go_on_stored (with_bytes p s (memory_address s rb disp) (to_le_bytes w8 (register s ra))) s
+memory_step p Stw ra rb disp s =
+    go_on_stored (with_bytes p s (memory_address s rb disp) (to_le_bytes w16 (register s ra))) s
+memory_step p Stl ra rb disp s =
+    go_on_stored (with_bytes p s (memory_address s rb disp) (to_le_bytes w32 (register s ra))) s
+memory_step p Stq ra rb disp s =
+    go_on_stored (with_bytes p s (memory_address s rb disp) (to_le_bytes w64 (register s ra))) s
 
 -- ---- branches and jumps
 
 -- the test that a branch makes of its register
-abbrev pub is_taken : BranchOp → ℕ → Bool
-is_taken Br a = true
-is_taken Bsr a = true
-is_taken Blbc a = a % 2 == 0
-is_taken Blbs a = a % 2 == 1
-is_taken Beq a = a == 0
-is_taken Bne a = not (a == 0)
-is_taken Blt a = int_lt (signed_value w64 a) (pos 0)
-is_taken Bge a = not (int_lt (signed_value w64 a) (pos 0))
-is_taken Ble a = not (int_lt (pos 0) (signed_value w64 a))
-is_taken Bgt a = int_lt (pos 0) (signed_value w64 a)
+abbrev pub is_branch_taken : BranchOp → ℕ → Bool
+is_branch_taken Br a = true
+is_branch_taken Bsr a = true
+is_branch_taken Blbc a = a % 2 == 0
+is_branch_taken Blbs a = a % 2 == 1
+is_branch_taken Beq a = a == 0
+is_branch_taken Bne a = not (a == 0)
+is_branch_taken Blt a = int_lt (signed_value w64 a) (pos 0)
+is_branch_taken Bge a = not (int_lt (signed_value w64 a) (pos 0))
+is_branch_taken Ble a = not (int_lt (pos 0) (signed_value w64 a))
+is_branch_taken Bgt a = int_lt (pos 0) (signed_value w64 a)
 
 -- br and bsr leave the next address in their register
 abbrev pub links : BranchOp → Bool
@@ -89,7 +93,7 @@ branch_target s disp = word_at (next_pc s + word_from (disp *ℤ pos 4))
 abbrev pub branch_step : BranchOp → ℕ → ℤ → State → MachineNext
 branch_step op ra disp s =
     let linked = if links op then with_register ra (next_pc s) s else s in
-    Goes (record linked { pc = if is_taken op (register s ra) then branch_target s disp else next_pc s })
+    Goes (record linked { pc = if is_branch_taken op (register s ra) then branch_target s disp else next_pc s })
 
 -- a jump leaves the next address in its register, and goes to the other's with its two low bits cleared
 abbrev pub jump_step : ℕ → ℕ → State → MachineNext
@@ -121,14 +125,14 @@ service_step number s =
     else if number == 2 then next_instruction (record s { output = s.output ++ (register s 16 % 256) ∷ [] })
     else if number == 3
     then next_instruction (with_register 0 (input_word s.input) (record s { input = input_rest s.input }))
-    else stuck s
+    else stuck_at s
 
 -- 83 (hexadecimal) calls a service, AA traps with the code in register 16
 abbrev pub pal_step : ℕ → State → MachineNext
 pal_step function s =
     if function == 0x83 then service_step (register s 0) s
     else if function == 0xAA then Over (Trap (register s 16)) s
-    else stuck s
+    else stuck_at s
 
 -- ---- steps
 
@@ -136,11 +140,12 @@ abbrev pub insn_step : Program → Fields → State → MachineNext
 insn_step p (fields.Memory op ra rb disp) s = memory_step p op ra rb disp s
 insn_step p (fields.Branch op ra disp) s = branch_step op ra disp s
 insn_step p (fields.Jump op ra rb) s = jump_step ra rb s
-insn_step p (fields.Operate op ra rb rc) s = operate_step (operation_effect op (register s ra) (operand s rb)) rc s
+insn_step p (fields.Operate op ra rb rc) s =
+    operate_step (operation_effect op (register s ra) (operand_value s rb)) rc s
 insn_step p (fields.Pal function) s = pal_step function s
 
 abbrev pub fetched_step : Program → Option Fields → State → MachineNext
-fetched_step p None s = stuck s
+fetched_step p None s = stuck_at s
 fetched_step p (Some i) s = insn_step p i s
 
 -- one step from a state

@@ -7,7 +7,7 @@ use Rattle.alpha_isa.specs.declared.insn.Operand.{Operand}
 use Rattle.alpha_isa.specs.declared.insn.Operand.TheVariants.{Reg, Literal}
 use Rattle.alpha_isa.specs.declared.insn.OperateOp.{OperateOp}
 use Rattle.alpha_isa.specs.declared.insn.OperateOp.TheVariants.{Sextb, Sextw}
-use Rattle.alpha_isa.specs.Lawful.{is_call}
+use Rattle.alpha_isa.specs.Lawful.{is_pal_function}
 use Rattle.alpha_isa.specs.Codes.{memory_code, branch_code, jump_code, operate_opcode, operate_function, memory_at, branch_at, jump_at, operate_at}
 
 -- a number of 21 bits in two's complement, and back
@@ -24,13 +24,13 @@ operand_bits (Reg r) = r * 2 ^ 16
 operand_bits (Literal n) = n * 2 ^ 13 + 2 ^ 12
 
 -- the word that stands for an instruction
-abbrev pub word_of : Fields → ℕ
-word_of (fields.Memory op ra rb disp) = memory_code op * 2 ^ 26 + ra * 2 ^ 21 + rb * 2 ^ 16 + cast_unsigned w16 disp
-word_of (fields.Branch op ra disp) = branch_code op * 2 ^ 26 + ra * 2 ^ 21 + branch_bits disp
-word_of (fields.Jump op ra rb) = 0x1A * 2 ^ 26 + ra * 2 ^ 21 + rb * 2 ^ 16 + jump_code op * 2 ^ 14
-word_of (fields.Operate op ra rb rc) =
+abbrev pub insn_word : Fields → ℕ
+insn_word (fields.Memory op ra rb disp) = memory_code op * 2 ^ 26 + ra * 2 ^ 21 + rb * 2 ^ 16 + cast_unsigned w16 disp
+insn_word (fields.Branch op ra disp) = branch_code op * 2 ^ 26 + ra * 2 ^ 21 + branch_bits disp
+insn_word (fields.Jump op ra rb) = 0x1A * 2 ^ 26 + ra * 2 ^ 21 + rb * 2 ^ 16 + jump_code op * 2 ^ 14
+insn_word (fields.Operate op ra rb rc) =
     operate_opcode op * 2 ^ 26 + ra * 2 ^ 21 + operand_bits rb + operate_function op * 2 ^ 5 + rc
-word_of (fields.Pal function) = function
+insn_word (fields.Pal function) = function
 
 -- the fields of a word
 abbrev pub opcode_of : ℕ → ℕ
@@ -81,7 +81,7 @@ operate_insn word =
     operation (operate_at (opcode_of word) (word / 2 ^ 5 % 128)) (operand_at word) (ra_of word) (rc_of word)
 
 unfoldable pub pal_insn : ℕ → Option Fields
-pal_insn word = if is_call word then Some (fields.Pal word) else None
+pal_insn word = if is_pal_function word then Some (fields.Pal word) else None
 
 -- whether an opcode is that of an operation
 abbrev pub is_operate : ℕ → Bool

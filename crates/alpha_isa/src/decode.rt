@@ -3,7 +3,7 @@
 ghost use Rattle.std.specs.Prelude.{◌≡◌, ◌≢◌, ◌*◌, ◌<◌, ◌^◌, ◌↔◌, IfSome, IsTrue, Some};
 ghost use Rattle.alpha_isa.specs.declared.insn.Fields.{Fields};
 ghost use Rattle.alpha_isa.specs.Lawful.{AreLawfulFields, IsBranchDisplacement};
-ghost use Rattle.alpha_isa.specs.Words.{word_of, insn_of, pal_insn, memory_insn, branch_insn, jump_insn, operate_insn, operand_at, branch_displacement, opcode_of, ra_of, rb_of, rc_of, is_operate, extends};
+ghost use Rattle.alpha_isa.specs.Words.{insn_word, insn_of, pal_insn, memory_insn, branch_insn, jump_insn, operate_insn, operand_at, branch_displacement, opcode_of, ra_of, rb_of, rc_of, is_operate, extends};
 
 use crate::codes::{branch_op, jump_op, memory_op, operate_op};
 use crate::encode::{JUMP, encode};
@@ -11,8 +11,8 @@ use crate::insn::{Fields, Insn32, Operand, OperateOp};
 
 /// The instruction that a word stands for. `None` comes exactly where no instruction has that word.
 pub fn decode(word: u32) -> Option<Insn32>
-    ensures found { IfSome result (λ i. word_of i ≡ word) }
-    ensures only { (i : Fields) → AreLawfulFields i → word_of i ≡ word → result ≡ Some i }
+    ensures found { IfSome result (λ i. insn_word i ≡ word) }
+    ensures only { (i : Fields) → AreLawfulFields i → insn_word i ≡ word → result ≡ Some i }
     ensures exact { result ≡ insn_of word }
 {
     let fields = fields_of(word)?;

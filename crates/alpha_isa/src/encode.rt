@@ -2,7 +2,7 @@
 
 ghost use Rattle.std.specs.Prelude.{◌≡◌, ◌+◌, ◌*◌, ◌<◌, ◌^◌};
 ghost use Rattle.alpha_isa.specs.Lawful.{IsOperand, IsBranchDisplacement};
-ghost use Rattle.alpha_isa.specs.Words.{word_of, branch_bits, operand_bits};
+ghost use Rattle.alpha_isa.specs.Words.{insn_word, branch_bits, operand_bits};
 
 use crate::codes::{branch_opcode, jump_kind, memory_opcode, operate_codes};
 use crate::insn::{Fields, Insn32, Operand};
@@ -12,7 +12,7 @@ pub(crate) const JUMP: u32 = 0x1a;
 
 /// The word that stands for an instruction.
 pub fn encode(insn: &Insn32) -> u32
-    ensures { result ≡ word_of insn.now }
+    ensures { result ≡ insn_word insn.now }
 {
     match insn.fields {
         Fields::Memory { op, ra, rb, disp } => {

@@ -9,7 +9,7 @@ use Rattle.alpha_isa.specs.Lawful.{IsBranchDisplacement}
 use Rattle.alpha_items.specs.declared.item.AsmItem.{AsmItem}
 use Rattle.alpha_items.specs.declared.item.AsmItem.TheVariants.{Label, Name, Plain, Branch, TextAddress, DataAddress}
 use Rattle.alpha_items.specs.Assembly.{label_index}
-use Rattle.alpha_items.specs.Layout.{place, label_place, displacement, ItemReaches, is_far, AllReach, IsForced, IsLeastFar}
+use Rattle.alpha_items.specs.Layout.{item_place, label_place, displacement, ItemReaches, is_far, AllReach, IsForced, IsLeastFar}
 use Rattle.alpha_items.proofs.Reach.{reaches_from}
 use Rattle.alpha_items.proofs.Far.{place_mono}
 use Rattle.alpha_items.proofs.Forced.{IsShort, forced_ahead, forced_back}
@@ -23,9 +23,9 @@ record Grows (items : List AsmItem) (far : List Bool) : Type 0 where
 
 -- a branch reaches, or has to become far
 judge_branch : (items : List AsmItem) (far : List Bool) (k : ℕ) (op : BranchOp) (ra l : ℕ) → IsShort items far k op ra l → IsForced items far →
-    IsBranchDisplacement (displacement (place items far k) (label_place items far l)) ⊎ Grows items far
+    IsBranchDisplacement (displacement (item_place items far k) (label_place items far l)) ⊎ Grows items far
 judge_branch items far k op ra l s forced =
-    let here : ℕ = place items far k in
+    let here : ℕ = item_place items far k in
     let there : ℕ = label_place items far l in
     ⊎_elim
     (λ (ahead : k < label_index items l).
@@ -45,7 +45,7 @@ judge_branch items far k op ra l s forced =
 
 judge_item : (items : List AsmItem) (far : List Bool) (k : ℕ) (i : AsmItem) → length far ≡ length items → k < length items →
     get_or items k (Label 0) ≡ i → is_far far k ≡ false → IsForced items far →
-    ItemReaches (label_place items far) (place items far k) i ⊎ Grows items far
+    ItemReaches (label_place items far) (item_place items far k) i ⊎ Grows items far
 judge_item items far k (Label l) e inside is short forced = inl tt
 judge_item items far k (Name bytes) e inside is short forced = inl tt
 judge_item items far k (Plain insn) e inside is short forced = inl tt
@@ -62,18 +62,18 @@ judge_item items far k (DataAddress ra offset) e inside is short forced = inl tt
 -- all branches before an item reach, or one has to become far
 ReachBefore : List AsmItem → List Bool → ℕ → Type 0
 ReachBefore items far n = (k : ℕ) (d : AsmItem) → k < n → k < length items → is_far far k ≡ false →
-    ItemReaches (label_place items far) (place items far k) (get_or items k d)
+    ItemReaches (label_place items far) (item_place items far k) (get_or items k d)
 
 reach_more : (items : List AsmItem) (far : List Bool) (n : ℕ) → ReachBefore items far n →
-    (n < length items → is_far far n ≡ false → ItemReaches (label_place items far) (place items far n) (get_or items n (Label 0))) →
+    (n < length items → is_far far n ≡ false → ItemReaches (label_place items far) (item_place items far n) (get_or items n (Label 0))) →
     ReachBefore items far (suc n)
 unfolding ReachBefore
 reach_more items far n before here k d below inside short =
     ⊎_elim (λ (earlier : k < n). before k d earlier inside short)
     (λ (not_earlier : n ≤ k).
     let same : n ≡ k = omega (arith, below, not_earlier) in
-    let P : ℕ → Type 0 = λ m. m < length items → is_far far m ≡ false → ItemReaches (label_place items far) (place items far m) (get_or items m (Label 0)) in
-    let Q : AsmItem → Type 0 = λ i. ItemReaches (label_place items far) (place items far k) i in
+    let P : ℕ → Type 0 = λ m. m < length items → is_far far m ≡ false → ItemReaches (label_place items far) (item_place items far m) (get_or items m (Label 0)) in
+    let Q : AsmItem → Type 0 = λ i. ItemReaches (label_place items far) (item_place items far k) i in
     subst Q (get_or_default items k (Label 0) d inside) (subst P same here inside short))
     (cases_lt k n)
 
@@ -82,12 +82,12 @@ unfolding ReachBefore
 reach_first items far k d below inside short = absurd (omega (arith, below))
 
 judge_one : (items : List AsmItem) (far : List Bool) (n : ℕ) → length far ≡ length items → IsForced items far →
-    (n < length items → is_far far n ≡ false → ItemReaches (label_place items far) (place items far n) (get_or items n (Label 0))) ⊎ Grows items far
+    (n < length items → is_far far n ≡ false → ItemReaches (label_place items far) (item_place items far n) (get_or items n (Label 0))) ⊎ Grows items far
 judge_one items far n e forced =
     ⊎_elim (λ (inside : n < length items).
     ⊎_elim (λ (set_already : is_far far n ≡ true). inl (λ _ short. let clash : true ≡ false = sym set_already ∙ short in let none : ⊥ = cc in absurd none))
     (λ (short : is_far far n ≡ false).
-    ⊎_elim (λ (reaches : ItemReaches (label_place items far) (place items far n) (get_or items n (Label 0))). inl (λ _ _. reaches))
+    ⊎_elim (λ (reaches : ItemReaches (label_place items far) (item_place items far n) (get_or items n (Label 0))). inl (λ _ _. reaches))
     (λ (grows : Grows items far). inr grows)
     (judge_item items far n (get_or items n (Label 0)) e inside refl short forced))
     (cases_Bool (is_far far n)))
@@ -98,7 +98,7 @@ judge_before : (items : List AsmItem) (far : List Bool) (n : ℕ) → length far
 judge_before items far zero e forced = inl (reach_first items far)
 judge_before items far (suc n) e forced =
     ⊎_elim (λ (before : ReachBefore items far n).
-    ⊎_elim (λ (here : n < length items → is_far far n ≡ false → ItemReaches (label_place items far) (place items far n) (get_or items n (Label 0))).
+    ⊎_elim (λ (here : n < length items → is_far far n ≡ false → ItemReaches (label_place items far) (item_place items far n) (get_or items n (Label 0))).
     inl (reach_more items far n before here))
     (λ (grows : Grows items far). inr grows)
     (judge_one items far n e forced))

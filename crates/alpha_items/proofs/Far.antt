@@ -5,7 +5,7 @@ use Rattle.alpha_items.specs.declared.item.AsmItem.{AsmItem}
 use Rattle.alpha_items.specs.declared.item.AsmItem.TheVariants.{Label, Name, Plain, Branch, TextAddress, DataAddress}
 use Rattle.alpha_isa.specs.declared.insn.BranchOp.{BranchOp}
 use Rattle.alpha_isa.specs.declared.insn.BranchOp.TheVariants.{Br, Bsr, Blbc, Beq, Blt, Ble, Blbs, Bne, Bge, Bgt}
-use Rattle.alpha_items.specs.Layout.{item_words, sizes, place, is_far, Within}
+use Rattle.alpha_items.specs.Layout.{item_words, sizes, item_place, is_far, Within}
 use Rattle.alpha_items.proofs.Sums.{sum-more, part_grows}
 
 -- a text has as many sizes as items
@@ -24,8 +24,8 @@ sizes-at (i ∷ items) (f ∷ far) (suc k) d e h = sizes-at items far k d (omega
 
 -- the words before the next item
 pub place-more : (items : List AsmItem) (far : List Bool) (k : ℕ) (d : AsmItem) → length far ≡ length items → k < length items →
-    place items far (suc k) ≡ place items far k + item_words (is_far far k) (get_or items k d)
-place-more items far k d e h = sum-more (sizes items far) k ∙ ap (λ n. place items far k + n) (sizes-at items far k d e h)
+    item_place items far (suc k) ≡ item_place items far k + item_words (is_far far k) (get_or items k d)
+place-more items far k d e h = sum-more (sizes items far) k ∙ ap (λ n. item_place items far k + n) (sizes-at items far k d e h)
 
 -- an item that is far has no fewer words
 branch_grows : (op : BranchOp) (ra l : ℕ) → 1 ≤ item_words true (Branch op ra l)
@@ -65,25 +65,25 @@ sizes_grow (i ∷ items) (b ∷ far) (c ∷ other) e f within (suc k) =
 
 -- the words between two items only grow with the far branches
 pub gap_grows : (items : List AsmItem) (far other : List Bool) → length far ≡ length items → length other ≡ length items → Within far other →
-    (i j : ℕ) → i ≤ j → place items far j + place items other i ≤ place items other j + place items far i
+    (i j : ℕ) → i ≤ j → item_place items far j + item_place items other i ≤ item_place items other j + item_place items far i
 gap_grows items far other e f within i j h =
     let n : ℕ = j - i in
     let at : i + n ≡ j = omega (arith, h) in
     let grown = part_grows (sizes items far) (sizes items other) (sizes_grow items far other e f within) i n in
-    let P : ℕ → Type 0 = λ m. place items far m + place items other i ≤ place items other m + place items far i in
+    let P : ℕ → Type 0 = λ m. item_place items far m + item_place items other i ≤ item_place items other m + item_place items far i in
     subst P at grown
 
 -- places rise
-place_rises : (items : List AsmItem) (far : List Bool) (k n : ℕ) → place items far k ≤ place items far (k + n)
+place_rises : (items : List AsmItem) (far : List Bool) (k n : ℕ) → item_place items far k ≤ item_place items far (k + n)
 place_rises items far k zero = simp unary_clauses (omega arith)
 place_rises items far k (suc n) =
     let before = place_rises items far k n in
     let more = sum-more (sizes items far) (k + n) in
     simp unary_clauses (omega (arith, before, more))
 
-pub place_mono : (items : List AsmItem) (far : List Bool) (i j : ℕ) → i ≤ j → place items far i ≤ place items far j
+pub place_mono : (items : List AsmItem) (far : List Bool) (i j : ℕ) → i ≤ j → item_place items far i ≤ item_place items far j
 place_mono items far i j h =
     let n : ℕ = j - i in
     let at : i + n ≡ j = omega (arith, h) in
-    let P : ℕ → Type 0 = λ m. place items far i ≤ place items far m in
+    let P : ℕ → Type 0 = λ m. item_place items far i ≤ item_place items far m in
     subst P at (place_rises items far i n)

@@ -6,7 +6,7 @@ use Rattle.alpha_isa.specs.declared.insn.BranchOp.{BranchOp}
 use Rattle.alpha_items.specs.declared.item.AsmItem.{AsmItem}
 use Rattle.alpha_items.specs.declared.item.AsmItem.TheVariants.{Label, Branch}
 use Rattle.alpha_items.specs.Assembly.{label_index}
-use Rattle.alpha_items.specs.Layout.{item_words, place, label_place, ItemReaches, is_far, AllReach, Within, IsForced}
+use Rattle.alpha_items.specs.Layout.{item_words, item_place, label_place, ItemReaches, is_far, AllReach, Within, IsForced}
 use Rattle.alpha_items.proofs.Reach.{reaches_within}
 use Rattle.alpha_items.proofs.Far.{place-more, gap_grows}
 
@@ -33,24 +33,24 @@ record Judged (items : List AsmItem) (far other : List Bool) (k t : ℕ) : Type 
   other_one_each : length other ≡ length items
   inside : k < length items
   within : Within far other
-  short : place items far (suc k) ≡ place items far k + 1
-  other_short : place items other (suc k) ≡ place items other k + 1
-  near : place items other t < place items other k + 1 + 1048576
-  near_back : place items other k + 1 ≤ place items other t + 1048576
+  short : item_place items far (suc k) ≡ item_place items far k + 1
+  other_short : item_place items other (suc k) ≡ item_place items other k + 1
+  near : item_place items other t < item_place items other k + 1 + 1048576
+  near_back : item_place items other k + 1 ≤ item_place items other t + 1048576
 
 reaches_at : (items : List AsmItem) (other : List Bool) (i d : AsmItem) (op : BranchOp) (ra l k : ℕ) → i ≡ Branch op ra l →
-    ItemReaches (label_place items other) (place items other k) i →
-    (place items other (label_index items l) < place items other k + 1 + 1048576) × (place items other k + 1 ≤ place items other (label_index items l) + 1048576)
+    ItemReaches (label_place items other) (item_place items other k) i →
+    (item_place items other (label_index items l) < item_place items other k + 1 + 1048576) × (item_place items other k + 1 ≤ item_place items other (label_index items l) + 1048576)
 reaches_at items other i d op ra l k e h =
-    let P : AsmItem → Type 0 = λ x. ItemReaches (label_place items other) (place items other k) x in
-    reaches_within (place items other k) (label_place items other l) (subst P e h)
+    let P : AsmItem → Type 0 = λ x. ItemReaches (label_place items other) (item_place items other k) x in
+    reaches_within (item_place items other k) (label_place items other l) (subst P e h)
 
 short_branch : (items : List AsmItem) (far : List Bool) (k : ℕ) (d : AsmItem) (op : BranchOp) (ra l : ℕ) → length far ≡ length items → k < length items →
-    get_or items k d ≡ Branch op ra l → is_far far k ≡ false → place items far (suc k) ≡ place items far k + 1
+    get_or items k d ≡ Branch op ra l → is_far far k ≡ false → item_place items far (suc k) ≡ item_place items far k + 1
 short_branch items far k d op ra l e h at near =
     place-more items far k d e h
-    ∙ ap (λ f. place items far k + item_words f (get_or items k d)) near
-    ∙ ap (λ i. place items far k + item_words false i) at
+    ∙ ap (λ f. item_place items far k + item_words f (get_or items k d)) near
+    ∙ ap (λ i. item_place items far k + item_words false i) at
 
 judged : (items : List AsmItem) (far other : List Bool) (k : ℕ) (d : AsmItem) (op : BranchOp) (ra l : ℕ) →
     length far ≡ length items → length other ≡ length items → k < length items → Within far other → AllReach items other →
@@ -69,13 +69,13 @@ judged items far other k d op ra l e f h within reach at near other_near =
     }
 
 too_far_ahead : (items : List AsmItem) (far other : List Bool) (k t : ℕ) → Judged items far other k t → k < t →
-    place items far t < place items far k + 1 + 1048576
+    item_place items far t < item_place items far k + 1 + 1048576
 too_far_ahead items far other k t j ahead =
     let gap = gap_grows items far other j.one_each j.other_one_each j.within (suc k) t (omega (arith, ahead)) in
     omega (arith, gap, j.short, j.other_short, j.near)
 
 too_far_back : (items : List AsmItem) (far other : List Bool) (k t : ℕ) → Judged items far other k t → t ≤ k →
-    place items far k + 1 ≤ place items far t + 1048576
+    item_place items far k + 1 ≤ item_place items far t + 1048576
 too_far_back items far other k t j behind =
     let gap = gap_grows items far other j.one_each j.other_one_each j.within t k behind in
     omega (arith, gap, j.near_back)
@@ -89,7 +89,7 @@ pub record IsShort (items : List AsmItem) (far : List Bool) (k : ℕ) (op : Bran
 
 -- one that is too far ahead, and one that is too far back
 pub forced_ahead : (items : List AsmItem) (far : List Bool) (k : ℕ) (op : BranchOp) (ra l : ℕ) → IsShort items far k op ra l → IsForced items far →
-    k < label_index items l → place items far k + 1 + 1048576 ≤ label_place items far l → IsForced items (set far k true)
+    k < label_index items l → item_place items far k + 1 + 1048576 ≤ label_place items far l → IsForced items (set far k true)
 forced_ahead items far k op ra l s forced ahead beyond = forced_set items far k forced (λ other e reach within.
     by_truth (is_far other k) (λ near.
     let j = judged items far other k (Label 0) op ra l s.one_each e s.inside within reach (s.is_branch (Label 0)) s.short near in
@@ -97,7 +97,7 @@ forced_ahead items far k op ra l s forced ahead beyond = forced_set items far k 
     let clash : ⊥ = omega (arith, close, beyond) in absurd clash))
 
 pub forced_back : (items : List AsmItem) (far : List Bool) (k : ℕ) (op : BranchOp) (ra l : ℕ) → IsShort items far k op ra l → IsForced items far →
-    label_index items l ≤ k → label_place items far l + 1048576 < place items far k + 1 → IsForced items (set far k true)
+    label_index items l ≤ k → label_place items far l + 1048576 < item_place items far k + 1 → IsForced items (set far k true)
 forced_back items far k op ra l s forced behind beyond = forced_set items far k forced (λ other e reach within.
     by_truth (is_far other k) (λ near.
     let j = judged items far other k (Label 0) op ra l s.one_each e s.inside within reach (s.is_branch (Label 0)) s.short near in

@@ -2,7 +2,7 @@
 use Rattle.std.proofs.Common.{◌≡◌, ℕ, ◌+◌, ◌*◌, Bool, true, false, List, [], ◌∷◌, length, map, get_or, refl, sym, ◌∙◌, ap, arith}
 use Rattle.std.proofs.lemmas.List.{ext_get_or, length-append, length-map}
 use Rattle.alpha_isa.specs.declared.insn.BranchOp.TheVariants.{Br, Bsr, Blbc, Beq, Blt, Ble, Blbs, Bne, Bge, Bgt}
-use Rattle.alpha_isa.specs.Words.{word_of}
+use Rattle.alpha_isa.specs.Words.{insn_word}
 use Rattle.alpha_isa.specs.Program.{Program, data_of, data_start, next_part, text_start}
 use Rattle.alpha_isa.proofs.Zeros.{same_bytes_cut}
 use Rattle.alpha_items.specs.declared.item.AsmItem.{AsmItem}
@@ -59,7 +59,7 @@ length-text_insns there start here (i ∷ items) (f ∷ far) =
 pub length-words : (a : Assembly) (p : Program) (w : Words a p) → length p.words ≡ text_words a.items w.far
 length-words a p w =
     let insns = text_insns (label_place a.items w.far) (data_start p) 0 a.items w.far in
-    ap length w.words ∙ length-map insns word_of ∙ length-text_insns (label_place a.items w.far) (data_start p) 0 a.items w.far
+    ap length w.words ∙ length-map insns insn_word ∙ length-text_insns (label_place a.items w.far) (data_start p) 0 a.items w.far
 
 -- images are equal where their parts are
 abbrev program : List ℕ → List ℕ → ℕ → ℕ → Program
@@ -75,8 +75,8 @@ image_unique a p q v w =
     let far = far_unique a.items v.far w.far v.least w.least in
     let counts = length-words a p v ∙ ap (text_words a.items) far ∙ sym (length-words a q w) in
     let starts : data_start p ≡ data_start q = ap (λ n. next_part (text_start + 4 * n)) counts in
-    let words : p.words ≡ q.words = v.words ∙ ap (λ f. map word_of (text_insns (label_place a.items f) (data_start p) 0 a.items f)) far
-    ∙ ap (λ s. map word_of (text_insns (label_place a.items w.far) s 0 a.items w.far)) starts ∙ sym w.words in
+    let words : p.words ≡ q.words = v.words ∙ ap (λ f. map insn_word (text_insns (label_place a.items f) (data_start p) 0 a.items f)) far
+    ∙ ap (λ s. map insn_word (text_insns (label_place a.items w.far) s 0 a.items w.far)) starts ∙ sym w.words in
     let held : data_of p ≡ data_of q = v.data_bytes ∙ ap (λ s. fixed_data s a.bytes a.fixes) starts ∙ sym w.data_bytes in
     let bytes = same_bytes_cut p.bytes q.bytes p.zeros q.zeros held v.last w.last in
     let entry : p.entry ≡ q.entry = v.entry ∙ ap (λ f. label_place a.items f 0) far ∙ sym w.entry in

@@ -4,7 +4,7 @@ use Rattle.std.specs.List.{All, AllPairs, AllAdjacentBelow, Contains, filter_map
 use Rattle.alpha_isa.specs.Program.{most_bytes}
 use Rattle.alpha_items.specs.declared.item.AsmItem.{AsmItem}
 use Rattle.alpha_items.specs.declared.item.Fix.{Fix}
-use Rattle.alpha_items.specs.Items.{label_named, label_used, names, gives_word, IsItem}
+use Rattle.alpha_items.specs.Items.{label_named, label_used, names_label, gives_word, IsItem}
 
 -- the items of the text, the bytes of the data, and the places of the data that hold addresses
 pub record Assembly : Type 0 where
@@ -18,7 +18,7 @@ labels items = filter_map label_named items
 
 -- how many items stand before the one that names a label
 abbrev pub label_index : List AsmItem → ℕ → ℕ
-label_index items l = position_or_len (names l) items
+label_index items l = position_or_len (names_label l) items
 
 -- the 8 bytes of a fix lie within data of so many bytes, and so does its offset, which may be the end
 abbrev pub IsFix : ℕ → Fix → Type 0

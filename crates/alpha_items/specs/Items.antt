@@ -29,9 +29,9 @@ label_used (TextAddress ra l) = Some l
 label_used _ = None
 
 -- whether an item names this label, and whether it gives a word
-abbrev pub names : ℕ → AsmItem → Bool
-names l (Label m) = m == l
-names l _ = false
+abbrev pub names_label : ℕ → AsmItem → Bool
+names_label l (Label m) = m == l
+names_label l _ = false
 
 abbrev pub gives_word : AsmItem → Bool
 gives_word (Label l) = false

@@ -26,11 +26,11 @@ sizes (i ∷ items) (f ∷ far) = item_words f i ∷ sizes items far
 abbrev pub text_words : List AsmItem → List Bool → ℕ
 text_words items far = sum (sizes items far)
 
-abbrev pub place : List AsmItem → List Bool → ℕ → ℕ
-place items far k = sum (take k (sizes items far))
+abbrev pub item_place : List AsmItem → List Bool → ℕ → ℕ
+item_place items far k = sum (take k (sizes items far))
 
 abbrev pub label_place : List AsmItem → List Bool → ℕ → ℕ
-label_place items far l = place items far (label_index items l)
+label_place items far l = item_place items far (label_index items l)
 
 -- how many words past the next one a branch at a word goes, and whether a branch reaches so far
 abbrev pub displacement : ℕ → ℕ → ℤ
@@ -47,7 +47,7 @@ is_far far k = slice_index_or far k false
 abbrev pub AllReach : List AsmItem → List Bool → Type 0
 AllReach items far =
     (k : ℕ) (d : AsmItem) → k < length items → is_far far k ≡ false →
-    ItemReaches (label_place items far) (place items far k) (slice_index_or items k d)
+    ItemReaches (label_place items far) (item_place items far k) (slice_index_or items k d)
 
 -- the far ones of a list are far in another
 abbrev pub Within : List Bool → List Bool → Type 0

@@ -8,7 +8,7 @@ use Rattle.alpha_isa.specs.declared.insn.MemoryOp.TheVariants.{Lda, Ldah}
 use Rattle.alpha_isa.specs.declared.insn.JumpOp.TheVariants.{Jmp, Jsr}
 use Rattle.alpha_isa.specs.declared.insn.BranchOp.{BranchOp}
 use Rattle.alpha_isa.specs.declared.insn.BranchOp.TheVariants.{Br, Bsr, Blbc, Beq, Blt, Ble, Blbs, Bne, Bge, Bgt}
-use Rattle.alpha_isa.specs.Words.{word_of}
+use Rattle.alpha_isa.specs.Words.{insn_word}
 use Rattle.alpha_isa.specs.Program.{Program, data_of, last_byte, data_start, word_address}
 use Rattle.alpha_isa.specs.State.{with_part}
 use Rattle.alpha_items.specs.declared.item.AsmItem.{AsmItem}
@@ -83,7 +83,7 @@ fixed_data start bytes fixes = fold (with_fix start) bytes fixes
 pub record Words (a : Assembly) (p : Program) : Type 0 where
   pub far : List Bool
   pub least : IsLeastFar a.items far
-  pub words : p.words ≡ map word_of (text_insns (label_place a.items far) (data_start p) 0 a.items far)
+  pub words : p.words ≡ map insn_word (text_insns (label_place a.items far) (data_start p) 0 a.items far)
   pub data_bytes : data_of p ≡ fixed_data (data_start p) a.bytes a.fixes
   pub last : last_byte p.bytes ≢ Some 0
   pub entry : p.entry ≡ label_place a.items far 0

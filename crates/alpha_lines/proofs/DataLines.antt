@@ -6,7 +6,7 @@ use Rattle.std.proofs.lemmas.Bool.Decides.{nat_tests}
 use Rattle.std.proofs.lemmas.Slice.Eq.{bytes_eq-Decides}
 use Rattle.std.proofs.lemmas.List.Elements.{All-nil, All-cons, All-head, All-tail}
 use Rattle.alpha_items.specs.declared.item.Fix.{Fix}
-use Rattle.alpha_lines.specs.Lines.{statement, data_line, hex_digit, hex_byte, hex_line, fix_line}
+use Rattle.alpha_lines.specs.Lines.{word_and_rest, data_line, hex_digit, hex_byte, hex_line, fix_line}
 use Rattle.alpha_lines.specs.model.Parts.{cut}
 use Rattle.alpha_lines.specs.model.Readers.{number32_of}
 use Rattle.alpha_lines.specs.model.Data.{behind_in, behind_of, most_u64, number_in, data_of, fix_with, fix_parts, fix_in, fix_of, hex_value, hex_pair, with_first, hex_of, hex_in, hex_line_of}
@@ -15,17 +15,17 @@ use Rattle.alpha_lines.proofs.Numbers.{number_sound, number_complete}
 use Rattle.alpha_lines.proofs.Options.{guarded, split}
 use Rattle.alpha_lines.proofs.Operands.{decimal_lacks, number32_complete, number32_sound}
 
-behind_complete : (word rest : List ℕ) → Lacks 32 word → behind_of word (statement word rest) ≡ Some rest
+behind_complete : (word rest : List ℕ) → Lacks 32 word → behind_of word (word_and_rest word rest) ≡ Some rest
 unfolding behind_of
 behind_complete word rest lacks =
     let same : bytes_eq word word ≡ true = (bytes_eq-Decides word word).1 refl in
     rw (cut_front 32 word rest lacks, same) refl
 
-behind_sound : (word line rest : List ℕ) → behind_of word line ≡ Some rest → line ≡ statement word rest
+behind_sound : (word line rest : List ℕ) → behind_of word line ≡ Some rest → line ≡ word_and_rest word rest
 unfolding behind_of
 behind_sound word line rest e = by (cut 32 line) refl e
   where
-    by : (o : Option (List ℕ × List ℕ)) → cut 32 line ≡ o → behind_in word o ≡ Some rest → line ≡ statement word rest
+    by : (o : Option (List ℕ × List ℕ)) → cut 32 line ≡ o → behind_in word o ≡ Some rest → line ≡ word_and_rest word rest
     by None was h = absurd (cc)
     by (Some p) was h =
         let g = guarded (bytes_eq p.0 word) (Some p.1) rest h in
@@ -50,7 +50,7 @@ data_sound line n e = by (behind_of (codes ".data") line) refl e
     by None was h = absurd (cc)
     by (Some s) was h =
         let d = number_sound most_u64 s n h in
-        (omega (arith, d.0), behind_sound (codes ".data") line s was ∙ ap (statement (codes ".data")) d.1)
+        (omega (arith, d.0), behind_sound (codes ".data") line s was ∙ ap (word_and_rest (codes ".data")) d.1)
 
 -- fixes
 
@@ -75,7 +75,7 @@ fix_sound line fix e = by (behind_of (codes ".fix") line) refl e
         let y = number32_sound p.1 o second in
         let same : ◌≡◌ {A = Fix} (record { at = a; offset = o }) fix = cc in
         subst (λ f. (f.at < 2 ^ 32) × (f.offset < 2 ^ 32) × (line ≡ fix_line f)) same
-        (x.0, y.0, behind_sound (codes ".fix") line s was ∙ ap (statement (codes ".fix")) (cut_sound 32 s p.0 p.1 parts ∙ rw (x.1, y.1) refl))
+        (x.0, y.0, behind_sound (codes ".fix") line s was ∙ ap (word_and_rest (codes ".fix")) (cut_sound 32 s p.0 p.1 parts ∙ rw (x.1, y.1) refl))
 
     inner : (s : List ℕ) (o : Option (List ℕ × List ℕ)) → behind_of (codes ".fix") line ≡ Some s → cut 32 s ≡ o → fix_parts o ≡ Some fix → (fix.at < 2 ^ 32) × (fix.offset < 2 ^ 32) × (line ≡ fix_line fix)
     inner s None was parts h = absurd (cc)
@@ -158,4 +158,4 @@ hex_line_sound line bytes e = by (behind_of (codes ".hex") line) refl e
     by None was h = absurd (cc)
     by (Some s) was h =
         let d = hex_sound s bytes h in
-        (d.0, behind_sound (codes ".hex") line s was ∙ ap (statement (codes ".hex")) d.1)
+        (d.0, behind_sound (codes ".hex") line s was ∙ ap (word_and_rest (codes ".hex")) d.1)

@@ -9,11 +9,11 @@ use Rattle.alpha_isa.specs.declared.insn.OperateOp.TheVariants.{Addl, Subl, Cmpu
 use Rattle.alpha_lines.specs.declared.mnemonic.Mnemonic.{Mnemonic}
 use Rattle.alpha_lines.specs.declared.mnemonic.Mnemonic.TheVariants as m
 use Rattle.alpha_lines.specs.model.Mnemonics.{spelling, mnemonics, mnemonic_of}
-use Rattle.alpha_lines.specs.Lines.{statement}
+use Rattle.alpha_lines.specs.Lines.{word_and_rest}
 use Rattle.alpha_lines.specs.model.Parts.{cut}
 use Rattle.alpha_lines.proofs.Options.{found_passes}
 
-pub spelled_cut : (word : Mnemonic) (rest : List ℕ) → cut 32 (statement (spelling word) rest) ≡ Some (spelling word, rest)
+pub spelled_cut : (word : Mnemonic) (rest : List ℕ) → cut 32 (word_and_rest (spelling word) rest) ≡ Some (spelling word, rest)
 spelled_cut (m.Memory Lda) rest = refl
 spelled_cut (m.Memory Ldah) rest = refl
 spelled_cut (m.Memory Ldbu) rest = refl

@@ -15,52 +15,54 @@ use Rattle.alpha_items.specs.Items.{is_name, is_branch}
 use Rattle.alpha_lines.specs.Mnemonics.{memory_word, branch_word, jump_word, operate_word}
 
 -- `$5`, `L5`, `-8($30)` and `($27)`
-abbrev pub register : ℕ → List ℕ
-register r = 36 ∷ decimal r
+abbrev pub register_name : ℕ → List ℕ
+register_name r = 36 ∷ decimal r
 
-abbrev pub label : ℕ → List ℕ
-label l = 76 ∷ decimal l
+abbrev pub label_name : ℕ → List ℕ
+label_name l = 76 ∷ decimal l
 
-abbrev pub indirect : ℕ → List ℕ
-indirect r = 40 ∷ (register r ++ 41 ∷ [])
+abbrev pub indirect_text : ℕ → List ℕ
+indirect_text r = 40 ∷ (register_name r ++ 41 ∷ [])
 
-abbrev pub address : ℤ → ℕ → List ℕ
-address disp r = signed_decimal disp ++ indirect r
+abbrev pub address_text : ℤ → ℕ → List ℕ
+address_text disp r = signed_decimal disp ++ indirect_text r
 
 -- a second operand: `$5`, or `255`
-abbrev pub operand : Operand → List ℕ
-operand (Reg r) = register r
-operand (Literal n) = decimal n
+abbrev pub operand_name : Operand → List ℕ
+operand_name (Reg r) = register_name r
+operand_name (Literal n) = decimal n
 
 -- a word, a blank, and what it is said of
-abbrev pub statement : List ℕ → List ℕ → List ℕ
-statement word rest = word ++ 32 ∷ rest
+abbrev pub word_and_rest : List ℕ → List ℕ → List ℕ
+word_and_rest word rest = word ++ 32 ∷ rest
 
 -- two operands, with a comma and a blank between them
-abbrev pub both : List ℕ → List ℕ → List ℕ
-both a b = a ++ 44 ∷ 32 ∷ b
+abbrev pub operand_pair : List ℕ → List ℕ → List ℕ
+operand_pair a b = a ++ 44 ∷ 32 ∷ b
 
 -- the operands of an operation: those that extend a sign have no first register
 abbrev pub operands : OperateOp → ℕ → Operand → ℕ → List ℕ
 operands op ra rb rc =
-    if extends op then both (operand rb) (register rc) else both (register ra) (both (operand rb) (register rc))
+    if extends op then operand_pair (operand_name rb) (register_name rc) else operand_pair (register_name ra)
+    (operand_pair (operand_name rb) (register_name rc))
 
 -- an instruction; a branch by its displacement has no line
 abbrev pub insn_line : Fields → List ℕ
-insn_line (fields.Memory op ra rb disp) = statement (memory_word op) (both (register ra) (address disp rb))
+insn_line (fields.Memory op ra rb disp) = word_and_rest (memory_word op)
+    (operand_pair (register_name ra) (address_text disp rb))
 insn_line (fields.Branch op ra disp) = []
-insn_line (fields.Jump op ra rb) = statement (jump_word op) (both (register ra) (indirect rb))
-insn_line (fields.Operate op ra rb rc) = statement (operate_word op) (operands op ra rb rc)
-insn_line (fields.Pal function) = statement (codes "call_pal") (decimal function)
+insn_line (fields.Jump op ra rb) = word_and_rest (jump_word op) (operand_pair (register_name ra) (indirect_text rb))
+insn_line (fields.Operate op ra rb rc) = word_and_rest (operate_word op) (operands op ra rb rc)
+insn_line (fields.Pal function) = word_and_rest (codes "call_pal") (decimal function)
 
 -- an item
 abbrev pub item_line : AsmItem → List ℕ
-item_line (Label l) = label l ++ 58 ∷ []
-item_line (Name name) = statement (codes ".ent") name
+item_line (Label l) = label_name l ++ 58 ∷ []
+item_line (Name name) = word_and_rest (codes ".ent") name
 item_line (Plain insn) = insn_line insn
-item_line (Branch op ra l) = statement (branch_word op) (both (register ra) (label l))
-item_line (TextAddress ra l) = statement (codes ".text") (both (register ra) (label l))
-item_line (DataAddress ra offset) = statement (codes ".addr") (both (register ra) (decimal offset))
+item_line (Branch op ra l) = word_and_rest (branch_word op) (operand_pair (register_name ra) (label_name l))
+item_line (TextAddress ra l) = word_and_rest (codes ".text") (operand_pair (register_name ra) (label_name l))
+item_line (DataAddress ra offset) = word_and_rest (codes ".addr") (operand_pair (register_name ra) (decimal offset))
 
 -- the first line of a text
 abbrev pub head_line : List ℕ
@@ -68,7 +70,7 @@ head_line = codes ".msa 1"
 
 -- how many bytes the data has
 abbrev pub data_line : ℕ → List ℕ
-data_line n = statement (codes ".data") (decimal n)
+data_line n = word_and_rest (codes ".data") (decimal n)
 
 -- bytes of the data, each as two hexadecimal digits, the high one first
 abbrev pub hex_digit : ℕ → ℕ
@@ -78,11 +80,11 @@ abbrev pub hex_byte : ℕ → List ℕ
 hex_byte b = hex_digit (b / 16) ∷ hex_digit (b % 16) ∷ []
 
 abbrev pub hex_line : List ℕ → List ℕ
-hex_line bytes = statement (codes ".hex") (flat_map hex_byte bytes)
+hex_line bytes = word_and_rest (codes ".hex") (flat_map hex_byte bytes)
 
 -- a place of the data that holds the address of another
 abbrev pub fix_line : Fix → List ℕ
-fix_line fix = statement (codes ".fix") (decimal fix.at ++ 32 ∷ decimal fix.offset)
+fix_line fix = word_and_rest (codes ".fix") (decimal fix.at ++ 32 ∷ decimal fix.offset)
 
 -- the fields of an item are in their ranges, so that it has a line
 abbrev pub HasLine : AsmItem → Type 0

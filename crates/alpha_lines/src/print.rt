@@ -15,7 +15,7 @@ use std::alloc::AllocError;
 
 /// Appends a register: `$5`.
 fn push_register(line: &mut Vec<u8>, r: u8) -> Result<(), AllocError>
-    ensures { OnOk result (line.new.items ≡ line.old.items ++ lines.register r) }
+    ensures { OnOk result (line.new.items ≡ line.old.items ++ lines.register_name r) }
 {
     line.push(b'$')?;
     push_number(line, u64::from(r))
@@ -23,7 +23,7 @@ fn push_register(line: &mut Vec<u8>, r: u8) -> Result<(), AllocError>
 
 /// Appends a label: `L5`.
 fn push_label(line: &mut Vec<u8>, label: u32) -> Result<(), AllocError>
-    ensures { OnOk result (line.new.items ≡ line.old.items ++ lines.label label) }
+    ensures { OnOk result (line.new.items ≡ line.old.items ++ lines.label_name label) }
 {
     line.push(b'L')?;
     push_number(line, u64::from(label))
@@ -31,7 +31,7 @@ fn push_label(line: &mut Vec<u8>, label: u32) -> Result<(), AllocError>
 
 /// Appends a register in brackets: `($27)`.
 fn push_indirect(line: &mut Vec<u8>, r: u8) -> Result<(), AllocError>
-    ensures { OnOk result (line.new.items ≡ line.old.items ++ lines.indirect r) }
+    ensures { OnOk result (line.new.items ≡ line.old.items ++ lines.indirect_text r) }
 {
     line.push(b'(')?;
     push_register(line, r)?;
@@ -41,7 +41,7 @@ fn push_indirect(line: &mut Vec<u8>, r: u8) -> Result<(), AllocError>
 
 /// Appends a second operand: `$5` or `255`.
 fn push_operand(line: &mut Vec<u8>, operand: Operand) -> Result<(), AllocError>
-    ensures { OnOk result (line.new.items ≡ line.old.items ++ lines.operand operand) }
+    ensures { OnOk result (line.new.items ≡ line.old.items ++ lines.operand_name operand) }
 {
     match operand {
         Operand::Reg(r) => push_register(line, r),
@@ -52,7 +52,7 @@ fn push_operand(line: &mut Vec<u8>, operand: Operand) -> Result<(), AllocError>
 /// Appends a word, a blank, a register, a comma and a blank.
 fn push_first(line: &mut Vec<u8>, word: &[u8], ra: u8) -> Result<(), AllocError>
     ensures { OnOk result
-        (line.new.items ≡ line.old.items ++ lines.statement word.now (lines.both (lines.register ra) [])) }
+        (line.new.items ≡ line.old.items ++ lines.word_and_rest word.now (lines.operand_pair (lines.register_name ra) [])) }
 {
     line.extend_from_slice(word)?;
     line.push(b' ')?;
@@ -62,7 +62,7 @@ fn push_first(line: &mut Vec<u8>, word: &[u8], ra: u8) -> Result<(), AllocError>
 
 /// Appends a second operand, a comma, a blank and a register.
 fn push_last(line: &mut Vec<u8>, rb: Operand, rc: u8) -> Result<(), AllocError>
-    ensures { OnOk result (line.new.items ≡ line.old.items ++ lines.both (lines.operand rb) (lines.register rc)) }
+    ensures { OnOk result (line.new.items ≡ line.old.items ++ lines.operand_pair (lines.operand_name rb) (lines.register_name rc)) }
 {
     push_operand(line, rb)?;
     line.extend_from_slice(b", ")?;
@@ -78,7 +78,7 @@ fn push_operation(
     rc: u8,
 ) -> Result<(), AllocError>
     ensures { OnOk result
-        (line.new.items ≡ line.old.items ++ lines.statement (operate_spelling op) (lines.operands op ra rb rc)) }
+        (line.new.items ≡ line.old.items ++ lines.word_and_rest (operate_spelling op) (lines.operands op ra rb rc)) }
 {
     if is_extension(op) {
         line.extend_from_slice(operate_word(op))?;

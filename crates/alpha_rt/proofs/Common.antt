@@ -10,31 +10,31 @@ use Rattle.alpha_isa.specs.declared.insn.MemoryOp.TheVariants.{Lda}
 use Rattle.alpha_isa.specs.declared.insn.BranchOp.TheVariants.{Bne}
 use Rattle.alpha_isa.specs.declared.insn.JumpOp.TheVariants.{Ret}
 use Rattle.alpha_isa.specs.declared.insn.OperateOp.TheVariants.{Subq}
-use Rattle.alpha_isa.specs.Arithmetic.{word_at, difference}
+use Rattle.alpha_isa.specs.Arithmetic.{word_at, word_difference}
 use Rattle.alpha_isa.specs.Program.{Program}
 use Rattle.alpha_isa.specs.State.{State}
 use Rattle.alpha_isa.specs.Step.{Over, Trap, go_on, exec, step, fetched_step}
 use Rattle.alpha_isa.proofs.Runs.{exec_split}
-use Rattle.alpha_rt.specs.Code.{place, refusal, preparation, turn, common}
+use Rattle.alpha_rt.specs.Code.{place_insns, zero_refusal, preparation, turn_code, common_part}
 use Rattle.alpha_rt.proofs.Runs.{Reaches, then_reaches, at_most, one_reaches, Placed, front, behind, at, straight_reaches, taken, passed}
 use Rattle.alpha_rt.proofs.Registers.{RegisterFile, listed}
 use Rattle.alpha_rt.proofs.Places.{Halfway, Advanced, place_done, more_places}
 
 -- ---- a round: four places
 
-four : (p : Program) (s : State) (a : ℕ) (x : RegisterFile) (n d worth product quotient : ℕ) (more : List Fields) → Placed p a (place ++ (place ++ (place ++ (place ++ more)))) → a + 128 < 2 ^ 64 → 8 * worth ≤ 2 ^ 63 → d < 2 ^ 64 → x.r2 ≡ d → Halfway n d worth product quotient x.r1 x.r27 →
+four : (p : Program) (s : State) (a : ℕ) (x : RegisterFile) (n d worth product quotient : ℕ) (more : List Fields) → Placed p a (place_insns ++ (place_insns ++ (place_insns ++ (place_insns ++ more)))) → a + 128 < 2 ^ 64 → 8 * worth ≤ 2 ^ 63 → d < 2 ^ 64 → x.r2 ≡ d → Halfway n d worth product quotient x.r1 x.r27 →
     Advanced p s 32 a (a + 32 + 32 + 32 + 32) n d (worth + worth + (worth + worth) + (worth + worth + (worth + worth)) + (worth + worth + (worth + worth) + (worth + worth + (worth + worth)))) x
 four p s a x n d worth product quotient more h room large word two half =
-    let h1 : Placed p (a + 32) (place ++ (place ++ (place ++ more))) = behind p a place (place ++ (place ++ (place ++ more))) h in
-    let h2 : Placed p (a + 32 + 32) (place ++ (place ++ more)) = behind p (a + 32) place (place ++ (place ++ more)) h1 in
-    let h3 : Placed p (a + 32 + 32 + 32) (place ++ more) = behind p (a + 32 + 32) place (place ++ more) h2 in
-    let v1 : Advanced p s 8 a (a + 32) n d (worth + worth) x = place_done p s a x n d worth product quotient (front p a place (place ++ (place ++ (place ++ more))) h) (omega arith) (omega arith) word two half in
-    let v2 : Advanced p s 16 a (a + 32 + 32) n d (worth + worth + (worth + worth)) x = more_places p s 8 a (a + 32) n d (worth + worth) x v1 (front p (a + 32) place (place ++ (place ++ more)) h1) (omega arith) (omega arith) word two in
-    let v3 : Advanced p s 24 a (a + 32 + 32 + 32) n d (worth + worth + (worth + worth) + (worth + worth + (worth + worth))) x = more_places p s 16 a (a + 32 + 32) n d (worth + worth + (worth + worth)) x v2 (front p (a + 32 + 32) place (place ++ more) h2) (omega arith) (omega arith) word two in
-    more_places p s 24 a (a + 32 + 32 + 32) n d _ x v3 (front p (a + 32 + 32 + 32) place more h3) (omega arith) (omega arith) word two
+    let h1 : Placed p (a + 32) (place_insns ++ (place_insns ++ (place_insns ++ more))) = behind p a place_insns (place_insns ++ (place_insns ++ (place_insns ++ more))) h in
+    let h2 : Placed p (a + 32 + 32) (place_insns ++ (place_insns ++ more)) = behind p (a + 32) place_insns (place_insns ++ (place_insns ++ more)) h1 in
+    let h3 : Placed p (a + 32 + 32 + 32) (place_insns ++ more) = behind p (a + 32 + 32) place_insns (place_insns ++ more) h2 in
+    let v1 : Advanced p s 8 a (a + 32) n d (worth + worth) x = place_done p s a x n d worth product quotient (front p a place_insns (place_insns ++ (place_insns ++ (place_insns ++ more))) h) (omega arith) (omega arith) word two half in
+    let v2 : Advanced p s 16 a (a + 32 + 32) n d (worth + worth + (worth + worth)) x = more_places p s 8 a (a + 32) n d (worth + worth) x v1 (front p (a + 32) place_insns (place_insns ++ (place_insns ++ more)) h1) (omega arith) (omega arith) word two in
+    let v3 : Advanced p s 24 a (a + 32 + 32 + 32) n d (worth + worth + (worth + worth) + (worth + worth + (worth + worth))) x = more_places p s 16 a (a + 32 + 32) n d (worth + worth + (worth + worth)) x v2 (front p (a + 32 + 32) place_insns (place_insns ++ more) h2) (omega arith) (omega arith) word two in
+    more_places p s 24 a (a + 32 + 32 + 32) n d _ x v3 (front p (a + 32 + 32 + 32) place_insns more h3) (omega arith) (omega arith) word two
 
 abbrev round : List Fields → List Fields
-round more = place ++ (place ++ (place ++ (place ++ (turn ++ more))))
+round more = place_insns ++ (place_insns ++ (place_insns ++ (place_insns ++ (turn_code ++ more))))
 
 -- after a round the count in register 3 is one less, and the machine stands before the branch
 record RoundDone (p : Program) (s : State) (a n d worth count : ℕ) (x : RegisterFile) : Type 0 where
@@ -48,15 +48,15 @@ record RoundDone (p : Program) (s : State) (a n d worth count : ℕ) (x : Regist
 
 round_done : (p : Program) (s : State) (a : ℕ) (x : RegisterFile) (n d worth product quotient count : ℕ) (more : List Fields) → Placed p a (round more) → a + 136 < 2 ^ 64 → 16 * worth ≤ 2 ^ 64 → d < 2 ^ 64 → x.r2 ≡ d → x.r3 ≡ suc count → suc count < 2 ^ 64 → Halfway n d worth product quotient x.r1 x.r27 → RoundDone p s a n d worth count x
 round_done p s a x n d worth product quotient count more h room large word two three small half =
-    let v = four p s a x n d worth product quotient (turn ++ more) h (omega arith) (omega arith) word two half in
+    let v = four p s a x n d worth product quotient (turn_code ++ more) h (omega arith) (omega arith) word two half in
     let y : RegisterFile = record x { r1 = v.rest; r27 = v.low; r28 = v.scratch } in
-    let counted : word_at (difference x.r3 1) ≡ count = omega arith in
-    let h1 : Placed p (a + 32) (place ++ (place ++ (place ++ (turn ++ more)))) = behind p a place (place ++ (place ++ (place ++ (turn ++ more)))) h in
-    let h2 : Placed p (a + 32 + 32) (place ++ (place ++ (turn ++ more))) = behind p (a + 32) place (place ++ (place ++ (turn ++ more))) h1 in
-    let h3 : Placed p (a + 32 + 32 + 32) (place ++ (turn ++ more)) = behind p (a + 32 + 32) place (place ++ (turn ++ more)) h2 in
-    let h4 : Placed p (a + 32 + 32 + 32 + 32) (turn ++ more) = behind p (a + 32 + 32 + 32) place (turn ++ more) h3 in
-    let last : Reaches p 1 (at s (a + 32 + 32 + 32 + 32) (listed y)) (at s (a + 32 + 32 + 32 + 32 + 4) (listed (record y { r3 = word_at (difference x.r3 1) }))) =
-    straight_reaches p (Operate Subq 3 (Literal 1) 3 ∷ []) (a + 32 + 32 + 32 + 32) (listed y) (listed (record y { r3 = word_at (difference x.r3 1) })) s (h4.0, tt) refl in
+    let counted : word_at (word_difference x.r3 1) ≡ count = omega arith in
+    let h1 : Placed p (a + 32) (place_insns ++ (place_insns ++ (place_insns ++ (turn_code ++ more)))) = behind p a place_insns (place_insns ++ (place_insns ++ (place_insns ++ (turn_code ++ more)))) h in
+    let h2 : Placed p (a + 32 + 32) (place_insns ++ (place_insns ++ (turn_code ++ more))) = behind p (a + 32) place_insns (place_insns ++ (place_insns ++ (turn_code ++ more))) h1 in
+    let h3 : Placed p (a + 32 + 32 + 32) (place_insns ++ (turn_code ++ more)) = behind p (a + 32 + 32) place_insns (place_insns ++ (turn_code ++ more)) h2 in
+    let h4 : Placed p (a + 32 + 32 + 32 + 32) (turn_code ++ more) = behind p (a + 32 + 32 + 32) place_insns (turn_code ++ more) h3 in
+    let last : Reaches p 1 (at s (a + 32 + 32 + 32 + 32) (listed y)) (at s (a + 32 + 32 + 32 + 32 + 4) (listed (record y { r3 = word_at (word_difference x.r3 1) }))) =
+    straight_reaches p (Operate Subq 3 (Literal 1) 3 ∷ []) (a + 32 + 32 + 32 + 32) (listed y) (listed (record y { r3 = word_at (word_difference x.r3 1) })) s (h4.0, tt) refl in
     let end : a + 32 + 32 + 32 + 32 + 4 ≡ a + 132 = omega arith in
     let size : worth + worth + (worth + worth) + (worth + worth + (worth + worth)) + (worth + worth + (worth + worth) + (worth + worth + (worth + worth))) ≡ 16 * worth = omega arith in
     record {
@@ -95,7 +95,7 @@ record RoundsDone (p : Program) (s : State) (most a n d : ℕ) (x : RegisterFile
 
 branch_placed : (p : Program) (a : ℕ) (more : List Fields) → Placed p a (round more) → Placed p (a + 132) (Branch Bne 3 (negsuc 33) ∷ more)
 branch_placed p a more h =
-    behind p a (place ++ (place ++ (place ++ (place ++ (Operate Subq 3 (Literal 1) 3 ∷ []))))) (Branch Bne 3 (negsuc 33) ∷ more) h
+    behind p a (place_insns ++ (place_insns ++ (place_insns ++ (place_insns ++ (Operate Subq 3 (Literal 1) 3 ∷ []))))) (Branch Bne 3 (negsuc 33) ∷ more) h
 
 rounds_done : (count : ℕ) (p : Program) (s : State) (a : ℕ) (x : RegisterFile) (n d worth product quotient : ℕ) (more : List Fields) → Placed p a (round more) → a + 136 < 2 ^ 64 → d < 2 ^ 64 → x.r2 ≡ d → x.r3 ≡ suc count → suc count < 2 ^ 64 → worth * (16 * sixteens count) ≡ 2 ^ 64 → Halfway n d worth product quotient x.r1 x.r27 → RoundsDone p s (34 * suc count) a n d x
 rounds_done zero p s a x n d worth product quotient more h room word two three small whole half =
@@ -143,12 +143,12 @@ pub record Divided (p : Program) (s : State) (a : ℕ) (x : RegisterFile) : Type
   pub scratch : ℕ
   pub reaches : Reaches p 548 (at s a (listed x)) (at s (x.r4 / 4 * 4) (listed (record x { r1 = x.r27 % x.r2; r3 = 0; r27 = x.r27 / x.r2; r28 = scratch })))
 
-pub common_divides : (p : Program) (s : State) (a : ℕ) (x : RegisterFile) → Placed p a common → a + 160 < 2 ^ 64 → x.r27 < 2 ^ 64 → x.r2 < 2 ^ 64 → 0 < x.r2 → Divided p s a x
+pub common_divides : (p : Program) (s : State) (a : ℕ) (x : RegisterFile) → Placed p a common_part → a + 160 < 2 ^ 64 → x.r27 < 2 ^ 64 → x.r2 < 2 ^ 64 → 0 < x.r2 → Divided p s a x
 common_divides p s a x h room word divisor some =
     let ends : List Fields = Jump Ret 31 4 ∷ [] in
     let y : RegisterFile = record x { r1 = 0; r3 = 16 } in
     let over : Reaches p 1 (at s a (listed x)) (at s (a + 12) (listed x)) = taken p Bne 2 a (a + 12) (pos 2) (listed x) s h.0 refl (ap not (ne_eqb x.r2 0 (λ e. absurd (omega arith)))) (omega arith) in
-    let h1 : Placed p (a + 12) (preparation ++ round ends) = behind p a refusal (preparation ++ round ends) h in
+    let h1 : Placed p (a + 12) (preparation ++ round ends) = behind p a zero_refusal (preparation ++ round ends) h in
     let ready : Reaches p 2 (at s (a + 12) (listed x)) (at s (a + 12 + 8) (listed y)) = straight_reaches p preparation (a + 12) (listed x) (listed y) s (front p (a + 12) preparation (round ends) h1) refl in
     let h2 : Placed p (a + 12 + 8) (round ends) = behind p (a + 12) preparation (round ends) h1 in
     let begins : Halfway x.r27 x.r2 1 0 0 0 x.r27 = record { whole = omega arith; product_is = omega arith; below = some; rest_small = omega arith; quotient_small = omega arith; low_word = word } in
@@ -198,10 +198,10 @@ trap_ends p s a x h = record {
   output = refl;
 }
 
-pub common_traps : (p : Program) (s : State) (a : ℕ) (x : RegisterFile) → Placed p a common → x.r2 ≡ 0 → Ends p 3 1 (at s a (listed x))
+pub common_traps : (p : Program) (s : State) (a : ℕ) (x : RegisterFile) → Placed p a common_part → x.r2 ≡ 0 → Ends p 3 1 (at s a (listed x))
 common_traps p s a x h none =
     let y : RegisterFile = record x { r16 = 1 } in
-    let h1 : Placed p a refusal = front p a refusal (preparation ++ round (Jump Ret 31 4 ∷ [])) h in
+    let h1 : Placed p a zero_refusal = front p a zero_refusal (preparation ++ round (Jump Ret 31 4 ∷ [])) h in
     let past : Reaches p 1 (at s a (listed x)) (at s (a + 4) (listed x)) = passed p Bne 2 a (pos 2) (listed x) s h1.0 refl (ap (λ m. not (eqb m 0)) none) in
     let set : Reaches p 1 (at s (a + 4) (listed x)) (at s (a + 4 + 4) (listed y)) = straight_reaches p (Memory Lda 16 31 (pos 1) ∷ []) (a + 4) (listed x) (listed y) s (h1.1.0, tt) refl in
     then_ends p 2 1 1 _ _ (then_reaches p 1 1 _ _ _ past set) (trap_ends p s (a + 4 + 4) y h1.1.1) refl refl

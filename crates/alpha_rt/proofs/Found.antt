@@ -10,10 +10,10 @@ use Rattle.alpha_isa.specs.declared.insn.Operand.{Operand}
 use Rattle.alpha_isa.specs.declared.insn.Operand.TheVariants.{Reg, Literal}
 use Rattle.alpha_isa.specs.declared.insn.OperateOp.{OperateOp}
 use Rattle.alpha_isa.specs.declared.insn.OperateOp.TheVariants.{Sextb, Sextw}
-use Rattle.alpha_isa.specs.Lawful.{AreLawfulFields, IsFirstOperand, is_call}
-use Rattle.alpha_isa.specs.Words.{word_of, insn_of, extends}
+use Rattle.alpha_isa.specs.Lawful.{AreLawfulFields, IsFirstOperand, is_pal_function}
+use Rattle.alpha_isa.specs.Words.{insn_word, insn_of, extends}
 use Rattle.alpha_isa.specs.Program.{word_address}
-use Rattle.alpha_rt.specs.Code.{code}
+use Rattle.alpha_rt.specs.Code.{all_code}
 use Rattle.alpha_rt.specs.Calls.{CodeStands}
 
 -- a test that computes, for fields that have a word
@@ -30,7 +30,7 @@ has_word (Memory op ra rb disp) = ltb ra 32 && (ltb rb 32 && is_below (2 ^ 15) d
 has_word (Branch op ra disp) = ltb ra 32 && is_below (2 ^ 20) disp
 has_word (Jump op ra rb) = ltb ra 32 && ltb rb 32
 has_word (Operate op ra rb rc) = not (extends op) && (ltb ra 32 && (is_operand rb && ltb rc 32))
-has_word (Pal function) = is_call function
+has_word (Pal function) = is_pal_function function
 
 first_operand : (op : OperateOp) (ra : ℕ) → extends op ≡ false → ra < 32 → IsFirstOperand op ra
 first_operand Sextb ra e h = let impossible : ⊥ = cc in absurd impossible
@@ -61,7 +61,7 @@ lawful (Operate op ra (Literal n) rc) e =
     (first_operand op ra (not-true (extends op) a.0) (ltb-true ra 32 b.0), ltb-true n 256 c.0, ltb-true rc 32 c.1)
 lawful (Pal function) e = e
 
-decoded : (xs : List Fields) (back : List ℕ) (i : ℕ) → list_all has_word xs ≡ true → i < length xs → option_and_then insn_of (slice_get (map word_of xs ++ back) i) ≡ slice_get xs i
+decoded : (xs : List Fields) (back : List ℕ) (i : ℕ) → list_all has_word xs ≡ true → i < length xs → option_and_then insn_of (slice_get (map insn_word xs ++ back) i) ≡ slice_get xs i
 decoded [] back i all below = absurd (omega arith)
 decoded (x ∷ xs) back zero all below = word_decoded x (lawful x (and_parts (has_word x) (list_all has_word xs) all).0)
 decoded (x ∷ xs) back (suc i) all below = decoded xs back i (and_parts (has_word x) (list_all has_word xs) all).1 (omega arith)
@@ -79,5 +79,5 @@ code_stands p front back e i below =
     ap (λ b. cond b None found) inside
     ∙ ap (λ k. option_and_then insn_of (slice_get p.words k)) index
     ∙ ap (λ ws. option_and_then insn_of (slice_get ws (length front + i))) e
-    ∙ ap (option_and_then insn_of) (got_behind front (map word_of code ++ back) i)
-    ∙ decoded code back i refl below
+    ∙ ap (option_and_then insn_of) (got_behind front (map insn_word all_code ++ back) i)
+    ∙ decoded all_code back i refl below

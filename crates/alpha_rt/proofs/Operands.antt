@@ -7,7 +7,7 @@ use Rattle.std.proofs.lemmas.Bool.{eqb-true, eqb-false, ltb-true, ltb-false, eq-
 use Rattle.std.proofs.lemmas.Nat.{div_below}
 use Rattle.alpha_isa.proofs.Arithmetic.{sign_extended-again, signed-word_from}
 use Rattle.alpha_isa.specs.Arithmetic.{word_from, signed_value, sign_extension}
-use Rattle.alpha_rt.specs.Routine.{Routine, Answers, Traps, Divq, Remq, Divqu, Remqu, Divl, Reml, Divlu, Remlu, IsRoutineOperand, outcome, is_least_by_minus_one}
+use Rattle.alpha_rt.specs.Routine.{Routine, Answers, Traps, Divq, Remq, Divqu, Remqu, Divl, Reml, Divlu, Remlu, IsRoutineOperand, routine_outcome, is_least_by_minus_one}
 use Rattle.alpha_rt.proofs.Signed.{strictly_from}
 
 -- an answer comes only where nothing traps
@@ -91,21 +91,21 @@ not_both a b x y other n m =
     let clash : true ≡ false = sym both ∙ other in
     let impossible : ⊥ = cc in impossible
 
-quotient_extended : (a b word : ℕ) → sign_extension w32 a ≡ a → sign_extension w32 b ≡ b → outcome Divl a b ≡ Answers word → sign_extension w32 word ≡ word
+quotient_extended : (a b word : ℕ) → sign_extension w32 a ≡ a → sign_extension w32 b ≡ b → routine_outcome Divl a b ≡ Answers word → sign_extension w32 word ≡ word
 quotient_extended a b word x y e =
     let z : ℤ = int_div (signed_value w32 a) (signed_value w32 b) in
     let found : Answered (eqb b 0) (is_least_by_minus_one w32 a b) (word_from z) word = answered (eqb b 0) (is_least_by_minus_one w32 a b) (word_from z) word e in
     let fits : FitsSigned w32 z = quotient_fits (a % 2 ^ 32) (b % 2 ^ 32) (ltb (a % 2 ^ 32) (2 ^ 31)) (ltb (b % 2 ^ 32) (2 ^ 31)) refl refl (omega arith) (omega arith) (not_both a b x y found.other) in
     subst (λ k. sign_extension w32 k ≡ k) found.same (extended z fits)
 
-remainder_extended : (a b word : ℕ) → outcome Reml a b ≡ Answers word → sign_extension w32 word ≡ word
+remainder_extended : (a b word : ℕ) → routine_outcome Reml a b ≡ Answers word → sign_extension w32 word ≡ word
 remainder_extended a b word e =
     let z : ℤ = int_rem (signed_value w32 a) (signed_value w32 b) in
     let found : Answered (eqb b 0) (is_least_by_minus_one w32 a b) (word_from z) word = answered (eqb b 0) (is_least_by_minus_one w32 a b) (word_from z) word e in
     let fits : FitsSigned w32 z = remainder_fits (a % 2 ^ 32) (signed_value w32 b) (ltb (a % 2 ^ 32) (2 ^ 31)) refl (omega arith) in
     subst (λ k. sign_extension w32 k ≡ k) found.same (extended z fits)
 
-pub answers_operand : (r : Routine) (a b word : ℕ) → IsRoutineOperand r a → IsRoutineOperand r b → outcome r a b ≡ Answers word → IsRoutineOperand r word
+pub answers_operand : (r : Routine) (a b word : ℕ) → IsRoutineOperand r a → IsRoutineOperand r b → routine_outcome r a b ≡ Answers word → IsRoutineOperand r word
 answers_operand Divq a b word x y e = refl
 answers_operand Remq a b word x y e = refl
 answers_operand Divqu a b word x y e = refl

@@ -3,10 +3,10 @@ use Rattle.std.proofs.Common.{◌≡◌, ℕ, ◌+◌, ◌*◌, ◌/◌, ◌^◌
 use Rattle.std.proofs.lemmas.Bool.{leb-true, leb-false}
 use Rattle.alpha_isa.specs.declared.insn.Fields.TheVariants.{Branch}
 use Rattle.alpha_isa.specs.declared.insn.BranchOp.TheVariants.{Beq}
-use Rattle.alpha_isa.specs.Arithmetic.{word_at, difference}
+use Rattle.alpha_isa.specs.Arithmetic.{word_at, word_difference}
 use Rattle.alpha_isa.specs.Program.{Program}
 use Rattle.alpha_isa.specs.State.{State}
-use Rattle.alpha_rt.specs.Code.{place_front, place_back, place}
+use Rattle.alpha_rt.specs.Code.{place_front, place_back, place_insns}
 use Rattle.alpha_rt.proofs.Runs.{Reaches, then_reaches, at_most, Placed, front, behind, at, straight_reaches, taken, passed}
 use Rattle.alpha_rt.proofs.Registers.{RegisterFile, listed}
 
@@ -31,7 +31,7 @@ doubled_is : (worth rest low : ℕ) → worth ≤ 2 ^ 63 → rest < worth → lo
 doubled_is worth rest low large small word = omega arith
 
 goes_in : (n d worth product quotient rest low : ℕ) → worth ≤ 2 ^ 63 → Halfway n d worth product quotient rest low → d ≤ doubled rest low → d < 2 ^ 64 →
-    Halfway n d (worth + worth) (product + product + d) (quotient + quotient + 1) (word_at (difference (doubled rest low) d)) (word_at (word_at (low + low) + 1))
+    Halfway n d (worth + worth) (product + product + d) (quotient + quotient + 1) (word_at (word_difference (doubled rest low) d)) (word_at (word_at (low + low) + 1))
 goes_in n d worth product quotient rest low large h fits word = record {
   whole = omega (arith, doubled_is worth rest low large h.rest_small h.low_word);
   product_is = omega arith;
@@ -64,22 +64,22 @@ pub record Advanced (p : Program) (s : State) (most a to n d worth : ℕ) (x : R
   pub reaches : Reaches p most (at s a (listed x)) (at s to (listed (record x { r1 = rest; r27 = low; r28 = scratch })))
   pub halfway : Halfway n d worth product quotient rest low
 
-place_by : (p : Program) (s : State) (a : ℕ) (x : RegisterFile) (n d worth product quotient : ℕ) → Placed p a place → a + 32 < 2 ^ 64 → worth ≤ 2 ^ 63 → d < 2 ^ 64 → x.r2 ≡ d → Halfway n d worth product quotient x.r1 x.r27 → (b : Bool) → leb x.r2 (doubled x.r1 x.r27) ≡ b → Advanced p s 8 a (a + 32) n d (worth + worth) x
+place_by : (p : Program) (s : State) (a : ℕ) (x : RegisterFile) (n d worth product quotient : ℕ) → Placed p a place_insns → a + 32 < 2 ^ 64 → worth ≤ 2 ^ 63 → d < 2 ^ 64 → x.r2 ≡ d → Halfway n d worth product quotient x.r1 x.r27 → (b : Bool) → leb x.r2 (doubled x.r1 x.r27) ≡ b → Advanced p s 8 a (a + 32) n d (worth + worth) x
 place_by p s a x n d worth product quotient h room large word two half true e =
     let y : RegisterFile = record x { r1 = doubled x.r1 x.r27; r27 = word_at (x.r27 + x.r27); r28 = cond (leb x.r2 (doubled x.r1 x.r27)) 1 0 } in
-    let z : RegisterFile = record y { r1 = word_at (difference (doubled x.r1 x.r27) x.r2); r27 = word_at (word_at (x.r27 + x.r27) + 1) } in
+    let z : RegisterFile = record y { r1 = word_at (word_difference (doubled x.r1 x.r27) x.r2); r27 = word_at (word_at (x.r27 + x.r27) + 1) } in
     let begun : Reaches p 5 (at s a (listed x)) (at s (a + 20) (listed y)) = straight_reaches p place_front a (listed x) (listed y) s (front p a place_front (Branch Beq 28 (pos 2) ∷ place_back) h) refl in
     let later : Placed p (a + 20) (Branch Beq 28 (pos 2) ∷ place_back) = behind p a place_front (Branch Beq 28 (pos 2) ∷ place_back) h in
     let past : Reaches p 1 (at s (a + 20) (listed y)) (at s (a + 20 + 4) (listed y)) = passed p Beq 28 (a + 20) (pos 2) (listed y) s later.0 refl (ap (λ t. eqb (cond t 1 0) 0) e) in
     let taken_off : Reaches p 2 (at s (a + 20 + 4) (listed y)) (at s (a + 20 + 4 + 8) (listed z)) = straight_reaches p place_back (a + 20 + 4) (listed y) (listed z) s later.1 refl in
     let end : a + 20 + 4 + 8 ≡ a + 32 = omega arith in
     let fits : d ≤ doubled x.r1 x.r27 = subst (λ m. m ≤ doubled x.r1 x.r27) two (leb-true x.r2 (doubled x.r1 x.r27) e) in
-    let done : Halfway n d (worth + worth) (product + product + d) (quotient + quotient + 1) (word_at (difference (doubled x.r1 x.r27) x.r2)) (word_at (word_at (x.r27 + x.r27) + 1)) =
-    subst (λ m. Halfway n d (worth + worth) (product + product + d) (quotient + quotient + 1) (word_at (difference (doubled x.r1 x.r27) m)) (word_at (word_at (x.r27 + x.r27) + 1))) (sym two) (goes_in n d worth product quotient x.r1 x.r27 large half fits word) in
+    let done : Halfway n d (worth + worth) (product + product + d) (quotient + quotient + 1) (word_at (word_difference (doubled x.r1 x.r27) x.r2)) (word_at (word_at (x.r27 + x.r27) + 1)) =
+    subst (λ m. Halfway n d (worth + worth) (product + product + d) (quotient + quotient + 1) (word_at (word_difference (doubled x.r1 x.r27) m)) (word_at (word_at (x.r27 + x.r27) + 1))) (sym two) (goes_in n d worth product quotient x.r1 x.r27 large half fits word) in
     record {
       product = product + product + d;
       quotient = quotient + quotient + 1;
-      rest = word_at (difference (doubled x.r1 x.r27) x.r2);
+      rest = word_at (word_difference (doubled x.r1 x.r27) x.r2);
       low = word_at (word_at (x.r27 + x.r27) + 1);
       scratch = cond (leb x.r2 (doubled x.r1 x.r27)) 1 0;
       reaches = subst (λ to. Reaches p 8 (at s a (listed x)) (at s to (listed z))) end
@@ -102,11 +102,11 @@ place_by p s a x n d worth product quotient h room large word two half false e =
       halfway = stays_out n d worth product quotient x.r1 x.r27 large half short;
     }
 
-pub place_done : (p : Program) (s : State) (a : ℕ) (x : RegisterFile) (n d worth product quotient : ℕ) → Placed p a place → a + 32 < 2 ^ 64 → worth ≤ 2 ^ 63 → d < 2 ^ 64 → x.r2 ≡ d → Halfway n d worth product quotient x.r1 x.r27 → Advanced p s 8 a (a + 32) n d (worth + worth) x
+pub place_done : (p : Program) (s : State) (a : ℕ) (x : RegisterFile) (n d worth product quotient : ℕ) → Placed p a place_insns → a + 32 < 2 ^ 64 → worth ≤ 2 ^ 63 → d < 2 ^ 64 → x.r2 ≡ d → Halfway n d worth product quotient x.r1 x.r27 → Advanced p s 8 a (a + 32) n d (worth + worth) x
 place_done p s a x n d worth product quotient h room large word two half = place_by p s a x n d worth product quotient h room large word two half (leb x.r2 (doubled x.r1 x.r27)) refl
 
 -- one place behind others
-pub more_places : (p : Program) (s : State) (most a to n d worth : ℕ) (x : RegisterFile) → Advanced p s most a to n d worth x → Placed p to place → to + 32 < 2 ^ 64 → worth ≤ 2 ^ 63 → d < 2 ^ 64 → x.r2 ≡ d → Advanced p s (most + 8) a (to + 32) n d (worth + worth) x
+pub more_places : (p : Program) (s : State) (most a to n d worth : ℕ) (x : RegisterFile) → Advanced p s most a to n d worth x → Placed p to place_insns → to + 32 < 2 ^ 64 → worth ≤ 2 ^ 63 → d < 2 ^ 64 → x.r2 ≡ d → Advanced p s (most + 8) a (to + 32) n d (worth + worth) x
 more_places p s most a to n d worth x v h room large word two =
     let y : RegisterFile = record x { r1 = v.rest; r27 = v.low; r28 = v.scratch } in
     let w : Advanced p s 8 to (to + 32) n d (worth + worth) y = place_done p s to y n d worth v.product v.quotient h room large word two v.halfway in

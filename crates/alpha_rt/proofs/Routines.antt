@@ -12,7 +12,7 @@ use Rattle.alpha_isa.specs.Program.{Program, IsLawful, word_address, data_start,
 use Rattle.alpha_isa.specs.State.{State}
 use Rattle.alpha_isa.specs.Step.{Goes}
 use Rattle.alpha_rt.specs.Routine.{Routine, Divq, Remq, Divqu, Remqu, Divl, Reml, Divlu, Remlu}
-use Rattle.alpha_rt.specs.Code.{prologue, epilogue, common, test_of, operands_of, answer_of, entry, opening, call_place, exit_place, routine_code, code}
+use Rattle.alpha_rt.specs.Code.{prologue, epilogue, common_part, test_of, operands_of, answer_of, entry, opening, call_place, exit_place, routine_code, all_code}
 use Rattle.alpha_rt.specs.Calls.{RoutinesStandAt, IsCall, Returns, TrapsWith}
 use Rattle.alpha_rt.proofs.Runs.{Reaches, then_reaches, at_most, one_reaches, Placed, placed_from, front, behind, at, after, straight_reaches}
 use Rattle.alpha_rt.proofs.Registers.{RegisterFile, listed}
@@ -24,21 +24,21 @@ use Rattle.alpha_rt.proofs.Stack.{spelled, frame, IsFrame, over, saved, restored
 part : (p : Program) (a : ℕ) (before here later : List Fields) → Placed p a (before ++ (here ++ later)) → Placed p (a + 4 * length before) here
 part p a before here later h = front p (a + 4 * length before) here later (behind p a before (here ++ later) h)
 
-routine_placed : (r : Routine) (p : Program) (a : ℕ) → Placed p a code → Placed p (a + 4 * entry r) (routine_code r)
-routine_placed Divq p a h = part p a [] (routine_code Divq) (drop 20 code) h
-routine_placed Remq p a h = part p a (take 20 code) (routine_code Remq) (drop 38 code) h
-routine_placed Divqu p a h = part p a (take 38 code) (routine_code Divqu) (drop 46 code) h
-routine_placed Remqu p a h = part p a (take 46 code) (routine_code Remqu) (drop 55 code) h
-routine_placed Divl p a h = part p a (take 55 code) (routine_code Divl) (drop 75 code) h
-routine_placed Reml p a h = part p a (take 75 code) (routine_code Reml) (drop 93 code) h
-routine_placed Divlu p a h = part p a (take 93 code) (routine_code Divlu) (drop 102 code) h
-routine_placed Remlu p a h = part p a (take 102 code) (routine_code Remlu) (drop 111 code) h
+routine_placed : (r : Routine) (p : Program) (a : ℕ) → Placed p a all_code → Placed p (a + 4 * entry r) (routine_code r)
+routine_placed Divq p a h = part p a [] (routine_code Divq) (drop 20 all_code) h
+routine_placed Remq p a h = part p a (take 20 all_code) (routine_code Remq) (drop 38 all_code) h
+routine_placed Divqu p a h = part p a (take 38 all_code) (routine_code Divqu) (drop 46 all_code) h
+routine_placed Remqu p a h = part p a (take 46 all_code) (routine_code Remqu) (drop 55 all_code) h
+routine_placed Divl p a h = part p a (take 55 all_code) (routine_code Divl) (drop 75 all_code) h
+routine_placed Reml p a h = part p a (take 75 all_code) (routine_code Reml) (drop 93 all_code) h
+routine_placed Divlu p a h = part p a (take 93 all_code) (routine_code Divlu) (drop 102 all_code) h
+routine_placed Remlu p a h = part p a (take 102 all_code) (routine_code Remlu) (drop 111 all_code) h
 
-common_placed : (p : Program) (a : ℕ) → Placed p a code → Placed p (a + 444) common
-common_placed p a h = part p a (take 111 code) common epilogue h
+common_placed : (p : Program) (a : ℕ) → Placed p a all_code → Placed p (a + 444) common_part
+common_placed p a h = part p a (take 111 all_code) common_part epilogue h
 
-epilogue_placed : (p : Program) (a : ℕ) → Placed p a code → Placed p (a + 604) epilogue
-epilogue_placed p a h = behind p a (take 151 code) epilogue h
+epilogue_placed : (p : Program) (a : ℕ) → Placed p a all_code → Placed p (a + 604) epilogue
+epilogue_placed p a h = behind p a (take 151 all_code) epilogue h
 
 calls_early : (r : Routine) → call_place r + 1 ≤ 111
 calls_early Divq = omega arith
@@ -89,7 +89,7 @@ code_fits p word lawful h =
 -- where a routine at an address has the common part and the part that leaves
 record Site (p : Program) (r : Routine) (a common_at epilogue_at : ℕ) : Type 0 where
   routine : Placed p a (routine_code r)
-  common_code : Placed p common_at common
+  common_code : Placed p common_at common_part
   epilogue_code : Placed p epilogue_at epilogue
   calls : a + 4 * length (opening r) + 4 + 4 * (111 - (call_place r + 1)) ≡ common_at
   exits : a + 4 * length (opening r) + 4 + 4 * length (answer_of r) + 4 + 4 * (151 - (exit_place r + 1)) ≡ epilogue_at
@@ -100,7 +100,7 @@ record Site (p : Program) (r : Routine) (a common_at epilogue_at : ℕ) : Type 0
 
 site_of : (r : Routine) (p : Program) (word a : ℕ) → IsLawful p → RoutinesStandAt p word → a ≡ word_address (word + entry r) → Site p r a (word_address word + 444) (word_address word + 604)
 site_of r p word a lawful h e =
-    let h1 : Placed p (word_address word) code = placed_from p code word h in
+    let h1 : Placed p (word_address word) all_code = placed_from p all_code word h in
     let here : word_address word + 4 * entry r ≡ a = omega arith in
     let fits : word + 156 ≤ 2 ^ 28 = code_fits p word lawful h in
     record {

@@ -11,7 +11,7 @@ use Rattle.alpha_isa.specs.declared.insn.BranchOp.{BranchOp}
 use Rattle.alpha_isa.specs.Arithmetic.{OperationEffect, Gives, Keeps, Overflows, word_at, word_from, operation_effect}
 use Rattle.alpha_isa.specs.Program.{Program, instruction_at, word_address}
 use Rattle.alpha_isa.specs.State.{State, with_register}
-use Rattle.alpha_isa.specs.Step.{MachineNext, Goes, next_instruction, branch_target, is_taken, links, operate_step, insn_step, fetched_step, step, go_on, exec}
+use Rattle.alpha_isa.specs.Step.{MachineNext, Goes, next_instruction, branch_target, is_branch_taken, links, operate_step, insn_step, fetched_step, step, go_on, exec}
 use Rattle.alpha_isa.proofs.Runs.{exec_split}
 
 -- ---- what a run comes to
@@ -146,21 +146,21 @@ straight_reaches p is a rs new s h e = record { steps = length is; soon = omega 
 chosen : State → State → ℕ → ℕ → Bool → Bool → MachineNext
 chosen linked s far near l t = Goes (record (cond l linked s) { pc = cond t far near })
 
-pub taken : (p : Program) (op : BranchOp) (ra a target : ℕ) (disp : ℤ) (rs : List ℕ) (s : State) → instruction_at p a ≡ Some (Branch op ra disp) → links op ≡ false → is_taken op (register_of rs ra) ≡ true → branch_target (at s a rs) disp ≡ target → Reaches p 1 (at s a rs) (at s target rs)
+pub taken : (p : Program) (op : BranchOp) (ra a target : ℕ) (disp : ℤ) (rs : List ℕ) (s : State) → instruction_at p a ≡ Some (Branch op ra disp) → links op ≡ false → is_branch_taken op (register_of rs ra) ≡ true → branch_target (at s a rs) disp ≡ target → Reaches p 1 (at s a rs) (at s target rs)
 unfolding chosen
 taken p op ra a target disp rs s h l t e =
     let far : ℕ = branch_target (at s a rs) disp in
     let linked : State = with_register ra (a + 4) (at s a rs) in
     one_reaches p (Branch op ra disp) (at s a rs) (at s target rs) h
-    (ap (λ b. chosen linked (at s a rs) far (a + 4) b (is_taken op (register_of rs ra))) l
+    (ap (λ b. chosen linked (at s a rs) far (a + 4) b (is_branch_taken op (register_of rs ra))) l
     ∙ ap (chosen linked (at s a rs) far (a + 4) false) t
     ∙ ap (λ n. Goes (at s n rs)) e)
 
-pub passed : (p : Program) (op : BranchOp) (ra a : ℕ) (disp : ℤ) (rs : List ℕ) (s : State) → instruction_at p a ≡ Some (Branch op ra disp) → links op ≡ false → is_taken op (register_of rs ra) ≡ false → Reaches p 1 (at s a rs) (at s (a + 4) rs)
+pub passed : (p : Program) (op : BranchOp) (ra a : ℕ) (disp : ℤ) (rs : List ℕ) (s : State) → instruction_at p a ≡ Some (Branch op ra disp) → links op ≡ false → is_branch_taken op (register_of rs ra) ≡ false → Reaches p 1 (at s a rs) (at s (a + 4) rs)
 unfolding chosen
 passed p op ra a disp rs s h l t =
     let far : ℕ = branch_target (at s a rs) disp in
     let linked : State = with_register ra (a + 4) (at s a rs) in
     one_reaches p (Branch op ra disp) (at s a rs) (at s (a + 4) rs) h
-    (ap (λ b. chosen linked (at s a rs) far (a + 4) b (is_taken op (register_of rs ra))) l
+    (ap (λ b. chosen linked (at s a rs) far (a + 4) b (is_branch_taken op (register_of rs ra))) l
     ∙ ap (chosen linked (at s a rs) far (a + 4) false) t)

@@ -14,12 +14,12 @@ use Rattle.alpha_isa.specs.declared.insn.Operand.TheVariants.{Reg, Literal}
 use Rattle.alpha_isa.specs.declared.insn.BranchOp.TheVariants.{Bne}
 use Rattle.alpha_isa.specs.declared.insn.OperateOp.{OperateOp}
 use Rattle.alpha_isa.specs.declared.insn.OperateOp.TheVariants.{Addq, Subq, SublV, SubqV, Cmplt, Xor, Cmoveq, Cmovne}
-use Rattle.alpha_isa.specs.Arithmetic.{Gives, Overflows, operation_effect, fits, word_at, word_from, difference, signed_value, sign_extension}
+use Rattle.alpha_isa.specs.Arithmetic.{Gives, Overflows, operation_effect, fits_signed, word_at, word_from, word_difference, signed_value, sign_extension}
 use Rattle.alpha_isa.specs.Program.{Program}
 use Rattle.alpha_isa.specs.State.{State}
 use Rattle.alpha_isa.specs.Step.{operate_step, go_on, exec, step, fetched_step}
 use Rattle.alpha_rt.specs.Routine.{Routine, Answers, Traps, Divq, Remq, Divl, Reml, signed_outcome, is_least_by_minus_one}
-use Rattle.alpha_rt.specs.Code.{least_test, magnitude, magnitudes, signed_quotient, signed_remainder}
+use Rattle.alpha_rt.specs.Code.{least_test, magnitude_code, magnitudes, signed_quotient, signed_remainder}
 use Rattle.alpha_rt.specs.Calls.{IsCall, RoutineDoes, Divides, TrapsWith}
 use Rattle.alpha_rt.proofs.Runs.{Reaches, then_reaches, at_most, Placed, at, after, effect_on, straight_reaches, taken, passed}
 use Rattle.alpha_rt.proofs.Registers.{RegisterFile, listed}
@@ -70,7 +70,7 @@ long_number a word e = long_number_from a word (sym (signed-sign_extended w32 a 
 -- ---- the absolute value of a word, and a word with a sign
 
 size_of : Bool → ℕ → ℕ
-size_of b a = cond b (word_at (difference 0 a)) a
+size_of b a = cond b (word_at (word_difference 0 a)) a
 
 record HasSign (a : ℕ) (b : Bool) : Type 0 where
   small : size_of b a < 2 ^ 64
@@ -90,7 +90,7 @@ sign_by_half a word false true h e =
       small = omega arith;
       same = negative a high word;
       size = omega arith;
-      zero_alike = ne_eqb (word_at (difference 0 a)) 0 (λ z. absurd (omega arith)) ∙ sym (ne_eqb a 0 (λ z. absurd (omega arith)));
+      zero_alike = ne_eqb (word_at (word_difference 0 a)) 0 (λ z. absurd (omega arith)) ∙ sym (ne_eqb a 0 (λ z. absurd (omega arith)));
     }
 sign_by_half a word false false h e =
     let clash : false ≡ true = sym e ∙ ap (λ z. int_lt z (pos 0)) (negative a (ltb-false a (2 ^ 63) h) word) in
@@ -107,7 +107,7 @@ left_below : (n d : ℕ) → n < 2 ^ 64 → n % d < 2 ^ 64
 left_below n zero small = omega arith
 left_below n (suc d) small = omega arith
 
-negated : (n : ℕ) → n < 2 ^ 64 → word_from (neg_ℤ (pos n)) ≡ word_at (difference 0 n)
+negated : (n : ℕ) → n < 2 ^ 64 → word_from (neg_ℤ (pos n)) ≡ word_at (word_difference 0 n)
 negated zero word = omega arith
 negated (suc n) word = omega arith
 
@@ -140,31 +140,31 @@ minus_suc k = omega (arith, ints)
 minus_negsuc : (k : ℕ) → pos 0 -ℤ negsuc k ≡ pos (suc k)
 minus_negsuc k = omega (arith, ints)
 
-fits_pos : (w : Width) (n : ℕ) → 0 < 2 ^ hbits w → n < 2 ^ hbits w → fits w (pos 0 -ℤ pos n) ≡ true
+fits_pos : (w : Width) (n : ℕ) → 0 < 2 ^ hbits w → n < 2 ^ hbits w → fits_signed w (pos 0 -ℤ pos n) ≡ true
 fits_pos w zero some h = lt-ltb 0 (2 ^ hbits w) some
-fits_pos w (suc n) some h = ap (fits w) (minus_suc n) ∙ lt-ltb n (2 ^ hbits w) (omega arith)
+fits_pos w (suc n) some h = ap (fits_signed w) (minus_suc n) ∙ lt-ltb n (2 ^ hbits w) (omega arith)
 
-fits_negsuc : (w : Width) (m : ℕ) → suc m < 2 ^ hbits w → fits w (pos 0 -ℤ negsuc m) ≡ true
-fits_negsuc w m h = ap (fits w) (minus_negsuc m) ∙ lt-ltb (suc m) (2 ^ hbits w) h
+fits_negsuc : (w : Width) (m : ℕ) → suc m < 2 ^ hbits w → fits_signed w (pos 0 -ℤ negsuc m) ≡ true
+fits_negsuc w m h = ap (fits_signed w) (minus_negsuc m) ∙ lt-ltb (suc m) (2 ^ hbits w) h
 
 pub strictly_from : (m k : ℕ) → m ≤ k → (m ≡ k → ⊥) → (m < k) ⊎ (k ≤ m) → m < k
 strictly_from m k le other (inl lt) = lt
 strictly_from m k le other (inr ge) = let same : m ≡ k = omega arith in absurd (other same)
 
-fits_by_half : (w : Width) (a : ℕ) → IsNumber w a → 0 < 2 ^ hbits w → 2 ^ hbits w ≤ 2 ^ 63 → (a ≡ 2 ^ 64 - 2 ^ hbits w → ⊥) → (c : Bool) → ltb a (2 ^ 63) ≡ c → fits w (pos 0 -ℤ signed_value w a) ≡ true
+fits_by_half : (w : Width) (a : ℕ) → IsNumber w a → 0 < 2 ^ hbits w → 2 ^ hbits w ≤ 2 ^ 63 → (a ≡ 2 ^ 64 - 2 ^ hbits w → ⊥) → (c : Bool) → ltb a (2 ^ 63) ≡ c → fits_signed w (pos 0 -ℤ signed_value w a) ≡ true
 fits_by_half w a number some small other true h =
     let low : a < 2 ^ 63 = ltb-true a (2 ^ 63) h in
     let is : pos a ≡ signed_value w a = sym (not_negative a low) ∙ sym number.value in
-    subst (λ z. fits w (pos 0 -ℤ z) ≡ true) is (fits_pos w a some (number.low low))
+    subst (λ z. fits_signed w (pos 0 -ℤ z) ≡ true) is (fits_pos w a some (number.low low))
 fits_by_half w a number some small other false h =
     let high : 2 ^ 63 ≤ a = ltb-false a (2 ^ 63) h in
     let least : ℕ = 2 ^ 64 - 2 ^ hbits w in
     let is : negsuc (2 ^ 64 - suc a) ≡ signed_value w a = sym (negative a high number.word) ∙ sym number.value in
     let above : 2 ^ 64 - 2 ^ hbits w < a = strictly_from least a (number.high high) (λ x. other (sym x)) (cases_lt least a) in
     let size : suc (2 ^ 64 - suc a) < 2 ^ hbits w = omega (arith, number.word) in
-    subst (λ z. fits w (pos 0 -ℤ z) ≡ true) is (fits_negsuc w (2 ^ 64 - suc a) size)
+    subst (λ z. fits_signed w (pos 0 -ℤ z) ≡ true) is (fits_negsuc w (2 ^ 64 - suc a) size)
 
-negation_fits : (w : Width) (a : ℕ) → IsNumber w a → 0 < 2 ^ hbits w → 2 ^ hbits w ≤ 2 ^ 63 → (a ≡ 2 ^ 64 - 2 ^ hbits w → ⊥) → fits w (pos 0 -ℤ signed_value w a) ≡ true
+negation_fits : (w : Width) (a : ℕ) → IsNumber w a → 0 < 2 ^ hbits w → 2 ^ hbits w ≤ 2 ^ 63 → (a ≡ 2 ^ 64 - 2 ^ hbits w → ⊥) → fits_signed w (pos 0 -ℤ signed_value w a) ≡ true
 negation_fits w a number some small other = fits_by_half w a number some small other (ltb a (2 ^ 63)) refl
 
 -- what a test for the least number does
@@ -251,22 +251,22 @@ passes_by op w p s a x h room word n other true e = record { word = n.word; reac
 dividend_sized : (x : RegisterFile) (more : List Fields) (new : Option (List ℕ)) (t : Bool) → is_negative x.r24 ≡ t → after more (listed (record x { r27 = size_of t x.r24; r28 = cond t 1 0 })) ≡ new →
     after (Operate Cmplt 24 (Reg 31) 28 ∷ Operate Subq 31 (Reg 24) 27 ∷ Operate Cmoveq 28 (Reg 24) 27 ∷ more) (listed x) ≡ new
 unfolding is_negative size_of
-dividend_sized x more new true e f = ap (λ t. after (Operate Cmoveq 28 (Reg 24) 27 ∷ more) (listed (record x { r27 = word_at (difference 0 x.r24); r28 = cond t 1 0 }))) e ∙ f
-dividend_sized x more new false e f = ap (λ t. after (Operate Cmoveq 28 (Reg 24) 27 ∷ more) (listed (record x { r27 = word_at (difference 0 x.r24); r28 = cond t 1 0 }))) e ∙ f
+dividend_sized x more new true e f = ap (λ t. after (Operate Cmoveq 28 (Reg 24) 27 ∷ more) (listed (record x { r27 = word_at (word_difference 0 x.r24); r28 = cond t 1 0 }))) e ∙ f
+dividend_sized x more new false e f = ap (λ t. after (Operate Cmoveq 28 (Reg 24) 27 ∷ more) (listed (record x { r27 = word_at (word_difference 0 x.r24); r28 = cond t 1 0 }))) e ∙ f
 
-divisor_sized : (x : RegisterFile) (u : Bool) → is_negative x.r25 ≡ u → after (magnitude 25 2) (listed x) ≡ Some (listed (record x { r2 = size_of u x.r25; r28 = cond u 1 0 }))
+divisor_sized : (x : RegisterFile) (u : Bool) → is_negative x.r25 ≡ u → after (magnitude_code 25 2) (listed x) ≡ Some (listed (record x { r2 = size_of u x.r25; r28 = cond u 1 0 }))
 unfolding is_negative size_of
-divisor_sized x true e = ap (λ t. after (Operate Cmoveq 28 (Reg 25) 2 ∷ []) (listed (record x { r2 = word_at (difference 0 x.r25); r28 = cond t 1 0 }))) e
-divisor_sized x false e = ap (λ t. after (Operate Cmoveq 28 (Reg 25) 2 ∷ []) (listed (record x { r2 = word_at (difference 0 x.r25); r28 = cond t 1 0 }))) e
+divisor_sized x true e = ap (λ t. after (Operate Cmoveq 28 (Reg 25) 2 ∷ []) (listed (record x { r2 = word_at (word_difference 0 x.r25); r28 = cond t 1 0 }))) e
+divisor_sized x false e = ap (λ t. after (Operate Cmoveq 28 (Reg 25) 2 ∷ []) (listed (record x { r2 = word_at (word_difference 0 x.r25); r28 = cond t 1 0 }))) e
 
 magnitudes_loaded : (x : RegisterFile) (j : ℕ) (t u : Bool) → is_negative x.r24 ≡ t → is_negative x.r25 ≡ u →
     after magnitudes (listed (record x { r28 = j })) ≡ Some (listed (record x { r2 = size_of u x.r25; r27 = size_of t x.r24; r28 = cond u 1 0 }))
 magnitudes_loaded x j t u e f =
-    dividend_sized (record x { r28 = j }) (magnitude 25 2) (Some (listed (record x { r2 = size_of u x.r25; r27 = size_of t x.r24; r28 = cond u 1 0 }))) t e
+    dividend_sized (record x { r28 = j }) (magnitude_code 25 2) (Some (listed (record x { r2 = size_of u x.r25; r27 = size_of t x.r24; r28 = cond u 1 0 }))) t e
     (divisor_sized (record x { r27 = size_of t x.r24; r28 = cond t 1 0 }) u f)
 
 quotient_answered : (y : RegisterFile) (t u : Bool) → is_negative y.r24 ≡ t → is_negative y.r25 ≡ u →
-    after signed_quotient (listed y) ≡ Some (listed (record y { r1 = word_at (difference 0 y.r27); r27 = size_of (differ t u) y.r27; r28 = cond (differ t u) 1 0 }))
+    after signed_quotient (listed y) ≡ Some (listed (record y { r1 = word_at (word_difference 0 y.r27); r27 = size_of (differ t u) y.r27; r28 = cond (differ t u) 1 0 }))
 unfolding is_negative size_of differ
 quotient_answered y true true e f =
     ap (λ t. after (Operate Xor 28 (Reg 1) 28 ∷ Operate Subq 31 (Reg 27) 1 ∷ Operate Cmovne 28 (Reg 1) 27 ∷ []) (listed (record y { r1 = cond (is_negative y.r25) 1 0; r28 = cond t 1 0 }))) e
@@ -283,8 +283,8 @@ quotient_answered y false false e f =
 
 remainder_answered : (y : RegisterFile) (t : Bool) → is_negative y.r24 ≡ t → after signed_remainder (listed y) ≡ Some (listed (record y { r27 = size_of t y.r1; r28 = cond t 1 0 }))
 unfolding is_negative size_of
-remainder_answered y true e = ap (λ t. after (Operate Cmoveq 28 (Reg 1) 27 ∷ []) (listed (record y { r27 = word_at (difference 0 y.r1); r28 = cond t 1 0 }))) e
-remainder_answered y false e = ap (λ t. after (Operate Cmoveq 28 (Reg 1) 27 ∷ []) (listed (record y { r27 = word_at (difference 0 y.r1); r28 = cond t 1 0 }))) e
+remainder_answered y true e = ap (λ t. after (Operate Cmoveq 28 (Reg 1) 27 ∷ []) (listed (record y { r27 = word_at (word_difference 0 y.r1); r28 = cond t 1 0 }))) e
+remainder_answered y false e = ap (λ t. after (Operate Cmoveq 28 (Reg 1) 27 ∷ []) (listed (record y { r27 = word_at (word_difference 0 y.r1); r28 = cond t 1 0 }))) e
 
 -- ---- calls
 
@@ -352,7 +352,7 @@ divq_parts p word s a x call =
         tested = passes.word;
         tests = passes.reaches;
         operands = λ j. (cond (is_negative x.r25) 1 0, magnitudes_loaded x j (is_negative x.r24) (is_negative x.r25) refl refl);
-        answers = λ some link j. (word_at (difference 0 (size_of (is_negative x.r24) x.r24 / size_of (is_negative x.r25) x.r25)), cond (differ (is_negative x.r24) (is_negative x.r25)) 1 0, quotient_answered (record x { r1 = size_of (is_negative x.r24) x.r24 % size_of (is_negative x.r25) x.r25; r2 = size_of (is_negative x.r25) x.r25; r3 = 0; r4 = link; r27 = size_of (is_negative x.r24) x.r24 / size_of (is_negative x.r25) x.r25; r28 = j }) (is_negative x.r24) (is_negative x.r25) refl refl);
+        answers = λ some link j. (word_at (word_difference 0 (size_of (is_negative x.r24) x.r24 / size_of (is_negative x.r25) x.r25)), cond (differ (is_negative x.r24) (is_negative x.r25)) 1 0, quotient_answered (record x { r1 = size_of (is_negative x.r24) x.r24 % size_of (is_negative x.r25) x.r25; r2 = size_of (is_negative x.r25) x.r25; r3 = 0; r4 = link; r27 = size_of (is_negative x.r24) x.r24 / size_of (is_negative x.r25) x.r25; r28 = j }) (is_negative x.r24) (is_negative x.r25) refl refl);
       };
       answer_is = quotient_is w64 x.r24 x.r25 dividend divisor;
     }
@@ -402,7 +402,7 @@ divl_parts p word s a x call =
         tested = passes.word;
         tests = passes.reaches;
         operands = λ j. (cond (is_negative x.r25) 1 0, magnitudes_loaded x j (is_negative x.r24) (is_negative x.r25) refl refl);
-        answers = λ some link j. (word_at (difference 0 (size_of (is_negative x.r24) x.r24 / size_of (is_negative x.r25) x.r25)), cond (differ (is_negative x.r24) (is_negative x.r25)) 1 0, quotient_answered (record x { r1 = size_of (is_negative x.r24) x.r24 % size_of (is_negative x.r25) x.r25; r2 = size_of (is_negative x.r25) x.r25; r3 = 0; r4 = link; r27 = size_of (is_negative x.r24) x.r24 / size_of (is_negative x.r25) x.r25; r28 = j }) (is_negative x.r24) (is_negative x.r25) refl refl);
+        answers = λ some link j. (word_at (word_difference 0 (size_of (is_negative x.r24) x.r24 / size_of (is_negative x.r25) x.r25)), cond (differ (is_negative x.r24) (is_negative x.r25)) 1 0, quotient_answered (record x { r1 = size_of (is_negative x.r24) x.r24 % size_of (is_negative x.r25) x.r25; r2 = size_of (is_negative x.r25) x.r25; r3 = 0; r4 = link; r27 = size_of (is_negative x.r24) x.r24 / size_of (is_negative x.r25) x.r25; r28 = j }) (is_negative x.r24) (is_negative x.r25) refl refl);
       };
       answer_is = quotient_is w32 x.r24 x.r25 dividend divisor;
     }

@@ -8,7 +8,7 @@ use Rattle.alpha_isa.specs.declared.insn.MemoryOp.TheVariants.{Ldq, Stq}
 use Rattle.alpha_isa.specs.declared.insn.JumpOp.TheVariants.{Ret}
 use Rattle.alpha_isa.specs.Arithmetic.{word_at, word_from}
 use Rattle.alpha_isa.specs.Program.{Program, instruction_at, data_start, stack_start}
-use Rattle.alpha_isa.specs.State.{State, with_register, with_part, part_of, lies_in, bytes_at, with_bytes}
+use Rattle.alpha_isa.specs.State.{State, with_register, with_part, byte_range, lies_in, bytes_at, with_bytes}
 use Rattle.alpha_isa.specs.Step.{Goes, next_instruction, load_into, go_on_stored}
 use Rattle.alpha_rt.specs.Code.{prologue, epilogue}
 use Rattle.alpha_rt.proofs.Runs.{Reaches, then_reaches, one_reaches, Placed, at, register_of, put, put_step}
@@ -16,7 +16,7 @@ use Rattle.alpha_rt.proofs.Registers.{RegisterFile, listed}
 
 -- ---- parts of lists
 
-part_between : (f m b : List ℕ) → part_of (f ++ (m ++ b)) (length f) (length m) ≡ m
+part_between : (f m b : List ℕ) → byte_range (f ++ (m ++ b)) (length f) (length m) ≡ m
 part_between [] [] b = refl
 part_between [] (x ∷ m) b = ap (λ l. x ∷ l) (part_between [] m b)
 part_between (x ∷ f) m b = part_between f m b
@@ -59,9 +59,9 @@ no_data p s a h = and_right (leb (data_start p) a) (leb (a + 8) (data_start p + 
 in_stack : (p : Program) (s : State) (a : ℕ) → IsSlot p s a → lies_in a 8 (stack_start p) s.stack_bytes ≡ true
 in_stack p s a h = and_from (leb (stack_start p) a) (leb (a + 8) (stack_start p + length s.stack_bytes)) (le-leb (stack_start p) a h.low) (le-leb (a + 8) (stack_start p + length s.stack_bytes) h.high)
 
-slot_bytes : (p : Program) (s : State) (a : ℕ) → IsSlot p s a → bytes_at p s a 8 ≡ Some (part_of s.stack_bytes (a - stack_start p) 8)
+slot_bytes : (p : Program) (s : State) (a : ℕ) → IsSlot p s a → bytes_at p s a 8 ≡ Some (byte_range s.stack_bytes (a - stack_start p) 8)
 slot_bytes p s a h =
-    three (λ b c d. cond b None (cond c (Some (part_of s.data_bytes (a - data_start p) 8)) (cond d (Some (part_of s.stack_bytes (a - stack_start p) 8)) None)))
+    three (λ b c d. cond b None (cond c (Some (byte_range s.data_bytes (a - data_start p) 8)) (cond d (Some (byte_range s.stack_bytes (a - stack_start p) 8)) None)))
     (not (eqb (a % 8) 0)) (lies_in a 8 (data_start p) s.data_bytes) (lies_in a 8 (stack_start p) s.stack_bytes) (misplaced p s a h) (no_data p s a h) (in_stack p s a h)
 
 slot_written : (p : Program) (s : State) (a word : ℕ) → IsSlot p s a → with_bytes p s a (to_le_bytes w64 word) ≡ Some (record s { stack_bytes = with_part s.stack_bytes (a - stack_start p) (to_le_bytes w64 word) })
@@ -107,11 +107,11 @@ stored p s a rs ra disp address f m b h e slot =
     ∙ ap (λ o. go_on_stored o (at s a rs)) (slot_written p (at s a rs) address word (is_slot p (at s a rs) f m b address here))
     ∙ ap (λ l. Goes (at (record s { stack_bytes = l }) (a + 4) rs)) (written_is p (at s a rs) f m b address word here))
 
-read_is : (p : Program) (s : State) (f b : List ℕ) (a word : ℕ) → Slot p s f (to_le_bytes w64 word) b a → word < 2 ^ 64 → from_le_bytes w64 (part_of s.stack_bytes (a - stack_start p) 8) ≡ word
+read_is : (p : Program) (s : State) (f b : List ℕ) (a word : ℕ) → Slot p s f (to_le_bytes w64 word) b a → word < 2 ^ 64 → from_le_bytes w64 (byte_range s.stack_bytes (a - stack_start p) 8) ≡ word
 read_is p s f b a word h small =
     let m : List ℕ = to_le_bytes w64 word in
-    ap (λ l. from_le_bytes w64 (part_of l (a - stack_start p) 8)) h.stack
-    ∙ ap (λ n. from_le_bytes w64 (part_of (f ++ (m ++ b)) n 8)) (offset_is p s f m b a h)
+    ap (λ l. from_le_bytes w64 (byte_range l (a - stack_start p) 8)) h.stack
+    ∙ ap (λ n. from_le_bytes w64 (byte_range (f ++ (m ++ b)) n 8)) (offset_is p s f m b a h)
     ∙ ap (from_le_bytes w64) (part_between f m b)
     ∙ from_le_bytes-to_le_bytes_8 word small
 

@@ -5,7 +5,7 @@ use Rattle.std.proofs.lemmas.Nat.{or_shifted}
 use Rattle.std.specs.Int.RustNames.{bit_or}
 use Rattle.alpha_isa.specs.Program.{Program}
 use Rattle.alpha_isa.specs.State.{State, register}
-use Rattle.alpha_rt.specs.Routine.{Routine, Answers, Traps, Divqu, Remqu, outcome}
+use Rattle.alpha_rt.specs.Routine.{Routine, Answers, Traps, Divqu, Remqu, routine_outcome}
 use Rattle.alpha_rt.specs.Code.{numbers}
 use Rattle.alpha_rt.specs.Calls.{IsCall, RoutineDoes, Divides}
 use Rattle.alpha_rt.proofs.Runs.{Reaches, at_most, stays, at, after}
@@ -13,10 +13,10 @@ use Rattle.alpha_rt.proofs.Registers.{RegisterFile, listed, file_of}
 use Rattle.alpha_rt.proofs.Routines.{Parts, routine_returns, routine_traps}
 
 -- from each register file, from each state
-pub from_files : (r : Routine) → ((p : Program) (word : ℕ) (s : State) (a : ℕ) (x : RegisterFile) → IsCall p word r (at s a (listed x)) → RoutineDoes p (at s a (listed x)) (outcome r x.r24 x.r25)) → Divides r
+pub from_files : (r : Routine) → ((p : Program) (word : ℕ) (s : State) (a : ℕ) (x : RegisterFile) → IsCall p word r (at s a (listed x)) → RoutineDoes p (at s a (listed x)) (routine_outcome r x.r24 x.r25)) → Divides r
 from_files r does p word s call =
     let file = file_of s.registers call.registers in
-    subst (λ rs. IsCall p word r (at s s.pc rs) → RoutineDoes p (at s s.pc rs) (outcome r (register (at s s.pc rs) 24) (register (at s s.pc rs) 25))) (sym file.1) (does p word s s.pc file.0) call
+    subst (λ rs. IsCall p word r (at s s.pc rs) → RoutineDoes p (at s s.pc rs) (routine_outcome r (register (at s s.pc rs) 24) (register (at s s.pc rs) 25))) (sym file.1) (does p word s s.pc file.0) call
 
 -- the divisor is zero, or it is not
 pub by_divisor : (r : Routine) (p : Program) (word : ℕ) (s : State) (a : ℕ) (x : RegisterFile) (n d answer : ℕ) → IsCall p word r (at s a (listed x)) → Parts r p s a x n d answer → (b : Bool) → eqb d 0 ≡ b → RoutineDoes p (at s a (listed x)) (cond b (Traps 1) (Answers answer))

@@ -1,20 +1,21 @@
 -- A call of a division routine: what the machine's state has to be, and what the routine does with it.
 use Rattle.std.specs.Prelude.{◌≡◌, ℕ, ◌+◌, ◌-◌, ◌*◌, ◌/◌, ◌%◌, ◌^◌, ◌<◌, ◌≤◌, List, ◌++◌, length, map, slice_get, slice_set}
-use Rattle.alpha_isa.specs.Words.{word_of}
+use Rattle.alpha_isa.specs.Words.{insn_word}
 use Rattle.alpha_isa.specs.Program.{Program, IsLawful, data_start, stack_start, word_address, instruction_at}
 use Rattle.alpha_isa.specs.State.{State, register, with_part}
 use Rattle.alpha_isa.specs.Step.{Goes, Over, Trap, exec}
-use Rattle.alpha_rt.specs.Routine.{Routine, RoutineEnding, Answers, Traps, IsRoutineOperand, outcome}
-use Rattle.alpha_rt.specs.Code.{entry, code}
+use Rattle.alpha_rt.specs.Routine.{Routine, RoutineEnding, Answers, Traps, IsRoutineOperand, routine_outcome}
+use Rattle.alpha_rt.specs.Code.{entry, all_code}
 
 -- the routines stand in the text from a word on
 abbrev pub RoutinesStandAt : Program → ℕ → Type 0
-RoutinesStandAt p word = (i : ℕ) → i < length code → instruction_at p (word_address (word + i)) ≡ slice_get code i
+RoutinesStandAt p word =
+    (i : ℕ) → i < length all_code → instruction_at p (word_address (word + i)) ≡ slice_get all_code i
 
 -- a text that has the words of the code has the code there, whatever stands before and behind
 abbrev pub CodeStands : Type 0
 CodeStands =
-    (p : Program) (front back : List ℕ) → p.words ≡ front ++ (map word_of code ++ back) →
+    (p : Program) (front back : List ℕ) → p.words ≡ front ++ (map insn_word all_code ++ back) →
     RoutinesStandAt p (length front)
 
 -- how many bytes below the stack's top a routine may write, and how many steps it may take
@@ -73,4 +74,4 @@ RoutineDoes p s (Traps code) = TrapsWith p s code
 abbrev pub Divides : Routine → Type 0
 Divides r =
     (p : Program) (word : ℕ) (s : State) →
-    IsCall p word r s → RoutineDoes p s (outcome r (register s 24) (register s 25))
+    IsCall p word r s → RoutineDoes p s (routine_outcome r (register s 24) (register s 25))

@@ -31,22 +31,24 @@ place_front =
 abbrev pub place_back : List Fields
 place_back = Operate Subq 1 (Reg 2) 1 ∷ Operate Addq 27 (Literal 1) 27 ∷ []
 
-abbrev pub place : List Fields
-place = place_front ++ Branch Beq 28 (pos 2) ∷ place_back
+abbrev pub place_insns : List Fields
+place_insns = place_front ++ Branch Beq 28 (pos 2) ∷ place_back
 
 -- a division by zero traps with the code 1
-abbrev pub refusal : List Fields
-refusal = Branch Bne 2 (pos 2) ∷ Memory Lda 16 31 (pos 1) ∷ Pal 0xAA ∷ []
+abbrev pub zero_refusal : List Fields
+zero_refusal = Branch Bne 2 (pos 2) ∷ Memory Lda 16 31 (pos 1) ∷ Pal 0xAA ∷ []
 
 -- 16 rounds of four places
 abbrev pub preparation : List Fields
 preparation = Operate Bis 31 (Reg 31) 1 ∷ Memory Lda 3 31 (pos 16) ∷ []
 
-abbrev pub turn : List Fields
-turn = Operate Subq 3 (Literal 1) 3 ∷ Branch Bne 3 (negsuc 33) ∷ []
+abbrev pub turn_code : List Fields
+turn_code = Operate Subq 3 (Literal 1) 3 ∷ Branch Bne 3 (negsuc 33) ∷ []
 
-abbrev pub common : List Fields
-common = refusal ++ (preparation ++ (place ++ (place ++ (place ++ (place ++ (turn ++ Jump Ret 31 4 ∷ []))))))
+abbrev pub common_part : List Fields
+common_part =
+    zero_refusal ++ (preparation ++ (place_insns ++
+    (place_insns ++ (place_insns ++ (place_insns ++ (turn_code ++ Jump Ret 31 4 ∷ []))))))
 
 -- ---- the way in and the way out
 
@@ -78,15 +80,15 @@ least_test negation =
     ∷ []
 
 -- the absolute values; the numbers themselves; and the numbers in their low 32 bits
-abbrev pub magnitude : ℕ → ℕ → List Fields
-magnitude from to =
+abbrev pub magnitude_code : ℕ → ℕ → List Fields
+magnitude_code from to =
     Operate Cmplt from (Reg 31) 28
     ∷ Operate Subq 31 (Reg from) to
     ∷ Operate Cmoveq 28 (Reg from) to
     ∷ []
 
 abbrev pub magnitudes : List Fields
-magnitudes = magnitude 24 27 ++ magnitude 25 2
+magnitudes = magnitude_code 24 27 ++ magnitude_code 25 2
 
 abbrev pub numbers : List Fields
 numbers = Operate Bis 31 (Reg 24) 27 ∷ Operate Bis 31 (Reg 25) 2 ∷ []
@@ -179,8 +181,8 @@ routine_code r =
     ++ (Branch Bsr 4 (pos (common_entry - (call_place r + 1)))
     ∷ (answer_of r ++ Branch Br 31 (pos (epilogue_entry - (exit_place r + 1))) ∷ []))
 
-abbrev pub code : List Fields
-code =
+abbrev pub all_code : List Fields
+all_code =
     routine_code Divq
     ++ (routine_code Remq
     ++ (routine_code Divqu
@@ -189,4 +191,4 @@ code =
     ++ (routine_code Reml
     ++ (routine_code Divlu
     ++ (routine_code Remlu
-    ++ (common ++ epilogue))))))))
+    ++ (common_part ++ epilogue))))))))

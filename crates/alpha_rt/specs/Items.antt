@@ -13,7 +13,7 @@ use Rattle.alpha_items.specs.declared.item.AsmItem.TheVariants.{Label, Plain, Br
 use Rattle.alpha_items.specs.Layout.{label_place}
 use Rattle.alpha_items.specs.Words.{text_insns}
 use Rattle.alpha_rt.specs.Routine.{Routine, Divq, Remq, Divqu, Remqu, Divl, Reml, Divlu, Remlu}
-use Rattle.alpha_rt.specs.Code.{place_front, place_back, preparation, prologue, epilogue, magnitudes, numbers, low_numbers, signed_quotient, signed_remainder, plain_remainder, long_quotient, long_remainder, code}
+use Rattle.alpha_rt.specs.Code.{place_front, place_back, preparation, prologue, epilogue, magnitudes, numbers, low_numbers, signed_quotient, signed_remainder, plain_remainder, long_quotient, long_remainder, all_code}
 
 -- the labels of the entries
 abbrev pub entry_label : Routine → ℕ
@@ -37,8 +37,8 @@ abbrev pub last_label : ℕ
 last_label = 20
 
 -- instructions that stand as they are
-abbrev pub plain : List Fields → List AsmItem
-plain insns = map Plain insns
+abbrev pub plain_items : List Fields → List AsmItem
+plain_items insns = map Plain insns
 
 -- the entry, with the test for the least number in front of the label `past`
 abbrev pub test_items : ℕ → OperateOp → ℕ → List AsmItem
@@ -52,18 +52,19 @@ test_items entry negation past =
 
 -- the operands, with the call of the common part
 abbrev pub operand_items : List Fields → List AsmItem
-operand_items operands = plain operands ++ Branch Bsr 4 common_label ∷ []
+operand_items operands = plain_items operands ++ Branch Bsr 4 common_label ∷ []
 
 -- the answer, with the way out
 abbrev pub answer_items : List Fields → List AsmItem
-answer_items answer = plain answer ++ Branch Br 31 epilogue_label ∷ []
+answer_items answer = plain_items answer ++ Branch Br 31 epilogue_label ∷ []
 
 abbrev pub signed_items : ℕ → OperateOp → ℕ → List Fields → List AsmItem
 signed_items entry negation past answer =
-    test_items entry negation past ++ (plain prologue ++ (operand_items magnitudes ++ answer_items answer))
+    test_items entry negation past ++ (plain_items prologue ++ (operand_items magnitudes ++ answer_items answer))
 
 abbrev pub unsigned_items : ℕ → List Fields → List Fields → List AsmItem
-unsigned_items entry operands answer = Label entry ∷ (plain prologue ++ (operand_items operands ++ answer_items answer))
+unsigned_items entry operands answer =
+    Label entry ∷ (plain_items prologue ++ (operand_items operands ++ answer_items answer))
 
 -- the common part: label 11 stands behind its trap, 12 before its rounds, 13 to 16 behind its places
 abbrev pub refusal_items : List AsmItem
@@ -76,10 +77,10 @@ refusal_items =
     ∷ []
 
 abbrev pub preparation_items : List AsmItem
-preparation_items = plain preparation ++ Label 12 ∷ []
+preparation_items = plain_items preparation ++ Label 12 ∷ []
 
 abbrev pub place_items : ℕ → List AsmItem
-place_items past = plain place_front ++ (Branch Beq 28 past ∷ (plain place_back ++ Label past ∷ []))
+place_items past = plain_items place_front ++ (Branch Beq 28 past ∷ (plain_items place_back ++ Label past ∷ []))
 
 abbrev pub turn_items : List AsmItem
 turn_items = Plain (fields.Operate Subq 3 (Literal 1) 3) ∷ Branch Bne 3 12 ∷ Plain (fields.Jump Ret 31 4) ∷ []
@@ -91,7 +92,7 @@ common_items =
     ++ (place_items 13 ++ (place_items 14 ++ (place_items 15 ++ (place_items 16 ++ turn_items)))))
 
 abbrev pub epilogue_items : List AsmItem
-epilogue_items = Label epilogue_label ∷ plain epilogue
+epilogue_items = Label epilogue_label ∷ plain_items epilogue
 
 -- all routines; labels 17 to 20 stand behind the tests of the signed ones
 abbrev pub all_items : List AsmItem
@@ -117,4 +118,4 @@ abbrev pub GiveCode : Type 0
 GiveCode =
     (there : ℕ → ℕ) (start before : ℕ) →
     ((l : ℕ) → 1 ≤ l → l ≤ last_label → there l ≡ before + label_place all_items all_near l) →
-    text_insns there start before all_items all_near ≡ code
+    text_insns there start before all_items all_near ≡ all_code

@@ -23,8 +23,8 @@ pub data RoutineEnding : Type 0 where
   Traps : (code : ℕ) → RoutineEnding
 
 -- division by zero is the trap 1
-abbrev pub by : ℕ → RoutineEnding → RoutineEnding
-by divisor outcome = if divisor == 0 then Traps 1 else outcome
+abbrev pub trap_at_zero : ℕ → RoutineEnding → RoutineEnding
+trap_at_zero divisor outcome = if divisor == 0 then Traps 1 else outcome
 
 -- the least signed number of a width and -1, whose quotient is no number of the width
 abbrev pub is_least_by_minus_one : Width → ℕ → ℕ → Bool
@@ -33,26 +33,26 @@ is_least_by_minus_one w a b = (a == 2 ^ 64 - 2 ^ hbits w) && (b == 2 ^ 64 - 1)
 -- on signed numbers division rounds toward zero, so the remainder has the dividend's sign
 abbrev pub signed_outcome : Width → (ℤ → ℤ → ℤ) → ℕ → ℕ → RoutineEnding
 signed_outcome w operation a b =
-    by b (if is_least_by_minus_one w a b then Traps 3
+    trap_at_zero b (if is_least_by_minus_one w a b then Traps 3
     else Answers (word_from (operation (signed_value w a) (signed_value w b))))
 
 abbrev pub unsigned_outcome : (ℕ → ℕ → ℕ) → ℕ → ℕ → RoutineEnding
-unsigned_outcome operation a b = by b (Answers (operation a b))
+unsigned_outcome operation a b = trap_at_zero b (Answers (operation a b))
 
 -- an unsigned number of 32 bits is answered with its sign bit in all bits above
 abbrev pub long_outcome : (ℕ → ℕ → ℕ) → ℕ → ℕ → RoutineEnding
-long_outcome operation a b = by b (Answers (sign_extension w32 (operation (a % 2 ^ 32) (b % 2 ^ 32))))
+long_outcome operation a b = trap_at_zero b (Answers (sign_extension w32 (operation (a % 2 ^ 32) (b % 2 ^ 32))))
 
 -- what a routine makes of the dividend's word and the divisor's
-abbrev pub outcome : Routine → ℕ → ℕ → RoutineEnding
-outcome Divq a b = signed_outcome w64 int_div a b
-outcome Remq a b = signed_outcome w64 int_rem a b
-outcome Divqu a b = unsigned_outcome ◌/◌ a b
-outcome Remqu a b = unsigned_outcome ◌%◌ a b
-outcome Divl a b = signed_outcome w32 int_div a b
-outcome Reml a b = signed_outcome w32 int_rem a b
-outcome Divlu a b = long_outcome ◌/◌ a b
-outcome Remlu a b = long_outcome ◌%◌ a b
+abbrev pub routine_outcome : Routine → ℕ → ℕ → RoutineEnding
+routine_outcome Divq a b = signed_outcome w64 int_div a b
+routine_outcome Remq a b = signed_outcome w64 int_rem a b
+routine_outcome Divqu a b = unsigned_outcome ◌/◌ a b
+routine_outcome Remqu a b = unsigned_outcome ◌%◌ a b
+routine_outcome Divl a b = signed_outcome w32 int_div a b
+routine_outcome Reml a b = signed_outcome w32 int_rem a b
+routine_outcome Divlu a b = long_outcome ◌/◌ a b
+routine_outcome Remlu a b = long_outcome ◌%◌ a b
 
 -- the words that a routine takes: those of 32 bits have their sign bit in all bits above
 abbrev pub IsRoutineOperand : Routine → ℕ → Type 0

@@ -179,7 +179,7 @@ fn test(entry: u32, negation: OperateOp, past: u32) -> [AsmItem; 5]
 
 /// Registers 1 to 4 below the stack's top.
 fn prologue() -> [AsmItem; 4]
-    ensures { result ≡ spec.plain code.prologue }
+    ensures { result ≡ spec.plain_items code.prologue }
 {
     [
         memory(MemoryOp::Stq, 1, 30, -8),

@@ -4,7 +4,7 @@ ghost use Rattle.std.specs.Prelude.{◌≡◌, ℕ};
 ghost use Rattle.alpha_items.specs.Layout.{label_place};
 ghost use Rattle.alpha_rt.specs.Code.{entry};
 ghost use Rattle.alpha_rt.specs.Items.{GiveCode, all_items, all_near, entry_label};
-ghost use Rattle.alpha_rt.specs.Routine.{Routine, Answers, Divq, Remq, Divqu, Remqu, Divl, Reml, Divlu, Remlu, IsRoutineOperand, outcome};
+ghost use Rattle.alpha_rt.specs.Routine.{Routine, Answers, Divq, Remq, Divqu, Remqu, Divl, Reml, Divlu, Remlu, IsRoutineOperand, routine_outcome};
 ghost use Rattle.alpha_rt.specs.Calls.{CodeStands, Divides};
 
 /// The routines on unsigned words leave the quotient and the remainder, or trap with the code 1 where the divisor is 0.
@@ -33,7 +33,7 @@ pub fn signed_longs_divide()
 
 /// What a routine answers is an operand of it again: of those on 32 bits, a word that is its own sign extension.
 pub fn answers_are_operands()
-    ensures { (r : Routine) (a b word : ℕ) → IsRoutineOperand r a → IsRoutineOperand r b → outcome r a b ≡ Answers word →
+    ensures { (r : Routine) (a b word : ℕ) → IsRoutineOperand r a → IsRoutineOperand r b → routine_outcome r a b ≡ Answers word →
         IsRoutineOperand r word }
 {}
 

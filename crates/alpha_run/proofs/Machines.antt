@@ -2,7 +2,7 @@
 use Rattle.std.proofs.Common.{◌≡◌, ℕ, ◌+◌, ◌*◌, ◌^◌, ◌<◌, min, List, [], ◌∷◌, ◌++◌, length, map, drop, true, false, Option, Some, None, option_map, refl, sym, ap, ◌∙◌, subst, arith, append-nil}
 use Rattle.std.proofs.lemmas.List.{length-map}
 use Rattle.alpha_isa.specs.Words.{insn_of}
-use Rattle.alpha_isa.specs.Program.{Program, data_size, text_start, data_start, next_part}
+use Rattle.alpha_isa.specs.Program.{Program, image_data_size, text_start, data_start, next_part}
 use Rattle.alpha_isa.specs.State.{State}
 use Rattle.alpha_isa.specs.Step.{MachineNext, Goes, Over, next_instruction, step, exec}
 use Rattle.alpha_isa.specs.Step as step
@@ -12,13 +12,13 @@ use Rattle.alpha_run.specs.declared.ending.Ending.TheVariants as ending
 use Rattle.alpha_run.specs.declared.ending.Halt.{Halt}
 use Rattle.alpha_run.specs.declared.processor.Processor.{Processor}
 use Rattle.alpha_run.specs.declared.machine.Machine.TheInside.{Inside}
-use Rattle.alpha_run.specs.Ending.{halt_is, ending_of}
+use Rattle.alpha_run.specs.Ending.{halt_is, halt_ending}
 use Rattle.alpha_run.specs.Snapshot.{Snapshot, snapshot_state}
 use Rattle.alpha_run.specs.Snapshot as snapshot
 use Rattle.alpha_run.specs.model.ProcessorState.{processor_state, IsProcessorOf}
 use Rattle.alpha_run.specs.Inside.{snapshot_of, InsideIsSound}
 use Rattle.alpha_run.specs.model.Turns.{with_taken}
-use Rattle.alpha_run.specs.Services.{asks}
+use Rattle.alpha_run.specs.Services.{asks_service}
 use Rattle.alpha_run.specs.model.Stop.{stops_early}
 use Rattle.alpha_run.specs.Run.{last_step, input_calls, halt_of, StopsAt, snapshot_after, IsRun}
 use Rattle.alpha_run.proofs.Runs.{exec_one, exec_none, steps_one-goes, steps_one-over, steps_none, takes_one-no, takes_one-yes, takes_none, ran_from, counted_none, taken_none}
@@ -27,7 +27,7 @@ use Rattle.alpha_run.proofs.Runs.{exec_one, exec_none, steps_one-goes, steps_one
 pub processor_runs : (p : Program) (m : Inside) (v : Snapshot) → snapshot_of m ≡ v → InsideIsSound m → snapshot.IsMachineOf p v → IsProcessorOf p m.processor
 processor_runs p m v is sound r =
     let text : m.processor.text.items ≡ map insn_of p.words = ap (λ u. u.text) is ∙ r.text in
-    let size : length m.processor.memory.data.items ≡ data_size p = ap (λ u. length u.data_bytes) is ∙ r.size in
+    let size : length m.processor.memory.data.items ≡ image_data_size p = ap (λ u. length u.data_bytes) is ∙ r.size in
     let words : length m.processor.text.items ≡ length p.words = ap length text ∙ length-map p.words insn_of in
     let begins : m.processor.memory.data_start ≡ data_start p = sound.data_start ∙ ap (λ n. next_part (text_start + 4 * n)) words in
     record {
@@ -37,22 +37,22 @@ processor_runs p m v is sound r =
     }
 
 -- an end that was come to in one step
-stops_over : (p : Program) (s t : State) (h : step.Halt) → exec p 1 s ≡ Over h t → StopsAt p 1 s (ending_of h) 1 t
+stops_over : (p : Program) (s t : State) (h : step.Halt) → exec p 1 s ≡ Over h t → StopsAt p 1 s (halt_ending h) 1 t
 stops_over p s t (step.Done status) e = (refl, e)
 stops_over p s t (step.Trap code) e = (refl, e)
 stops_over p s t (step.Stuck pc) e = (refl, e)
 
-behaviour_of_halt : (h : step.Halt) → Some h ≡ halt_of (ending_of h)
+behaviour_of_halt : (h : step.Halt) → Some h ≡ halt_of (halt_ending h)
 behaviour_of_halt (step.Done status) = refl
 behaviour_of_halt (step.Trap code) = refl
 behaviour_of_halt (step.Stuck pc) = refl
 
-unasked : (h : step.Halt) → input_calls (ending_of h) 0 ≡ 0
+unasked : (h : step.Halt) → input_calls (halt_ending h) 0 ≡ 0
 unasked (step.Done status) = refl
 unasked (step.Trap code) = refl
 unasked (step.Stuck pc) = refl
 
-pub ended_early : (h : step.Halt) → stops_early (ending_of h) ≡ true
+pub ended_early : (h : step.Halt) → stops_early (halt_ending h) ≡ true
 ended_early (step.Done status) = refl
 ended_early (step.Trap code) = refl
 ended_early (step.Stuck pc) = refl
@@ -74,37 +74,37 @@ module _ (p : Program) (x y : List ℕ) (m : Inside) (v : Snapshot) (is : snapsh
   from_here : (e : Ending) (new : Snapshot) (told after : Traffic) → IsRun p 1 e (processor_state m.processor x y) v new told after → IsRun p 1 e (snapshot_state v x y) v new told after
   from_here e new told after r = subst (λ u. IsRun p 1 e (snapshot_state u x y) v new told after) is r
 
-  pub goes_turn : (q : Processor) (st : ℕ) (told : Traffic) → step p (processor_state m.processor x y) ≡ Goes (processor_state q x y) → asks p 3 (processor_state m.processor x y) ≡ false → q.text.items ≡ m.processor.text.items → st ≡ next_count m.steps → told.left ≡ Some x → IsRun p 1 ending.Budget (snapshot_state v x y) v (snapshot_of (record { processor = q; steps = st; written = m.written; halt = m.halt })) told told
+  pub goes_turn : (q : Processor) (st : ℕ) (told : Traffic) → step p (processor_state m.processor x y) ≡ Goes (processor_state q x y) → asks_service p 3 (processor_state m.processor x y) ≡ false → q.text.items ≡ m.processor.text.items → st ≡ next_count m.steps → told.left ≡ Some x → IsRun p 1 ending.Budget (snapshot_state v x y) v (snapshot_of (record { processor = q; steps = st; written = m.written; halt = m.halt })) told told
   goes_turn q st told goes a text steps left =
       let s : State = processor_state m.processor x y in
       let t : State = processor_state q x y in
       from_here ending.Budget _ told told
       (ran_from p 1 ending.Budget s t v _ told told 1 1 0 [] (refl, exec_one p s (Goes t) goes) (steps_one-goes p s t goes) (takes_one-no p s (Goes t) a goes) (sym (append-nil y)) (moved_is q x y st m.written m.halt 1 0 ending.Budget text steps refl still) left (counted_none told.made) (taken_none told.taken))
 
-  pub over_turn : (q : Processor) (h : Halt) (e : Ending) (st : ℕ) (told : Traffic) → step p (processor_state m.processor x y) ≡ Over (halt_is h) (processor_state q x y) → asks p 3 (processor_state m.processor x y) ≡ false → q.text.items ≡ m.processor.text.items → st ≡ min (m.steps + last_step (halt_is h)) count_end → m.steps < 2 ^ 64 → e ≡ ending_of (halt_is h) → told.left ≡ Some x → IsRun p 1 e (snapshot_state v x y) v (snapshot_of (record { processor = q; steps = st; written = m.written; halt = Some h })) told told
+  pub over_turn : (q : Processor) (h : Halt) (e : Ending) (st : ℕ) (told : Traffic) → step p (processor_state m.processor x y) ≡ Over (halt_is h) (processor_state q x y) → asks_service p 3 (processor_state m.processor x y) ≡ false → q.text.items ≡ m.processor.text.items → st ≡ min (m.steps + last_step (halt_is h)) count_end → m.steps < 2 ^ 64 → e ≡ halt_ending (halt_is h) → told.left ≡ Some x → IsRun p 1 e (snapshot_state v x y) v (snapshot_of (record { processor = q; steps = st; written = m.written; halt = Some h })) told told
   over_turn q h e st told goes a text steps small is_e left =
       let s : State = processor_state m.processor x y in
       let t : State = processor_state q x y in
       let hs : step.Halt = halt_is h in
       from_here e _ told told
       (subst (λ k. IsRun p 1 k s v (snapshot_of (record { processor = q; steps = st; written = m.written; halt = Some h })) told told) (sym is_e)
-      (ran_from p 1 (ending_of hs) s t v _ told told 1 (last_step hs) 0 [] (stops_over p s t hs (exec_one p s (Over hs t) goes)) (steps_one-over p s t hs goes) (takes_one-no p s (Over hs t) a goes) (sym (append-nil y)) (moved_is q x y st m.written (Some h) (last_step hs) 0 (ending_of hs) text (steps ∙ last_counted hs m.steps small) refl (behaviour_of_halt hs)) left (counted_none told.made ∙ ap (λ n. option_map (count_plus n) told.made) (sym (unasked hs))) (taken_none told.taken)))
+      (ran_from p 1 (halt_ending hs) s t v _ told told 1 (last_step hs) 0 [] (stops_over p s t hs (exec_one p s (Over hs t) goes)) (steps_one-over p s t hs goes) (takes_one-no p s (Over hs t) a goes) (sym (append-nil y)) (moved_is q x y st m.written (Some h) (last_step hs) 0 (halt_ending hs) text (steps ∙ last_counted hs m.steps small) refl (behaviour_of_halt hs)) left (counted_none told.made ∙ ap (λ n. option_map (count_plus n) told.made) (sym (unasked hs))) (taken_none told.taken)))
 
-  pub write_fault : (q : Processor) (told after : Traffic) → processor_state q x y ≡ processor_state m.processor x y → asks p 2 (processor_state m.processor x y) ≡ true → q.text.items ≡ m.processor.text.items → told.left ≡ Some x → after.left ≡ told.left → after.made ≡ told.made → after.taken ≡ told.taken → IsRun p 1 ending.WriteFault (snapshot_state v x y) v (snapshot_of (record { processor = q; steps = m.steps; written = m.written; halt = m.halt })) told after
+  pub write_fault : (q : Processor) (told after : Traffic) → processor_state q x y ≡ processor_state m.processor x y → asks_service p 2 (processor_state m.processor x y) ≡ true → q.text.items ≡ m.processor.text.items → told.left ≡ Some x → after.left ≡ told.left → after.made ≡ told.made → after.taken ≡ told.taken → IsRun p 1 ending.WriteFault (snapshot_state v x y) v (snapshot_of (record { processor = q; steps = m.steps; written = m.written; halt = m.halt })) told after
   write_fault q told after same a text left left' made taken =
       let s : State = processor_state m.processor x y in
       let t : State = processor_state q x y in
       from_here ending.WriteFault _ told after
-      (ran_from p 1 ending.WriteFault s t v _ told after 0 0 0 [] (omega arith, exec_none p s ∙ ap Goes (sym same), ap (asks p 2) same ∙ a) (steps_none p s) (takes_none p s) (sym (append-nil y)) (moved_is q x y m.steps m.written m.halt 0 0 ending.WriteFault text refl refl still) (left' ∙ left) (made ∙ counted_none told.made) (taken ∙ taken_none told.taken))
+      (ran_from p 1 ending.WriteFault s t v _ told after 0 0 0 [] (omega arith, exec_none p s ∙ ap Goes (sym same), ap (asks_service p 2) same ∙ a) (steps_none p s) (takes_none p s) (sym (append-nil y)) (moved_is q x y m.steps m.written m.halt 0 0 ending.WriteFault text refl refl still) (left' ∙ left) (made ∙ counted_none told.made) (taken ∙ taken_none told.taken))
 
-  pub input_fault : (q : Processor) (told after : Traffic) → processor_state q x y ≡ processor_state m.processor x y → asks p 3 (processor_state m.processor x y) ≡ true → q.text.items ≡ m.processor.text.items → told.left ≡ Some x → after.left ≡ told.left → after.made ≡ option_map next_count told.made → after.taken ≡ told.taken → IsRun p 1 ending.InputFault (snapshot_state v x y) v (snapshot_of (record { processor = q; steps = m.steps; written = m.written; halt = m.halt })) told after
+  pub input_fault : (q : Processor) (told after : Traffic) → processor_state q x y ≡ processor_state m.processor x y → asks_service p 3 (processor_state m.processor x y) ≡ true → q.text.items ≡ m.processor.text.items → told.left ≡ Some x → after.left ≡ told.left → after.made ≡ option_map next_count told.made → after.taken ≡ told.taken → IsRun p 1 ending.InputFault (snapshot_state v x y) v (snapshot_of (record { processor = q; steps = m.steps; written = m.written; halt = m.halt })) told after
   input_fault q told after same a text left left' made taken =
       let s : State = processor_state m.processor x y in
       let t : State = processor_state q x y in
       from_here ending.InputFault _ told after
-      (ran_from p 1 ending.InputFault s t v _ told after 0 0 0 [] (omega arith, exec_none p s ∙ ap Goes (sym same), ap (asks p 3) same ∙ a) (steps_none p s) (takes_none p s) (sym (append-nil y)) (moved_is q x y m.steps m.written m.halt 0 0 ending.InputFault text refl refl still) (left' ∙ left) made (taken ∙ taken_none told.taken))
+      (ran_from p 1 ending.InputFault s t v _ told after 0 0 0 [] (omega arith, exec_none p s ∙ ap Goes (sym same), ap (asks_service p 3) same ∙ a) (steps_none p s) (takes_none p s) (sym (append-nil y)) (moved_is q x y m.steps m.written m.halt 0 0 ending.InputFault text refl refl still) (left' ∙ left) made (taken ∙ taken_none told.taken))
 
-  pub puts_turn : (q a : Processor) (byte st w : ℕ) (told after : Traffic) → step p (processor_state m.processor x y) ≡ next_instruction (processor_state m.processor x (y ++ byte ∷ [])) → asks p 3 (processor_state m.processor x y) ≡ false → processor_state q x (y ++ byte ∷ []) ≡ processor_state m.processor x (y ++ byte ∷ []) → Goes (processor_state a x (y ++ byte ∷ [])) ≡ next_instruction (processor_state q x (y ++ byte ∷ [])) → a.text.items ≡ m.processor.text.items → st ≡ next_count m.steps → w ≡ next_count m.written → told.left ≡ Some x → after.left ≡ told.left → after.made ≡ told.made → after.taken ≡ option_map (λ bytes. bytes ++ byte ∷ []) told.taken → IsRun p 1 ending.Budget (snapshot_state v x y) v (snapshot_of (record { processor = a; steps = st; written = w; halt = m.halt })) told after
+  pub puts_turn : (q a : Processor) (byte st w : ℕ) (told after : Traffic) → step p (processor_state m.processor x y) ≡ next_instruction (processor_state m.processor x (y ++ byte ∷ [])) → asks_service p 3 (processor_state m.processor x y) ≡ false → processor_state q x (y ++ byte ∷ []) ≡ processor_state m.processor x (y ++ byte ∷ []) → Goes (processor_state a x (y ++ byte ∷ [])) ≡ next_instruction (processor_state q x (y ++ byte ∷ [])) → a.text.items ≡ m.processor.text.items → st ≡ next_count m.steps → w ≡ next_count m.written → told.left ≡ Some x → after.left ≡ told.left → after.made ≡ told.made → after.taken ≡ option_map (λ bytes. bytes ++ byte ∷ []) told.taken → IsRun p 1 ending.Budget (snapshot_state v x y) v (snapshot_of (record { processor = a; steps = st; written = w; halt = m.halt })) told after
   puts_turn q a byte st w told after goes no_take same on text steps written left left' made taken =
       let s : State = processor_state m.processor x y in
       let z : List ℕ = y ++ byte ∷ [] in
@@ -113,7 +113,7 @@ module _ (p : Program) (x y : List ℕ) (m : Inside) (v : Snapshot) (is : snapsh
       from_here ending.Budget _ told after
       (ran_from p 1 ending.Budget s t v _ told after 1 1 0 (byte ∷ []) (refl, exec_one p s (Goes t) e) (steps_one-goes p s t e) (takes_one-no p s (Goes t) no_take e) refl (moved_is a x z st w m.halt 1 1 ending.Budget text steps written still) (left' ∙ left) (made ∙ counted_none told.made) taken)
 
-  pub takes_turn : (q a : Processor) (byte : Option ℕ) (st : ℕ) (told after : Traffic) → step p (processor_state m.processor x y) ≡ next_instruction (with_taken (processor_state m.processor x y)) → asks p 3 (processor_state m.processor x y) ≡ true → processor_state q x y ≡ processor_state m.processor x y → Goes (processor_state a (drop 1 x) y) ≡ next_instruction (with_taken (processor_state q x y)) → a.text.items ≡ m.processor.text.items → st ≡ next_count m.steps → told.left ≡ Some x → after.left ≡ option_map (drop 1) told.left → after.made ≡ option_map next_count told.made → after.taken ≡ told.taken → IsRun p 1 ending.Budget (snapshot_state v x y) v (snapshot_of (record { processor = a; steps = st; written = m.written; halt = m.halt })) told after
+  pub takes_turn : (q a : Processor) (byte : Option ℕ) (st : ℕ) (told after : Traffic) → step p (processor_state m.processor x y) ≡ next_instruction (with_taken (processor_state m.processor x y)) → asks_service p 3 (processor_state m.processor x y) ≡ true → processor_state q x y ≡ processor_state m.processor x y → Goes (processor_state a (drop 1 x) y) ≡ next_instruction (with_taken (processor_state q x y)) → a.text.items ≡ m.processor.text.items → st ≡ next_count m.steps → told.left ≡ Some x → after.left ≡ option_map (drop 1) told.left → after.made ≡ option_map next_count told.made → after.taken ≡ told.taken → IsRun p 1 ending.Budget (snapshot_state v x y) v (snapshot_of (record { processor = a; steps = st; written = m.written; halt = m.halt })) told after
   takes_turn q a byte st told after goes take same on text steps left left' made taken =
       let s : State = processor_state m.processor x y in
       let t : State = processor_state a (drop 1 x) y in

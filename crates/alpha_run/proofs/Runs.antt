@@ -5,14 +5,14 @@ use Rattle.alpha_isa.specs.State.{State}
 use Rattle.alpha_isa.proofs.Zeros.{size_is}
 use Rattle.alpha_isa.specs.Step.{Halt, MachineNext, Goes, Over, step, go_on, exec}
 use Rattle.alpha_isa.specs.Step as step
-use Rattle.alpha_isa.specs.Behave.{start, behaviour}
+use Rattle.alpha_isa.specs.Behave.{start_state, behaviour}
 use Rattle.alpha_isa.specs.Behave as behave
 use Rattle.alpha_isa.proofs.Runs.{exec_split}
 use Rattle.bk_io.specs.Outside.{next_count, Traffic, count_plus}
 use Rattle.alpha_run.specs.declared.ending.Ending.{Ending}
 use Rattle.alpha_run.specs.declared.ending.Ending.TheVariants.{Done, Trap, Stuck, Budget, InputFault, WriteFault}
 use Rattle.alpha_run.specs.Snapshot.{Snapshot, snapshot_state, first_snapshot, IsMachineOf}
-use Rattle.alpha_run.specs.Services.{asks}
+use Rattle.alpha_run.specs.Services.{asks_service}
 use Rattle.alpha_run.specs.model.Stop.{stops_early}
 use Rattle.alpha_run.specs.Run.{last_step, steps_then, steps_in, takes_then, takes_in, input_calls, StopsAt, snapshot_after, IsRun, ImageGives, MachineBehaves}
 
@@ -31,16 +31,16 @@ pub steps_one-over : (p : Program) (s t : State) (h : Halt) → step p s ≡ Ove
 unfolding steps_in
 steps_one-over p s t h e = ap (λ n. steps_then n (steps_in p zero)) e
 
-takes_one : (p : Program) (s : State) (b : Bool) (n : MachineNext) → asks p 3 s ≡ b → step p s ≡ n → takes_in p 1 s ≡ cond b 1 0 + takes_then n (takes_in p zero)
+takes_one : (p : Program) (s : State) (b : Bool) (n : MachineNext) → asks_service p 3 s ≡ b → step p s ≡ n → takes_in p 1 s ≡ cond b 1 0 + takes_then n (takes_in p zero)
 unfolding takes_in
 takes_one p s b n a e = ap (λ k. cond k 1 0 + takes_then (step p s) (takes_in p zero)) a ∙ ap (λ k. cond b 1 0 + takes_then k (takes_in p zero)) e
 
-pub takes_one-no : (p : Program) (s : State) (n : MachineNext) → asks p 3 s ≡ false → step p s ≡ n → takes_in p 1 s ≡ 0
+pub takes_one-no : (p : Program) (s : State) (n : MachineNext) → asks_service p 3 s ≡ false → step p s ≡ n → takes_in p 1 s ≡ 0
 unfolding takes_in
 takes_one-no p s (Goes t) a e = takes_one p s false (Goes t) a e
 takes_one-no p s (Over h t) a e = takes_one p s false (Over h t) a e
 
-pub takes_one-yes : (p : Program) (s t : State) → asks p 3 s ≡ true → step p s ≡ Goes t → takes_in p 1 s ≡ 1
+pub takes_one-yes : (p : Program) (s t : State) → asks_service p 3 s ≡ true → step p s ≡ Goes t → takes_in p 1 s ≡ 1
 unfolding takes_in
 takes_one-yes p s t a e = takes_one p s true (Goes t) a e
 
@@ -117,7 +117,7 @@ over_on p (suc k) n s h t e =
     let i = over_on_from p k n h t (λ u f. over_on p k n u h t f) (step p s) e in (
       ap (λ j. exec p j s) more ∙ i.0,
       ap (λ j. steps_in p j s) more ∙ i.1,
-      ap (λ j. takes_in p j s) more ∙ ap (λ j. cond (asks p 3 s) 1 0 + j) i.2,
+      ap (λ j. takes_in p j s) more ∙ ap (λ j. cond (asks_service p 3 s) 1 0 + j) i.2,
     )
 
 -- ---- counts
@@ -236,7 +236,7 @@ ran_turn p k e s old mid new told between after r turn runs =
     ran_on p k e s old mid new told between after r (subst (λ u. IsRun p 1 e u mid new between after) here (turn t.input t.output runs none r.left))
 
 -- a run from the start is the behaviour of the image
-pub ran_gives : (p : Program) (stack : ℕ) (input : List ℕ) (n : ℕ) (e : Ending) (old new : Snapshot) (told after : Traffic) → (r : IsRun p n e (start p stack input) old new told after) → ImageGives p stack input n e r.put
+pub ran_gives : (p : Program) (stack : ℕ) (input : List ℕ) (n : ℕ) (e : Ending) (old new : Snapshot) (told after : Traffic) → (r : IsRun p n e (start_state p stack input) old new told after) → ImageGives p stack input n e r.put
 ran_gives p stack input n (Done status) old new told after r = ap behaviour r.stops.1 ∙ ap (λ o. behave.Done o status) r.puts
 ran_gives p stack input n (Trap code) old new told after r = ap behaviour r.stops.1 ∙ ap (λ o. behave.Trap o code) r.puts
 ran_gives p stack input n (Stuck pc) old new told after r = ap behaviour r.stops.1 ∙ ap (λ o. behave.Stuck o pc) r.puts
@@ -250,7 +250,7 @@ loaded_runs p stack v e = (record { text = ap (λ u. u.text) e; size = ap (λ u.
 
 pub ran_behaves : (p : Program) (stack : ℕ) (input : List ℕ) (n : ℕ) (e : Ending) (old new : Snapshot) (told after : Traffic) → old ≡ first_snapshot p stack → IsRun p n e (snapshot_state old input []) old new told after → MachineBehaves p stack input n e told after
 ran_behaves p stack input n e old new told after same r =
-    let s : IsRun p n e (start p stack input) old new told after = subst (λ u. IsRun p n e (snapshot_state u input []) old new told after) same r in
+    let s : IsRun p n e (start_state p stack input) old new told after = subst (λ u. IsRun p n e (snapshot_state u input []) old new told after) same r in
     record {
       tried = s.tried;
       place = s.place;

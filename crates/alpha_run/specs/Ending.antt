@@ -12,7 +12,7 @@ halt_is (halt.Trap code) = step.Trap code
 halt_is (halt.Stuck pc) = step.Stuck pc
 
 -- the answer of a run that came to its end
-abbrev pub ending_of : step.Halt → Ending
-ending_of (step.Done status) = ending.Done status
-ending_of (step.Trap code) = ending.Trap code
-ending_of (step.Stuck pc) = ending.Stuck pc
+abbrev pub halt_ending : step.Halt → Ending
+halt_ending (step.Done status) = ending.Done status
+halt_ending (step.Trap code) = ending.Trap code
+halt_ending (step.Stuck pc) = ending.Stuck pc

@@ -4,13 +4,13 @@ use Rattle.alpha_isa.specs.Program.{Program}
 use Rattle.alpha_isa.specs.State.{State}
 use Rattle.alpha_isa.specs.Step.{Halt, MachineNext, Goes, Over, step, exec}
 use Rattle.alpha_isa.specs.Step as step
-use Rattle.alpha_isa.specs.Behave.{behave_a, start}
+use Rattle.alpha_isa.specs.Behave.{behave_a, start_state}
 use Rattle.alpha_isa.specs.Behave as behave
 use Rattle.bk_io.specs.Outside.{next_count, count_plus, Traffic}
 use Rattle.alpha_run.specs.declared.ending.Ending.{Ending}
 use Rattle.alpha_run.specs.declared.ending.Ending.TheVariants.{Done, Trap, Stuck, Budget, InputFault, WriteFault}
 use Rattle.alpha_run.specs.Snapshot.{Snapshot}
-use Rattle.alpha_run.specs.Services.{asks}
+use Rattle.alpha_run.specs.Services.{asks_service}
 
 -- ---- counts
 
@@ -34,7 +34,7 @@ takes_then (Over h t) rest = 0
 
 unfoldable pub takes_in : Program → ℕ → State → ℕ
 takes_in p zero s = 0
-takes_in p (suc n) s = (if asks p 3 s then 1 else 0) + takes_then (step p s) (takes_in p n)
+takes_in p (suc n) s = (if asks_service p 3 s then 1 else 0) + takes_then (step p s) (takes_in p n)
 
 -- how often the input was asked: once for each byte taken, and once where it failed
 abbrev pub input_calls : Ending → ℕ → ℕ
@@ -66,8 +66,8 @@ StopsAt p n s (Done status) k t = (k ≡ n) × (exec p n s ≡ Over (step.Done s
 StopsAt p n s (Trap code) k t = (k ≡ n) × (exec p n s ≡ Over (step.Trap code) t)
 StopsAt p n s (Stuck pc) k t = (k ≡ n) × (exec p n s ≡ Over (step.Stuck pc) t)
 StopsAt p n s Budget k t = (k ≡ n) × (exec p n s ≡ Goes t)
-StopsAt p n s InputFault k t = (k < n) × (exec p k s ≡ Goes t) × IsTrue (asks p 3 t)
-StopsAt p n s WriteFault k t = (k < n) × (exec p k s ≡ Goes t) × IsTrue (asks p 2 t)
+StopsAt p n s InputFault k t = (k < n) × (exec p k s ≡ Goes t) × IsTrue (asks_service p 3 t)
+StopsAt p n s WriteFault k t = (k < n) × (exec p k s ≡ Goes t) × IsTrue (asks_service p 2 t)
 
 -- the machine after so many more steps and bytes, in the state t
 abbrev pub snapshot_after : Snapshot → State → ℕ → ℕ → Ending → Snapshot
@@ -111,8 +111,9 @@ pub record MachineBehaves (p : Program) (stack : ℕ) (input : List ℕ) (n : �
     (before after : Traffic) : Type 0 where
   pub tried : ℕ
   pub place : State
-  pub stops : StopsAt p n (start p stack input) e tried place
+  pub stops : StopsAt p n (start_state p stack input) e tried place
   pub gives : ImageGives p stack input n e place.output
   pub left : after.left ≡ Some place.input
-  pub made : after.made ≡ option_map (count_plus (input_calls e (takes_in p tried (start p stack input)))) before.made
+  pub made : after.made ≡ option_map (count_plus (input_calls e (takes_in p tried (start_state p stack input))))
+      before.made
   pub taken : after.taken ≡ option_map (λ bytes. bytes ++ place.output) before.taken

@@ -11,5 +11,5 @@ is_service (Some (fields.Pal function)) = function == 0x83
 is_service _ = false
 
 -- the next step asks for this service: 2 puts a byte, 3 takes one
-abbrev pub asks : Program → ℕ → State → Bool
-asks p number s = is_service (instruction_at p s.pc) && (register s 0 == number)
+abbrev pub asks_service : Program → ℕ → State → Bool
+asks_service p number s = is_service (instruction_at p s.pc) && (register s 0 == number)

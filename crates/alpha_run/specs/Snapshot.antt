@@ -2,7 +2,7 @@
 use Rattle.std.specs.Prelude.{◌≡◌, ℕ, ◌+◌, List, length, map, replicate, slice_set, Option, None}
 use Rattle.alpha_isa.specs.declared.insn.Fields.{Fields}
 use Rattle.alpha_isa.specs.Words.{insn_of}
-use Rattle.alpha_isa.specs.Program.{Program, data_of, data_size, word_address, stack_start}
+use Rattle.alpha_isa.specs.Program.{Program, data_of, image_data_size, word_address, stack_start}
 use Rattle.alpha_isa.specs.State.{State}
 use Rattle.alpha_isa.specs.Step.{Halt}
 
@@ -45,4 +45,4 @@ first_snapshot p stack = record {
 -- the program that a machine runs: its text, and as many bytes of data
 pub record IsMachineOf (p : Program) (m : Snapshot) : Type 0 where
   pub text : m.text ≡ map insn_of p.words
-  pub size : length m.data_bytes ≡ data_size p
+  pub size : length m.data_bytes ≡ image_data_size p

@@ -2,7 +2,7 @@
 
 ghost use Rattle.std.specs.Prelude.{◌≡◌, ◌*◌, ◌^◌, ◌%◌, ◌/◌, ◌<◌, ◌==◌, if◌then◌else◌};
 ghost use Rattle.std.specs.Int.{w8, w16, w32, w64};
-ghost use Rattle.alpha_isa.specs.Arithmetic.{operation_effect, sign_extension, signed_value, complement, kept_bytes, truth, Gives};
+ghost use Rattle.alpha_isa.specs.Arithmetic.{operation_effect, sign_extension, signed_value, word_complement, kept_bytes, truth_result, Gives};
 ghost use Rattle.alpha_run.specs.model.OperationResult.{operated_by, gives_checked};
 
 use alpha_isa::insn::OperateOp;
@@ -68,7 +68,7 @@ fn keep_bytes(word: u64, mask: u64) -> u64
 }
 
 fn truth_of(holds: bool) -> OperationResult
-    ensures { operated_by result ≡ truth holds }
+    ensures { operated_by result ≡ truth_result holds }
 {
     OperationResult::Gives(u64::from(holds))
 }

@@ -28,11 +28,11 @@ pub(crate) enum Halt {
 }
 
 impl Halt {
-    ghost use Rattle.alpha_run.specs.Ending.{ending_of, halt_is};
+    ghost use Rattle.alpha_run.specs.Ending.{halt_ending, halt_is};
     ghost use Rattle.alpha_run.specs.Run.{last_step};
 
     pub(crate) fn ending(self) -> Ending
-        ensures { result ≡ ending_of (halt_is self) }
+        ensures { result ≡ halt_ending (halt_is self) }
     {
         match self {
             Halt::Done { status } => Ending::Done { status },

@@ -2,9 +2,9 @@
 
 ghost use Rattle.std.specs.Prelude.{◌≡◌, ℕ, ◌+◌, ◌*◌, ◌/◌, ◌<◌, ◌≤◌, ◌^◌, List, map, length, replicate, [], IfOk, OnOk, IfSome, IsTrue, Option, Some, None, unwrap_or};
 ghost use Rattle.alpha_isa.specs.Words.{insn_of};
-ghost use Rattle.alpha_isa.specs.Program.{Program, data_size, most_bytes, next_part};
+ghost use Rattle.alpha_isa.specs.Program.{Program, image_data_size, most_bytes, next_part};
 ghost use Rattle.alpha_isa.specs.Program as spec;
-ghost use Rattle.alpha_isa.specs.Behave.{IsStack, start};
+ghost use Rattle.alpha_isa.specs.Behave.{IsStack, start_state};
 
 use crate::ending::{Ending, Halt};
 use crate::memory::Memory;
@@ -53,8 +53,8 @@ fn part_from(address: u64) -> u64
 /// The bytes of an image's data, with its zeros.
 fn data_of(alloc: Global, image: &Image) -> Result<Vec<u8>, AllocError>
     ensures bytes { IfOk result (λ bytes. bytes.items ≡ spec.data_of image.now) }
-    ensures size { IfOk result (λ bytes. length bytes.items ≡ data_size image.now) }
-    ensures few { OnOk result (data_size image.now ≤ most_bytes) }
+    ensures size { IfOk result (λ bytes. length bytes.items ≡ image_data_size image.now) }
+    ensures few { OnOk result (image_data_size image.now ≤ most_bytes) }
 {
     let mut data = Vec::with_capacity(alloc, image.bytes.len() + image.zeros as usize)?;
     data.extend_from_slice(image.bytes.as_slice())?;
@@ -71,7 +71,7 @@ fn decode_all(alloc: Global, words: &[u32]) -> Result<Vec<Option<Insn32>>, Alloc
 
 impl Machine {
     ghost use Rattle.alpha_run.specs.Snapshot.{first_snapshot, snapshot_state, IsMachineOf};
-    ghost use Rattle.alpha_run.specs.Ending.{ending_of};
+    ghost use Rattle.alpha_run.specs.Ending.{halt_ending};
     ghost use Rattle.alpha_run.specs.model.Stop.{stops_early};
     ghost use Rattle.alpha_run.specs.Run.{IsRun, MachineBehaves, halt_of, input_faults_after, output_faults_after};
     ghost use Rattle.bk_io.specs.Outside.{Traffic};
@@ -81,7 +81,7 @@ impl Machine {
     pub fn load(alloc: Global, image: &Image, stack: u64) -> Result<Machine, AllocError>
         requires { IsStack stack }
         ensures first_snapshot { IfOk result (λ m. m ≡ first_snapshot image.now stack) }
-        ensures starts { IfOk result (λ m. (bytes : List ℕ) → snapshot_state m bytes [] ≡ start image.now stack bytes) }
+        ensures starts { IfOk result (λ m. (bytes : List ℕ) → snapshot_state m bytes [] ≡ start_state image.now stack bytes) }
         ensures runs { IfOk result (λ m. IsMachineOf image.now m) }
     {
         let text = decode_all(alloc, image.words.as_slice())?;
@@ -124,7 +124,7 @@ impl Machine {
             MachineBehaves p stack bytes budget result
             (record { left = I.left input.old; made = I.made input.old; taken = O.taken out.old })
             (record { left = I.left input.new; made = I.made input.new; taken = O.taken out.new }) }
-        ensures again { IfSome self.old.halt (λ h. (result ≡ ending_of h) × (self.new ≡ self.old) ×
+        ensures again { IfSome self.old.halt (λ h. (result ≡ halt_ending h) × (self.new ≡ self.old) ×
             (input.new ≡ input.old) × (out.new ≡ out.old)) }
         ensures halt { self.new.halt ≡ halt_of result }
         ensures program { (p : Program) → IsMachineOf p self.old → IsMachineOf p self.new }

@@ -3,7 +3,7 @@
 ghost use Rattle.std.specs.Prelude.{◌≡◌, ℕ, ◌+◌, ◌-◌, ◌<◌, ◌≤◌, List, length, Option, Some, None, option_map, if◌then◌else◌};
 ghost use Rattle.std.specs.Bool.{OnFalse};
 ghost use Rattle.alpha_isa.specs.Program.{Program};
-ghost use Rattle.alpha_isa.specs.State.{State, lies_in, part_of, with_part};
+ghost use Rattle.alpha_isa.specs.State.{State, lies_in, byte_range, with_part};
 ghost use Rattle.alpha_isa.specs.State as state;
 ghost use Rattle.alpha_isa.specs.Arithmetic.{sign_extension};
 ghost use Rattle.std.specs.Int.{w8, w16, w32, w64, from_le_bytes, to_le_bytes};
@@ -39,7 +39,7 @@ fn place_in(address: u64, count: u64, start: u64, size: usize) -> Option<usize>
 /// The `N` bytes from a place on.
 fn bytes_from<const N: usize>(bytes: &[u8], place: usize) -> [u8; N]
     requires { place + N ≤ length bytes.now }
-    ensures { result ≡ part_of bytes.now place N }
+    ensures { result ≡ byte_range bytes.now place N }
 {
     match bytes[place..].first_chunk::<N>() {
         Some(chunk) => *chunk,

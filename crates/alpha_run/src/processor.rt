@@ -4,7 +4,7 @@ ghost use Rattle.std.specs.Prelude.{◌≡◌, ℕ, ◌+◌, ◌*◌, ◌<◌, �
 ghost use Rattle.std.specs.Bool.{OnTrue};
 ghost use Rattle.alpha_isa.specs.Program.{Program, most_words, instruction_at};
 ghost use Rattle.alpha_isa.specs.Arithmetic.{word_at, word_from};
-ghost use Rattle.alpha_isa.specs.Step.{is_taken};
+ghost use Rattle.alpha_isa.specs.Step.{is_branch_taken};
 ghost use Rattle.alpha_run.specs.model.TakenWord.{taken_word};
 ghost use Rattle.alpha_isa.specs.Step as step;
 ghost use Rattle.alpha_isa.specs.Lawful.{AreLawfulFields, IsRegister, IsOperand};
@@ -71,7 +71,7 @@ fn word_taken(byte: Option<u8>) -> u64
 
 /// The test that a branch makes of its register.
 fn takes_branch(op: BranchOp, word: u64) -> bool
-    ensures { result ≡ is_taken op word }
+    ensures { result ≡ is_branch_taken op word }
 {
     match op {
         BranchOp::Br | BranchOp::Bsr => true,
@@ -94,8 +94,8 @@ fn links(op: BranchOp) -> bool
 }
 
 impl Processor {
-    ghost use Rattle.alpha_isa.specs.State.{register, operand, with_register};
-    ghost use Rattle.alpha_isa.specs.Step.{MachineNext, Goes, stuck, next_instruction, memory_step, branch_step, jump_step, operate_step, address};
+    ghost use Rattle.alpha_isa.specs.State.{register, operand_value, with_register};
+    ghost use Rattle.alpha_isa.specs.Step.{MachineNext, Goes, stuck_at, next_instruction, memory_step, branch_step, jump_step, operate_step, memory_address};
     ghost use Rattle.alpha_isa.specs.Arithmetic.{operation_effect};
     ghost use Rattle.alpha_run.specs.model.Turns.{Calls, Steps, waits, with_taken};
     ghost use Rattle.alpha_run.specs.model.ProcessorState.{processor_state, IsProcessorOf, IsShort, KeepsText, next_if_done, next_if_fits, next_with_word, advanced_if};
@@ -270,7 +270,7 @@ impl Processor {
     /// The word of a second operand.
     fn operand(&self, rb: Operand) -> u64
         requires { IsOperand rb }
-        ensures { (x y : List ℕ) → result ≡ operand (processor_state self.now x y) rb }
+        ensures { (x y : List ℕ) → result ≡ operand_value (processor_state self.now x y) rb }
     {
         match rb {
             Operand::Reg(register) => self.registers.get(register),
@@ -287,7 +287,7 @@ impl Processor {
         ensures step { (x y : List ℕ) →
             next_if_fits result (processor_state self.new x y) ≡ operate_step
             (operation_effect op
-            (register (processor_state self.old x y) ra) (operand (processor_state self.old x y) rb))
+            (register (processor_state self.old x y) ra) (operand_value (processor_state self.old x y) rb))
             rc (processor_state self.old x y) }
         ensures kept { KeepsText self.old self.new }
     {

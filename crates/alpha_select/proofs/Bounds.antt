@@ -9,7 +9,7 @@ use Rattle.suifvm_ir.specs.declared.insn.TypedRegister.{TypedRegister}
 use Rattle.suifvm_ir.specs.declared.insn.VmInsn.{VmInsn}
 use Rattle.suifvm_ir.specs.declared.insn.VmInsn.TheVariants as x
 use Rattle.selection_code.specs.Fields.{IsNumbered, HasNumbers}
-use Rattle.selection_code.specs.Functions.{function_blocks}
+use Rattle.selection_code.specs.Functions.{selected_blocks}
 use Rattle.selection_costs.proofs.Lengths.{code_short}
 use Rattle.selection_shapes.proofs.Lists.{all_nil, all_more, all_first, all_rest}
 use Rattle.alpha_select.specs.model.Limits.{IsWithinLimits}
@@ -77,8 +77,8 @@ within (f ∷ fs) all globals size temps lawful =
 
 -- ---- the size of the code
 
-pub few_blocks : (f : VmFunction) → IsWithinLimits f → length (function_blocks f.params f.blocks) < 2 ^ 30
+pub few_blocks : (f : VmFunction) → IsWithinLimits f → length (selected_blocks f.params f.blocks) < 2 ^ 30
 few_blocks f w = omega (arith, (code_short f).count, w.size)
 
-pub few_insns : (f : VmFunction) → IsWithinLimits f → count_of (function_blocks f.params f.blocks) < 2 ^ 30
+pub few_insns : (f : VmFunction) → IsWithinLimits f → count_of (selected_blocks f.params f.blocks) < 2 ^ 30
 few_insns f w = omega (arith, (code_short f).count, w.size)

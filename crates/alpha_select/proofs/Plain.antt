@@ -12,7 +12,7 @@ use Rattle.temp_ir.specs.declared.insn.TempInsn.{TempInsn}
 use Rattle.temp_ir.specs.Fixed.{is_settled}
 use Rattle.temp_ir.specs.Programs.{TempFn, is_main, main_count, function_takes, names_what_is_there, goes_back_to_marks, IsLawfulTempFn}
 use Rattle.alloc_model.specs.Temporaries.{TemporaryCode, code_of}
-use Rattle.selection_code.specs.Functions.{function_blocks}
+use Rattle.selection_code.specs.Functions.{selected_blocks}
 use Rattle.selection_shapes.proofs.Lists.{all_nil, all_more, all_first, all_rest}
 use Rattle.selection_shapes.proofs.Marks.{marks_kept}
 use Rattle.selection_shapes.proofs.Named.{names_there}
@@ -30,7 +30,7 @@ pub record IsPlain (f : VmFunction) (g : TempFn) : Type 0 where
   pub params : g.params ≡ f.params
   pub temps : g.temps ≡ f.temps + 4
   pub objects : g.objects ≡ f.objects
-  pub blocks : g.blocks ≡ function_blocks f.params f.blocks
+  pub blocks : g.blocks ≡ selected_blocks f.params f.blocks
 
 abbrev pub ArePlain : List VmFunction → List TempFn → Type 0
 ArePlain [] [] = Unit {0}
@@ -90,7 +90,7 @@ module _ (fs : List VmFunction) (gs : List TempFn) (globals : List DataObject) (
       subst (λ l. All (λ y. IsTrue (vm.goes_back_to_marks f.blocks b y)) l) (get_or_from_slice_get f.blocks b insns [] there)
       (law.marks b (slice_get_within f.blocks b insns there))
 
-  marks_are : (f : VmFunction) → vm.IsLawfulFunction fs globals f → (bs : List (List TempInsn)) → bs ≡ function_blocks f.params f.blocks →
+  marks_are : (f : VmFunction) → vm.IsLawfulFunction fs globals f → (bs : List (List TempInsn)) → bs ≡ selected_blocks f.params f.blocks →
       (b : ℕ) → b < length bs → All (λ z. IsTrue (goes_back_to_marks bs b z)) (slice_index_or bs b [])
   marks_are f law bs is b lt =
       subst (λ l. All (λ z. IsTrue (goes_back_to_marks l b z)) (slice_index_or bs b [])) (sym is)
@@ -100,11 +100,11 @@ module _ (fs : List VmFunction) (gs : List TempFn) (globals : List DataObject) (
   lawful f g s law = record {
     main = λ e. s.params ∙ law.main (sym (same_main f g s) ∙ e);
     names = subst (λ bs. AllInsns (λ i. IsTrue (names_what_is_there gs globals g.objects i)) bs) (sym s.blocks)
-        (subst (λ os. AllInsns (λ i. IsTrue (names_what_is_there gs globals os i)) (function_blocks f.params f.blocks)) (sym s.objects)
+        (subst (λ os. AllInsns (λ i. IsTrue (names_what_is_there gs globals os i)) (selected_blocks f.params f.blocks)) (sym s.objects)
         (names_there fs gs globals f (same_takes fs gs all) law.names));
     marks = marks_are f law g.blocks s.blocks;
     settled = subst (λ bs. IsTrue (is_settled g.params bs)) (sym s.blocks)
-        (subst (λ p. IsTrue (is_settled p (function_blocks f.params f.blocks))) (sym s.params) (functions_settled f));
+        (subst (λ p. IsTrue (is_settled p (selected_blocks f.params f.blocks))) (sym s.params) (functions_settled f));
   }
 
   each_lawful : (xs : List VmFunction) (ys : List TempFn) → ArePlain xs ys → All (vm.IsLawfulFunction fs globals) xs → All (IsLawfulTempFn gs globals) ys

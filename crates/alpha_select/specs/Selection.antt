@@ -4,8 +4,8 @@ use Rattle.suifvm_ir.specs.Programs.{VmFunction}
 use Rattle.suifvm_ir.specs.Cost.{cost}
 use Rattle.temp_ir.specs.Programs.{TempFn}
 use Rattle.temp_ir.specs.Cost.{bulk_when_split}
-use Rattle.value_tests.specs.Tests.{tested}
-use Rattle.selection_code.specs.Functions.{function_blocks}
+use Rattle.value_tests.specs.Tests.{tested_block}
+use Rattle.selection_code.specs.Functions.{selected_blocks}
 
 -- the selected one of a function: its name, number of parameters and objects stay, it has four temporaries more than
 -- the function has registers, and its code is that of the blocks in which branches test values
@@ -14,7 +14,7 @@ pub record IsSelectedFunction (f : VmFunction) (g : TempFn) : Type 0 where
   pub params : g.params ≡ f.params
   pub temps : g.temps ≡ f.temps + 4
   pub objects : g.objects ≡ f.objects
-  pub blocks : g.blocks ≡ function_blocks f.params (map tested f.blocks)
+  pub blocks : g.blocks ≡ selected_blocks f.params (map tested_block f.blocks)
 
 abbrev pub AreSelected : List VmFunction → List TempFn → Type 0
 AreSelected [] [] = Unit {0}

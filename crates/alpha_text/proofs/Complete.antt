@@ -18,7 +18,7 @@ use Rattle.alpha_lines.specs.Lines.{HasLine, head_line, item_line, data_line, fi
 use Rattle.alpha_lines.specs.model.Data.{data_of}
 use Rattle.alpha_lines.proofs.DataLines.{data_complete}
 use Rattle.alpha_text.specs.Texts.{hex_rows, hex_lines, asm_lines, HasText}
-use Rattle.alpha_text.specs.Wrong.{TextSoFar, Nothing, Text, Data, Head, Item, Count, Row, Place, InFields, is_named, is_among, IsWithinData, FitsBehind, IsBehind, WellFrom}
+use Rattle.alpha_text.specs.Wrong.{TextSoFar, Nothing, Text, Data, Head, Item, Count, Row, Place, InFields, is_label_named, is_among, IsWithinData, FitsBehind, IsBehind, WellFrom}
 use Rattle.alpha_text.proofs.Whole.{find_count}
 
 -- what is behind the lines so far, line by line
@@ -138,7 +138,7 @@ listed (Branch op ra m ∷ items) l e = or_right (is_label l (item_line (Branch 
 listed (TextAddress ra m ∷ items) l e = or_right (is_label l (item_line (TextAddress ra m))) (list_any (is_label l) (map item_line items)) (listed items l e)
 listed (DataAddress ra o ∷ items) l e = or_right (is_label l (item_line (DataAddress ra o))) (list_any (is_label l) (map item_line items)) (listed items l e)
 
-named_by : (a : Assembly) (l : ℕ) → Contains (labels a.items) l → is_named (asm_lines a) l ≡ true
+named_by : (a : Assembly) (l : ℕ) → Contains (labels a.items) l → is_label_named (asm_lines a) l ≡ true
 named_by a l found =
     let here : list_any (is_label l) (map item_line a.items) ≡ true = listed a.items l (among_of (labels a.items) l found.0 found.1 found.2) in
     or_right (is_label l head_line) (list_any (is_label l) (map item_line a.items ++ (data_line (length a.bytes) ∷ (hex_lines a.bytes ++ map fix_line a.fixes))))

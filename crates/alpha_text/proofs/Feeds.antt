@@ -19,7 +19,7 @@ use Rattle.alpha_isa.specs.Program.{most_bytes}
 use Rattle.alpha_lines.specs.declared.mnemonic.Mnemonic.{Mnemonic}
 use Rattle.alpha_lines.specs.declared.mnemonic.Mnemonic.TheVariants as m
 use Rattle.alpha_lines.specs.model.Mnemonics.{spelling, mnemonics, mnemonic_of}
-use Rattle.alpha_lines.specs.Lines.{HasLine, register, label, indirect, address, operand, statement, both, operands, head_line, item_line, data_line, hex_digit, hex_byte, hex_line, fix_line}
+use Rattle.alpha_lines.specs.Lines.{HasLine, register_name, label_name, indirect_text, address_text, operand_name, word_and_rest, operand_pair, operands, head_line, item_line, data_line, hex_digit, hex_byte, hex_line, fix_line}
 use Rattle.alpha_lines.proofs.Parts.{Lacks}
 use Rattle.alpha_lines.proofs.Options.{split}
 use Rattle.alpha_lines.proofs.Operands.{lacks_append, decimal_lacks}
@@ -88,38 +88,38 @@ word_lacks : (word : Mnemonic) → Lacks 10 (spelling word)
 unfolding mnemonic_of
 word_lacks word = told (spelling word) (found_all (λ w. bytes_eq (spelling word) (spelling w)) (λ w. lacks_feed (spelling w)) mnemonics word (spelled_found word) all_spelled)
 
-statement_lacks : (w rest : List ℕ) → Lacks 10 w → Lacks 10 rest → Lacks 10 (statement w rest)
+statement_lacks : (w rest : List ℕ) → Lacks 10 w → Lacks 10 rest → Lacks 10 (word_and_rest w rest)
 statement_lacks w rest h k = lacks_append 10 w (32 ∷ rest) h (refl, k)
 
-both_lacks : (a b : List ℕ) → Lacks 10 a → Lacks 10 b → Lacks 10 (both a b)
+both_lacks : (a b : List ℕ) → Lacks 10 a → Lacks 10 b → Lacks 10 (operand_pair a b)
 both_lacks a b h k = lacks_append 10 a (44 ∷ 32 ∷ b) h (refl, (refl, k))
 
-register_lacks : (r : ℕ) → r < 32 → Lacks 10 (register r)
+register_lacks : (r : ℕ) → r < 32 → Lacks 10 (register_name r)
 register_lacks r small = (refl, decimal_lacks 10 r (omega arith) refl)
 
-label_lacks : (l : ℕ) → l < 2 ^ 32 → Lacks 10 (label l)
+label_lacks : (l : ℕ) → l < 2 ^ 32 → Lacks 10 (label_name l)
 label_lacks l small = (refl, decimal_lacks 10 l (omega arith) refl)
 
-indirect_lacks : (r : ℕ) → r < 32 → Lacks 10 (indirect r)
-indirect_lacks r small = (refl, lacks_append 10 (register r) (41 ∷ []) (register_lacks r small) (refl, tt))
+indirect_lacks : (r : ℕ) → r < 32 → Lacks 10 (indirect_text r)
+indirect_lacks r small = (refl, lacks_append 10 (register_name r) (41 ∷ []) (register_lacks r small) (refl, tt))
 
-address_lacks : (disp : ℤ) (r : ℕ) → IsDisplacement disp → r < 32 → Lacks 10 (address disp r)
-address_lacks (pos n) r h small = lacks_append 10 (decimal n) (indirect r) (decimal_lacks 10 n (omega arith) refl) (indirect_lacks r small)
-address_lacks (negsuc n) r h small = (refl, lacks_append 10 (decimal (suc n)) (indirect r) (decimal_lacks 10 (suc n) (omega arith) refl) (indirect_lacks r small))
+address_lacks : (disp : ℤ) (r : ℕ) → IsDisplacement disp → r < 32 → Lacks 10 (address_text disp r)
+address_lacks (pos n) r h small = lacks_append 10 (decimal n) (indirect_text r) (decimal_lacks 10 n (omega arith) refl) (indirect_lacks r small)
+address_lacks (negsuc n) r h small = (refl, lacks_append 10 (decimal (suc n)) (indirect_text r) (decimal_lacks 10 (suc n) (omega arith) refl) (indirect_lacks r small))
 
-operand_lacks : (o : Operand) → IsOperand o → Lacks 10 (operand o)
+operand_lacks : (o : Operand) → IsOperand o → Lacks 10 (operand_name o)
 operand_lacks (Reg r) h = register_lacks r h
 operand_lacks (Literal n) h = decimal_lacks 10 n (omega arith) refl
 
 operands_lack : (op : OperateOp) (ra : ℕ) (rb : Operand) (rc : ℕ) → IsFirstOperand op ra → IsOperand rb → rc < 32 → Lacks 10 (operands op ra rb rc)
 operands_lack op ra rb rc first b c = by (extends op) refl
   where
-    last : Lacks 10 (both (operand rb) (register rc))
-    last = both_lacks (operand rb) (register rc) (operand_lacks rb b) (register_lacks rc c)
+    last : Lacks 10 (operand_pair (operand_name rb) (register_name rc))
+    last = both_lacks (operand_name rb) (register_name rc) (operand_lacks rb b) (register_lacks rc c)
 
     by : (t : Bool) → extends op ≡ t → Lacks 10 (operands op ra rb rc)
     by true e = rw e last
-    by false e = rw e (both_lacks (register ra) (both (operand rb) (register rc)) (register_lacks ra (other_only op ra e first)) last)
+    by false e = rw e (both_lacks (register_name ra) (operand_pair (operand_name rb) (register_name rc)) (register_lacks ra (other_only op ra e first)) last)
 
 letter_lacks : (b : ℕ) → is_letter b ≡ true → eqb b 10 ≡ false
 letter_lacks b h = grind (arith, nat_tests, h)
@@ -140,16 +140,16 @@ name_lacks (b ∷ s) h =
     (letter_lacks b both.0, word_bytes_lack s both.1)
 
 pub item_lacks : (i : AsmItem) → HasLine i → Lacks 10 (item_line i)
-item_lacks (Label l) h = lacks_append 10 (label l) (58 ∷ []) (label_lacks l h) (refl, tt)
+item_lacks (Label l) h = lacks_append 10 (label_name l) (58 ∷ []) (label_lacks l h) (refl, tt)
 item_lacks (Name name) h = statement_lacks (codes ".ent") name (word_lacks m.Entry) (name_lacks name h)
-item_lacks (Plain (fields.Memory op ra rb disp)) h = statement_lacks (spelling (m.Memory op)) (both (register ra) (address disp rb)) (word_lacks (m.Memory op)) (both_lacks (register ra) (address disp rb) (register_lacks ra h.0.0) (address_lacks disp rb h.0.2 h.0.1))
+item_lacks (Plain (fields.Memory op ra rb disp)) h = statement_lacks (spelling (m.Memory op)) (operand_pair (register_name ra) (address_text disp rb)) (word_lacks (m.Memory op)) (both_lacks (register_name ra) (address_text disp rb) (register_lacks ra h.0.0) (address_lacks disp rb h.0.2 h.0.1))
 item_lacks (Plain (fields.Branch op ra disp)) h = tt
-item_lacks (Plain (fields.Jump op ra rb)) h = statement_lacks (spelling (m.Jump op)) (both (register ra) (indirect rb)) (word_lacks (m.Jump op)) (both_lacks (register ra) (indirect rb) (register_lacks ra h.0.0) (indirect_lacks rb h.0.1))
+item_lacks (Plain (fields.Jump op ra rb)) h = statement_lacks (spelling (m.Jump op)) (operand_pair (register_name ra) (indirect_text rb)) (word_lacks (m.Jump op)) (both_lacks (register_name ra) (indirect_text rb) (register_lacks ra h.0.0) (indirect_lacks rb h.0.1))
 item_lacks (Plain (fields.Operate op ra rb rc)) h = statement_lacks (spelling (m.Operate op)) (operands op ra rb rc) (word_lacks (m.Operate op)) (operands_lack op ra rb rc h.0.0 h.0.1 h.0.2)
 item_lacks (Plain (fields.Pal n)) h = let small : n < 256 = small_call n h.0 in statement_lacks (codes "call_pal") (decimal n) (word_lacks m.CallPal) (decimal_lacks 10 n (omega arith) refl)
-item_lacks (Branch op ra l) h = statement_lacks (spelling (m.Branch op)) (both (register ra) (label l)) (word_lacks (m.Branch op)) (both_lacks (register ra) (label l) (register_lacks ra h.0) (label_lacks l h.1))
-item_lacks (TextAddress ra l) h = statement_lacks (codes ".text") (both (register ra) (label l)) (word_lacks m.TextAddress) (both_lacks (register ra) (label l) (register_lacks ra h.0) (label_lacks l h.1))
-item_lacks (DataAddress ra o) h = statement_lacks (codes ".addr") (both (register ra) (decimal o)) (word_lacks m.DataAddress) (both_lacks (register ra) (decimal o) (register_lacks ra h.0) (decimal_lacks 10 o (omega arith) refl))
+item_lacks (Branch op ra l) h = statement_lacks (spelling (m.Branch op)) (operand_pair (register_name ra) (label_name l)) (word_lacks (m.Branch op)) (both_lacks (register_name ra) (label_name l) (register_lacks ra h.0) (label_lacks l h.1))
+item_lacks (TextAddress ra l) h = statement_lacks (codes ".text") (operand_pair (register_name ra) (label_name l)) (word_lacks m.TextAddress) (both_lacks (register_name ra) (label_name l) (register_lacks ra h.0) (label_lacks l h.1))
+item_lacks (DataAddress ra o) h = statement_lacks (codes ".addr") (operand_pair (register_name ra) (decimal o)) (word_lacks m.DataAddress) (both_lacks (register_name ra) (decimal o) (register_lacks ra h.0) (decimal_lacks 10 o (omega arith) refl))
 
 items_lack : (items : List AsmItem) → All HasLine items → All (Lacks 10) (map item_line items)
 items_lack [] h = All-nil (Lacks 10)

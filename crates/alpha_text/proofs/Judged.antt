@@ -5,7 +5,7 @@ use Rattle.std.specs.Prelude.{IsTrue, nat_lt, position, if◌then◌else◌}
 use Rattle.std.specs.List.{list_any, position_or_len}
 use Rattle.alpha_items.specs.declared.item.AsmItem.{AsmItem}
 use Rattle.alpha_items.specs.declared.item.Fix.{Fix}
-use Rattle.alpha_items.specs.Items.{names, gives_word}
+use Rattle.alpha_items.specs.Items.{names_label, gives_word}
 use Rattle.alpha_items.specs.Assembly.{label_index}
 use Rattle.alpha_text.specs.declared.items.LineMeaning.{LineMeaning}
 use Rattle.alpha_text.specs.declared.items.LineMeaning.TheVariants as said
@@ -43,7 +43,7 @@ not_said all items line s only none (Count n) says = none (subst (StandsBehind a
 not_said all items line s only none (Row row) says = says.stands
 not_said all items line s only none (Place fix) says = says.stands
 
-pub entry_some : (items : List AsmItem) (at : ℕ) (r : Bool) → Some at ≡ position (names 0) items → r ≡ list_any gives_word (take (length items - at) (drop at items)) → (IsTrue r → HasEntry items) × (HasEntry items → IsTrue r)
+pub entry_some : (items : List AsmItem) (at : ℕ) (r : Bool) → Some at ≡ position (names_label 0) items → r ≡ list_any gives_word (take (length items - at) (drop at items)) → (IsTrue r → HasEntry items) × (HasEntry items → IsTrue r)
 entry_some items at r found word = (λ t. sym whole ∙ t, λ t. whole ∙ t)
   where
     chosen : (t : Bool) (x : ℕ) → Some at ≡ (if t then Some x else None) → at ≡ x
@@ -51,7 +51,7 @@ entry_some items at r found word = (λ t. sym whole ∙ t, λ t. whole ∙ t)
     chosen false x e = absurd (cc)
 
     place : at ≡ label_index items 0
-    place = chosen (nat_lt (position_or_len (names 0) items) (length items)) (position_or_len (names 0) items) found
+    place = chosen (nat_lt (position_or_len (names_label 0) items) (length items)) (position_or_len (names_label 0) items) found
 
     rest : take (length items - at) (drop at items) ≡ drop at items
     rest = take_all (length items - at) (drop at items) (omega (arith, length-drop at items))
@@ -59,17 +59,17 @@ entry_some items at r found word = (λ t. sym whole ∙ t, λ t. whole ∙ t)
     whole : r ≡ list_any gives_word (drop (label_index items 0) items)
     whole = word ∙ (ap (list_any gives_word) rest ∙ ap (λ k. list_any gives_word (drop k items)) place)
 
-pub entry_none : (items : List AsmItem) → None ≡ position (names 0) items → (IsTrue false → HasEntry items) × (HasEntry items → IsTrue false)
+pub entry_none : (items : List AsmItem) → None ≡ position (names_label 0) items → (IsTrue false → HasEntry items) × (HasEntry items → IsTrue false)
 entry_none items found = (λ t. absurd (cc), λ t. sym nothing ∙ t)
   where
     chosen : (t : Bool) (x : ℕ) → ◌≡◌ {A = Option ℕ} None (if t then Some x else None) → t ≡ false
     chosen true x e = absurd (cc)
     chosen false x e = refl
 
-    past : nat_lt (position_or_len (names 0) items) (length items) ≡ false
-    past = chosen (nat_lt (position_or_len (names 0) items) (length items)) (position_or_len (names 0) items) found
+    past : nat_lt (position_or_len (names_label 0) items) (length items) ≡ false
+    past = chosen (nat_lt (position_or_len (names_label 0) items) (length items)) (position_or_len (names_label 0) items) found
 
-    end : length items ≤ position_or_len (names 0) items
+    end : length items ≤ position_or_len (names_label 0) items
     end = grind (arith, nat_tests, past)
 
     nothing : list_any gives_word (drop (label_index items 0) items) ≡ false

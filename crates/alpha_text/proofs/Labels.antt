@@ -15,7 +15,7 @@ use Rattle.alpha_lines.specs.model.Readers.{item_of}
 use Rattle.alpha_lines.proofs.Items.{item_complete}
 use Rattle.std.proofs.lemmas.List.Folds.{list_any-append}
 use Rattle.std.proofs.lemmas.List.Sorted.{list_any-IsPermutation}
-use Rattle.alpha_text.specs.Wrong.{is_among, is_named}
+use Rattle.alpha_text.specs.Wrong.{is_among, is_label_named}
 use Rattle.alpha_text.specs.model.Labels.{has_label, IsIndex, is_label}
 
 or-false : (a : Bool) → (a || false) ≡ a
@@ -64,9 +64,9 @@ or_grouped : (a b d : Bool) → (a || (b || d)) ≡ ((a || b) || d)
 or_grouped true b d = refl
 or_grouped false b d = refl
 
-pub names_more : {S : Type 0} (s n : HashSet ℕ S) (whole : Bool) (l : ℕ) (line : List ℕ) (lines rest : List (List ℕ)) → lines ≡ line ∷ rest → has_label n l ≡ (has_label s l || is_label l line) → whole ≡ (has_label s l || is_named lines l) → whole ≡ (has_label n l || is_named rest l)
+pub names_more : {S : Type 0} (s n : HashSet ℕ S) (whole : Bool) (l : ℕ) (line : List ℕ) (lines rest : List (List ℕ)) → lines ≡ line ∷ rest → has_label n l ≡ (has_label s l || is_label l line) → whole ≡ (has_label s l || is_label_named lines l) → whole ≡ (has_label n l || is_label_named rest l)
 names_more s n whole l line lines rest same more e =
-    e ∙ (ap (λ t. has_label s l || is_named t l) same ∙ (or_grouped (has_label s l) (is_label l line) (is_named rest l) ∙ ap (λ b. b || is_named rest l) (sym more)))
+    e ∙ (ap (λ t. has_label s l || is_label_named t l) same ∙ (or_grouped (has_label s l) (is_label l line) (is_label_named rest l) ∙ ap (λ b. b || is_label_named rest l) (sym more)))
 
 -- whether a line names a label, by what it was read as
 

@@ -5,10 +5,10 @@ use Rattle.std.proofs.lemmas.Bool.{eq-eqb, eqb-true}
 use Rattle.std.proofs.lemmas.Bool.Decides.{nat_tests}
 use Rattle.alpha_lines.proofs.Parts.{take_rest}
 use Rattle.alpha_text.specs.Texts.{ended_lines}
-use Rattle.alpha_text.specs.Wrong.{longer, lines_of, is_ended}
+use Rattle.alpha_text.specs.Wrong.{byte_in_front, lines_of, is_ended}
 
 abbrev pick_line : Bool → ℕ → List ℕ → List (List ℕ) → List (List ℕ)
-pick_line t b s lines = if t then [] ∷ lines else longer b lines
+pick_line t b s lines = if t then [] ∷ lines else byte_in_front b lines
 
 pub line_at : (s : List ℕ) (i : ℕ) → ((k : ℕ) → k < i → get_or s k 0 ≡ 10 → ⊥) → i < length s → get_or s i 0 ≡ 10 → lines_of s ≡ take i s ∷ lines_of (drop (suc i) s)
 line_at [] i before within here = absurd (omega arith)
@@ -54,7 +54,7 @@ ended_none (b ∷ c ∷ s) none end =
     absurd (cc)
 
 -- the lines of a text that is ended are the text
-joined : (b : ℕ) (lines : List (List ℕ)) (s : List ℕ) → ended_lines lines ≡ s → (lines ≡ [] → ⊥) → ended_lines (longer b lines) ≡ b ∷ s
+joined : (b : ℕ) (lines : List (List ℕ)) (s : List ℕ) → ended_lines lines ≡ s → (lines ≡ [] → ⊥) → ended_lines (byte_in_front b lines) ≡ b ∷ s
 joined b [] s e some = absurd (some refl)
 joined b (l ∷ lines) s e some = ap (λ t. b ∷ t) e
 

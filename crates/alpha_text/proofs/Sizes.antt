@@ -9,7 +9,7 @@ use Rattle.alpha_items.specs.declared.item.AsmItem.TheVariants.{Label, Name, Pla
 use Rattle.alpha_items.specs.Assembly.{Assembly}
 use Rattle.alpha_items.specs.Layout.{item_words, sizes, text_words}
 use Rattle.alpha_items.proofs.Sums.{sum-cons}
-use Rattle.alpha_lines.specs.Lines.{head_line, label, statement, both, item_line, data_line, hex_byte, hex_line, fix_line}
+use Rattle.alpha_lines.specs.Lines.{head_line, label_name, word_and_rest, operand_pair, item_line, data_line, hex_byte, hex_line, fix_line}
 use Rattle.alpha_lines.specs.Mnemonics.{branch_word}
 use Rattle.alpha_text.specs.Wrong.{lines_of, is_ended, Nothing, Data}
 use Rattle.alpha_text.specs.Read.{HasDataCount}
@@ -68,8 +68,8 @@ data_in_text a =
 
 -- the words
 
-both_long : (word a b : List ℕ) (x : ℕ) → 5 ≤ length (with_line_feed (statement word (both (x ∷ a) b)))
-both_long word a b x = omega (arith, ended_long (statement word (both (x ∷ a) b)), length-append word (32 ∷ both (x ∷ a) b), length-append (x ∷ a) (44 ∷ 32 ∷ b))
+both_long : (word a b : List ℕ) (x : ℕ) → 5 ≤ length (with_line_feed (word_and_rest word (operand_pair (x ∷ a) b)))
+both_long word a b x = omega (arith, ended_long (word_and_rest word (operand_pair (x ∷ a) b)), length-append word (32 ∷ operand_pair (x ∷ a) b), length-append (x ∷ a) (44 ∷ 32 ∷ b))
 
 branch_words : (far linked : Bool) → (if far then (if linked then 3 else 4) else 1) ≤ 4
 branch_words true true = omega arith
@@ -80,8 +80,8 @@ item_long : (far : Bool) (i : AsmItem) → item_words far i ≤ length (with_lin
 item_long far (Label l) = omega arith
 item_long far (Name name) = omega arith
 item_long far (Plain insn) = omega (arith, ended_long (item_line (Plain insn)))
-item_long far (Branch op ra l) = omega (arith, branch_words far (links op), both_long (branch_word op) (decimal ra) (label l) 36)
-item_long far (TextAddress ra l) = omega (arith, both_long (codes ".text") (decimal ra) (label l) 36)
+item_long far (Branch op ra l) = omega (arith, branch_words far (links op), both_long (branch_word op) (decimal ra) (label_name l) 36)
+item_long far (TextAddress ra l) = omega (arith, both_long (codes ".text") (decimal ra) (label_name l) 36)
 item_long far (DataAddress ra offset) = omega (arith, both_long (codes ".addr") (decimal ra) (decimal offset) 36)
 
 items_long : (items : List AsmItem) (far : List Bool) → text_words items far ≤ length (ended_lines (map item_line items))

@@ -15,13 +15,13 @@ use Rattle.std.proofs.lemmas.Option.{slice_get-get_or}
 use Rattle.std.proofs.lemmas.List.Elements.{All-nil, All-push, All-append, filter_map-append}
 use Rattle.std.proofs.lemmas.List.Quantifiers.{all_pairs_push}
 use Rattle.alpha_text.specs.Texts.{hex_lines}
-use Rattle.alpha_text.specs.Wrong.{TextSoFar, Nothing, Text, Data, Form, Head, Item, Count, Row, Place, is_named, is_among, IsWithinData, FitsBehind, HasEntry, IsBehind, with_form, Says, IsComplete, WellFrom}
+use Rattle.alpha_text.specs.Wrong.{TextSoFar, Nothing, Text, Data, Form, Head, Item, Count, Row, Place, is_label_named, is_among, IsWithinData, FitsBehind, HasEntry, IsBehind, with_form, Says, IsComplete, WellFrom}
 use Rattle.alpha_text.proofs.Rows.{rows_none, rows_push}
 
 -- an item is known to stand in a text of these lines
 abbrev pub IsKnown : List (List ℕ) → AsmItem → Type 0
-IsKnown all (Branch op ra l) = IsTrue (is_named all l)
-IsKnown all (TextAddress ra l) = IsTrue (is_named all l)
+IsKnown all (Branch op ra l) = IsTrue (is_label_named all l)
+IsKnown all (TextAddress ra l) = IsTrue (is_label_named all l)
 IsKnown all (DataAddress ra offset) = IsWithinData all offset
 IsKnown all _ = Unit {0}
 

@@ -19,7 +19,7 @@ use Rattle.alpha_lines.specs.model.Mnemonics.{mnemonics, mnemonic_of}
 use Rattle.alpha_lines.specs.model.Readers.{item_of}
 use Rattle.alpha_lines.proofs.Items.{item_complete}
 use Rattle.alpha_text.specs.Texts.{Texts, ended_lines, hex_rows, hex_lines, asm_text}
-use Rattle.alpha_text.specs.Wrong.{lines_of, is_ended, Nothing, Data, is_named, is_among, begins_data, NoneWrong}
+use Rattle.alpha_text.specs.Wrong.{lines_of, is_ended, Nothing, Data, is_label_named, is_among, begins_data, NoneWrong}
 use Rattle.alpha_text.proofs.Lines.{lines_joined}
 use Rattle.alpha_text.proofs.Sound.{IsKnown, IsSane, said_lines, well_sound}
 
@@ -99,7 +99,7 @@ items_name (i ∷ items) l small h e = elim (or_true (is_label l (item_line i)) 
         let same : ◌≡◌ {A = Option AsmItem} (Some i) (Some (Label l)) = sym (item_complete i h) ∙ (ap item_of e ∙ item_complete (Label l) small) in
         cc
 
-pub named_among : (items : List AsmItem) (n : ℕ) (bytes : List ℕ) (fixes : List Fix) (l : ℕ) → l < 2 ^ 32 → All HasLine items → is_named (said_lines (Data items n bytes fixes)) l ≡ true → is_among (labels items) l ≡ true
+pub named_among : (items : List AsmItem) (n : ℕ) (bytes : List ℕ) (fixes : List Fix) (l : ℕ) → l < 2 ^ 32 → All HasLine items → is_label_named (said_lines (Data items n bytes fixes)) l ≡ true → is_among (labels items) l ≡ true
 named_among items n bytes fixes l small h e =
     let behind : list_any (is_label l) (hex_lines bytes ++ map fix_line fixes) ≡ false = list_any-append (is_label l) (hex_lines bytes) (map fix_line fixes) ∙ rw (hex_no_label l bytes, fixes_no_label l fixes) refl in
     let whole = sym (list_any-append (is_label l) (map item_line items) (data_line n ∷ (hex_lines bytes ++ map fix_line fixes))) ∙ e in
@@ -121,7 +121,7 @@ item_is all n (Branch op ra l) small found h k = h.0
 item_is all n (TextAddress ra l) small found h k = h.0
 item_is all n (DataAddress ra offset) small found h k = (h.0, k n small found)
 
-used_is : (all : List (List ℕ)) (items : List AsmItem) (i : AsmItem) → ((l : ℕ) → l < 2 ^ 32 → is_named all l ≡ true → is_among (labels items) l ≡ true) → HasLine i → IsKnown all i → IfSome (label_used i) (λ l. Contains (labels items) l)
+used_is : (all : List (List ℕ)) (items : List AsmItem) (i : AsmItem) → ((l : ℕ) → l < 2 ^ 32 → is_label_named all l ≡ true → is_among (labels items) l ≡ true) → HasLine i → IsKnown all i → IfSome (label_used i) (λ l. Contains (labels items) l)
 used_is all items (Label l) f h k = tt
 used_is all items (Name name) f h k = tt
 used_is all items (Plain insn) f h k = tt
@@ -135,7 +135,7 @@ whole_at all items n bytes fixes same sane full low =
     record {
       items = λ k d h. item_is all (length bytes) (get_or items k d) (rw full sane.1.small) (found ∙ rw full refl) (sane.0.fields k d h) (sane.0.known k d h);
       labels_once = sane.0.once;
-      labels_used = λ k d h. used_is all items (get_or items k d) (λ l small e. named_among items n bytes fixes l small sane.0.fields (ap (λ t. is_named t l) (sym same) ∙ e)) (sane.0.fields k d h) (sane.0.known k d h);
+      labels_used = λ k d h. used_is all items (get_or items k d) (λ l small e. named_among items n bytes fixes l small sane.0.fields (ap (λ t. is_label_named t l) (sym same) ∙ e)) (sane.0.fields k d h) (sane.0.known k d h);
       entry = sane.1.entry;
       bytes = omega (arith, full, low);
       fixes = λ k d h. rw full (sane.1.placed k d h);

@@ -9,13 +9,13 @@ use Rattle.alpha_items.specs.Assembly.{labels, label_index, IsFix}
 use Rattle.alpha_lines.specs.Lines.{HasLine, head_line, item_line, data_line, hex_line, fix_line}
 
 -- the lines of a text; bytes behind the last line feed are no line
-abbrev pub longer : ℕ → List (List ℕ) → List (List ℕ)
-longer b [] = []
-longer b (line ∷ lines) = (b ∷ line) ∷ lines
+abbrev pub byte_in_front : ℕ → List (List ℕ) → List (List ℕ)
+byte_in_front b [] = []
+byte_in_front b (line ∷ lines) = (b ∷ line) ∷ lines
 
 abbrev pub lines_of : List ℕ → List (List ℕ)
 lines_of [] = []
-lines_of (b ∷ s) = if b == 10 then [] ∷ lines_of s else longer b (lines_of s)
+lines_of (b ∷ s) = if b == 10 then [] ∷ lines_of s else byte_in_front b (lines_of s)
 
 -- whether no bytes stand behind the last line feed
 abbrev pub is_ended : List ℕ → Bool
@@ -54,8 +54,8 @@ pub data TextSoFar : Type 0 where
   Data : List AsmItem → ℕ → List ℕ → List Fix → TextSoFar
 
 -- whether some line of the text names the label
-abbrev pub is_named : List (List ℕ) → ℕ → Bool
-is_named lines l = list_any (λ line. bytes_eq line (item_line (Label l))) lines
+abbrev pub is_label_named : List (List ℕ) → ℕ → Bool
+is_label_named lines l = list_any (λ line. bytes_eq line (item_line (Label l))) lines
 
 -- whether a label is among these
 abbrev pub is_among : List ℕ → ℕ → Bool
@@ -72,8 +72,8 @@ IsWithinData lines offset = (n : ℕ) → n < 2 ^ 64 → find begins_data lines 
 -- is within the data
 abbrev pub FitsBehind : List (List ℕ) → List AsmItem → AsmItem → Type 0
 FitsBehind lines items (Label l) = IsTrue (not (is_among (labels items) l))
-FitsBehind lines items (Branch op ra l) = IsTrue (is_named lines l)
-FitsBehind lines items (TextAddress ra l) = IsTrue (is_named lines l)
+FitsBehind lines items (Branch op ra l) = IsTrue (is_label_named lines l)
+FitsBehind lines items (TextAddress ra l) = IsTrue (is_label_named lines l)
 FitsBehind lines items (DataAddress ra offset) = IsWithinData lines offset
 FitsBehind lines items _ = Unit {0}
 
@@ -120,7 +120,8 @@ abbrev pub WrongFrom : List (List ℕ) → TextSoFar → ℕ → List (List ℕ)
 WrongFrom lines standing k [] with_line_feed n = (¬ (IsComplete standing × IsTrue with_line_feed)) × (n ≡ k)
 WrongFrom lines standing k (line ∷ rest) with_line_feed n =
     (((form : Form) → ¬ (Says lines standing line form)) × (n ≡ k))
-    ⊎ ((form : Form) × Says lines standing line form × WrongFrom lines (with_form standing form) (k + 1) rest with_line_feed n)
+    ⊎ ((form : Form) × Says lines standing line form
+    × WrongFrom lines (with_form standing form) (k + 1) rest with_line_feed n)
 
 -- the lines that are left are all in form, and this is what stands at the end
 abbrev pub WellFrom : List (List ℕ) → TextSoFar → List (List ℕ) → Bool → TextSoFar → Type 0

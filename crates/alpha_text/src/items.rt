@@ -2,11 +2,11 @@
 
 ghost use Rattle.std.specs.Prelude.{◌≡◌, ◌<◌, ◌↔◌, ℕ, List, [], IfOk, IfErr, IsTrue, OnOk, IfSome, position, ◌++◌, ◌∷◌, length, drop};
 ghost use Rattle.std.specs.List.{list_any};
-ghost use Rattle.alpha_items.specs.Items.{gives_word, names};
+ghost use Rattle.alpha_items.specs.Items.{gives_word, names_label};
 ghost use Rattle.alpha_items.specs.Assembly.{labels};
 ghost use Rattle.alpha_items.specs.declared.item.AsmItem.{AsmItem as Item};
 ghost use Rattle.alpha_lines.specs.Lines.{HasLine, item_line, data_line};
-ghost use Rattle.alpha_text.specs.Wrong.{Text, Data, is_named as named_in, IsWithinData, lines_of, FitsBehind, HasEntry, Says, Form, TextSoFar};
+ghost use Rattle.alpha_text.specs.Wrong.{Text, Data, is_label_named as named_in, IsWithinData, lines_of, FitsBehind, HasEntry, Says, Form, TextSoFar};
 ghost use Rattle.alpha_text.specs.model.Survey.{IsSurvey};
 ghost use Rattle.alpha_text.specs.model.Labels.{IsIndex};
 ghost use Rattle.alpha_text.specs.model.Reaches.{Reaches, IsFaultFrom};
@@ -65,7 +65,7 @@ fn fits(seen: &HashSet<u32>, survey: &Survey<'_>, item: &AsmItem) -> bool
 
 /// Whether an item names label 0.
 fn names_entry(item: &AsmItem) -> bool
-    ensures { result ≡ names 0 item.now }
+    ensures { result ≡ names_label 0 item.now }
 {
     matches!(item, AsmItem::Label(0))
 }
@@ -86,7 +86,7 @@ fn has_word(items: &[AsmItem]) -> bool
 
 /// The place of the first item that names label 0.
 fn entry_place(items: &[AsmItem]) -> Option<usize>
-    ensures place { result ≡ position (names 0) items.now }
+    ensures place { result ≡ position (names_label 0) items.now }
     ensures within { IfSome result (λ at. at < length items.now) }
 {
     items.iter().position(|item| names_entry(item))

@@ -4,7 +4,7 @@ ghost use Rattle.std.specs.Prelude.{◌≡◌, ◌↔◌, ◌<◌, ◌^◌, ℕ,
 ghost use Rattle.alpha_lines.specs.Lines.{data_line};
 ghost use Rattle.alpha_items.specs.declared.item.AsmItem.{AsmItem as Item};
 ghost use Rattle.alpha_items.specs.Assembly.{labels};
-ghost use Rattle.alpha_text.specs.Wrong.{lines_of, begins_data, is_named, is_among};
+ghost use Rattle.alpha_text.specs.Wrong.{lines_of, begins_data, is_label_named, is_among};
 ghost use Rattle.alpha_text.specs.model.Labels.{has_label, is_label, IsIndex};
 
 use crate::cursor::Cursor;
@@ -74,7 +74,7 @@ fn add_name(alloc: Global, names: &mut HashSet<u32>, line: &[u8]) -> Result<(), 
 
 /// The labels that lines of the text name.
 fn names_of(alloc: Global, text: &[u8]) -> Result<HashSet<u32>, AllocError>
-    ensures { IfOk result (λ names. (l : ℕ) → l < 2 ^ 32 → has_label names l ≡ is_named (lines_of text.now) l) }
+    ensures { IfOk result (λ names. (l : ℕ) → l < 2 ^ 32 → has_label names l ≡ is_label_named (lines_of text.now) l) }
 {
     let mut names = HashSet::new(alloc);
     let mut lines = Cursor::new(text);

@@ -13,7 +13,7 @@ use Rattle.data_object.specs.declared.DataCell.{DataCell}
 use Rattle.data_object.specs.declared.DataCell.TheVariants.{Byte, AddressPart}
 use Rattle.data_object.specs.Layout.{ObjectsLieFrom, data_end}
 use Rattle.data_object.specs.Globals.{Reaches, IsLawfulObject, AreLawful}
-use Rattle.flat_globals.specs.Globals.{offset_of, AreLaidOut}
+use Rattle.flat_globals.specs.Globals.{global_offset, AreLaidOut}
 use Rattle.flat_globals.proofs.Lists.{get-below, get-index, replicate-size}
 use Rattle.flat_globals.proofs.LaidOut.{lawful_ones_are_laid_out}
 use Rattle.program_assembly.proofs.Bounds.{end-next}
@@ -209,7 +209,7 @@ module _ (globals : List DataObject) (h : ∥ AreLawful globals ∥₁) (last : 
       let size = bytes-size 0 globals laid.layout laid.cells in
       omega (arith, end, size)
 
-  in-object : (o : Option DataObject) (g plus : ℕ) → slice_get globals g ≡ o → Reaches plus o → offset_of o + plus ≤ length (global_bytes globals)
+  in-object : (o : Option DataObject) (g plus : ℕ) → slice_get globals g ≡ o → Reaches plus o → global_offset o + plus ≤ length (global_bytes globals)
   in-object None g plus e r = absurd r
   in-object (Some o) g plus e r = let end = within-size g o e in omega (arith, r, end)
 

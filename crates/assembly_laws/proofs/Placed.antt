@@ -17,12 +17,12 @@ use Rattle.alloc_model.specs.Places.{Plan, plan_of}
 use Rattle.instruction_items.specs.Items.{ItemSetting}
 use Rattle.function_items.specs.Items.{function_items}
 use Rattle.frame_bounds.specs.Shapes.{shape_of}
-use Rattle.frame_bounds.specs.Settings.{near_plan, setting_of, place_in}
+use Rattle.frame_bounds.specs.Settings.{near_plan, setting_of, global_offset}
 use Rattle.frame_bounds.specs.Near.{IsNear}
 use Rattle.frame_bounds.proofs.Near.{plan_same}
 use Rattle.frame_bounds.proofs.Fronts.{function_front}
 use Rattle.program_assembly.specs.Programs.{HasItemsOf, plans_of, start_items}
-use Rattle.program_assembly.specs.Assemblies.{final_items, main_of, gathered}
+use Rattle.program_assembly.specs.Assemblies.{final_items, main_of, whole_assembly}
 use Rattle.program_assembly.specs.Layouts.{first_label, label_count, FunctionIsLaidOut, FollowFrom}
 use Rattle.assembly_laws.specs.Laws.{no_plan, setting_at, placing_of, AssembliesHavePrograms}
 
@@ -154,7 +154,7 @@ module _ (program : TempProgram) (allocations : List Allocation) (finals : List 
           (append_assoc (function_items a g f []) (final_items (drop (suc f) finals)) all_items ∙ function_front a g f [] (final_items (drop (suc f) finals) ++ all_items))
           ∙ sym (append_assoc (final_items (take f finals)) (Name nm ∷ []) (function_items a g f (final_items (drop (suc f) finals) ++ all_items)))
 
-  pub has-items : HasItemsOf (gathered finals program.globals) program (plans_of allocations) (placing_of program.globals allocations finals)
+  pub has-items : HasItemsOf (whole_assembly finals program.globals) program (plans_of allocations) (placing_of program.globals allocations finals)
   has-items = record {
     start = ap (λ m. start_items m (final_items finals ++ all_items)) (same-main finals program.functions (main-from program.functions allocations names program.globals 0 first finals laid));
     functions = function-at;
@@ -162,7 +162,7 @@ module _ (program : TempProgram) (allocations : List Allocation) (finals : List 
     routines = ap (λ xs. start_items (main_of finals) (final_items finals ++ xs)) (sym (append-nil all_items));
     bytes = refl;
     fixes = refl;
-    offsets = λ f a e k o there. ap place_in there;
+    offsets = λ f a e k o there. ap global_offset there;
   }
 
 pub assemblies-have : AssembliesHavePrograms

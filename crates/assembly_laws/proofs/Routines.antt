@@ -10,7 +10,7 @@ use Rattle.alpha_isa.specs.declared.insn.Operand.{Operand}
 use Rattle.alpha_isa.specs.declared.insn.Operand.TheVariants.{Reg, Literal}
 use Rattle.alpha_isa.specs.declared.insn.OperateOp.{OperateOp}
 use Rattle.alpha_isa.specs.declared.insn.OperateOp.TheVariants as o
-use Rattle.alpha_isa.specs.Lawful.{IsOperand, IsDisplacement, IsFirstOperand, AreLawfulFields, is_call}
+use Rattle.alpha_isa.specs.Lawful.{IsOperand, IsDisplacement, IsFirstOperand, AreLawfulFields, is_pal_function}
 use Rattle.alpha_items.specs.declared.item.AsmItem.{AsmItem}
 use Rattle.alpha_items.specs.declared.item.AsmItem.TheVariants.{Label, Name, Plain, Branch, TextAddress, DataAddress}
 use Rattle.alpha_items.specs.Items.{label_used, is_branch, IsItem}
@@ -38,7 +38,7 @@ fields_fit (fields.Memory op ra rb disp) = nat_lt ra 32 && (nat_lt rb 32 && disp
 fields_fit (fields.Branch op ra disp) = false
 fields_fit (fields.Jump op ra rb) = nat_lt ra 32 && nat_lt rb 32
 fields_fit (fields.Operate op ra rb rc) = first_fits op ra && (operand_fits rb && nat_lt rc 32)
-fields_fit (fields.Pal function) = is_call function
+fields_fit (fields.Pal function) = is_pal_function function
 
 abbrev pub item_fits : AsmItem → Bool
 item_fits (Label l) = true

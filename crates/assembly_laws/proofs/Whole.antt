@@ -19,7 +19,7 @@ use Rattle.global_data.specs.GlobalBytes.{global_bytes}
 use Rattle.alloc_model.specs.declared.allocation.Allocation.{Allocation}
 use Rattle.program_assembly.specs.Leaving.{ending_items}
 use Rattle.program_assembly.specs.Programs.{start_items}
-use Rattle.program_assembly.specs.Assemblies.{final_items, is_main, main_of, gathered}
+use Rattle.program_assembly.specs.Assemblies.{final_items, is_main, main_of, whole_assembly}
 use Rattle.program_assembly.specs.Layouts.{first_label, label_count, FollowFrom, FunctionsAreLaidOut}
 use Rattle.assembly_laws.specs.Laws.{CanBeAssembled, AssembliesAreWhole}
 use Rattle.assembly_laws.proofs.Distinct.{Each, Distinct, each-weaker, each-append, distinct-append, pairs-differ, has-later, has-left, has-right}
@@ -137,7 +137,7 @@ module _ (globals : List DataObject) (allocations : List Allocation) (finals : L
       ending-uses (suc (suc zero)) d lt = tt
       ending-uses (suc (suc (suc k))) d lt = absurd (omega (arith, lt))
 
-  pub whole : IsWhole (gathered finals globals)
+  pub whole : IsWhole (whole_assembly finals globals)
   unfolding Known
   whole = record {
     items = items-in;

@@ -26,7 +26,7 @@ use Rattle.frame_bounds.specs.Near.{IsNear}
 use Rattle.frame_bounds.specs.Settings.{setting_of}
 use Rattle.program_assembly.specs.Ranges.{HasSmallNumbers}
 use Rattle.program_assembly.specs.Programs.{Placing, HasItemsOf, IsAllocated, plans_of, start_items}
-use Rattle.program_assembly.specs.Assemblies.{final_items, gathered, main_of}
+use Rattle.program_assembly.specs.Assemblies.{final_items, whole_assembly, main_of}
 use Rattle.program_assembly.specs.Layouts.{first_label, label_count, FitsProgram, FunctionsAreLaidOut}
 
 -- an allocation of one of so many functions fits, its name is one, and the numbers in its instructions have their
@@ -40,8 +40,9 @@ pub record CanBeAssembled (functions : ℕ) (globals : List DataObject) (a : All
 abbrev pub AssembliesAreWhole : Type 0
 AssembliesAreWhole =
     (globals : List DataObject) (allocations : List Allocation) (finals : List FinalFn) → ∥ AreLawful globals ∥₁ →
-    data_end globals ≤ MOST_DATA → 1 ≤ length allocations → All (CanBeAssembled (length allocations) globals) allocations →
-    FunctionsAreLaidOut globals allocations finals → IsWhole (gathered finals globals)
+    data_end globals ≤ MOST_DATA → 1 ≤ length allocations
+    → All (CanBeAssembled (length allocations) globals) allocations →
+    FunctionsAreLaidOut globals allocations finals → IsWhole (whole_assembly finals globals)
 
 -- ---- where the items of a program stand in it
 
@@ -82,7 +83,7 @@ AssembliesHavePrograms =
     (program : TempProgram) (allocations : List Allocation) (finals : List FinalFn) →
     map (λ f. f.name) program.functions ≡ map (λ a. a.func.name) allocations →
     All (λ a. AllInsns IsNear a.func.blocks) allocations → FunctionsAreLaidOut program.globals allocations finals →
-    HasItemsOf (gathered finals program.globals) program (plans_of allocations)
+    HasItemsOf (whole_assembly finals program.globals) program (plans_of allocations)
     (placing_of program.globals allocations finals)
 
 -- ---- that a program is allocated

@@ -14,7 +14,7 @@ use Rattle.c_declarations.specs.declared.walk.UnitFunction.{UnitFunction}
 use Rattle.c_declarations.specs.declared.walk.UnitSoFar.{UnitSoFar}
 use Rattle.c_tag_bodies.specs.Bodies.{TagScope}
 use Rattle.c_units.specs.Units.{whole_unit}
-use Rattle.c_types.specs.Units.{with_trees, functions_in, append_functions, typed_from, unit_of, IsTyped}
+use Rattle.c_types.specs.Units.{with_trees, functions_in, append_functions, typed_from, typed_unit_of, IsTyped}
 use Rattle.c_parser.specs.Reading.{IsRead}
 use Rattle.c_identifier_laws.specs.Identifiers.{HasIdentifier}
 use Rattle.c_identifier_laws.proofs.Declarations.{read_names}
@@ -56,7 +56,7 @@ module _ (P : TypedFn → Type 0) where
   from_hold ds os texts None unit e h = none_some e
   from_hold ds os texts (Some all) unit e h = All-same P unit.functions all (ap (λ (u : TypedUnit). u.functions) (sym (some_same e))) (h all refl)
 
-  unit_hold : (s : UnitSoFar × TagScope) (unit : TypedUnit) → unit_of s ≡ Some unit → All HoldsOf s.0.functions → All P unit.functions
+  unit_hold : (s : UnitSoFar × TagScope) (unit : TypedUnit) → typed_unit_of s ≡ Some unit → All HoldsOf s.0.functions → All P unit.functions
   unit_hold s unit e h =
       let count = s.0.names.functions in
       from_hold s.1.1.1.structs s.0.objects s.1.1.1.texts (append_functions (Some []) (functions_in count s.0.functions)) unit e

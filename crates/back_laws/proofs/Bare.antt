@@ -7,14 +7,14 @@ use Rattle.suifvm_ir.specs.Functions.{last_of, successors_after, successors_of}
 use Rattle.temp_ir.specs.declared.insn.TempInsn.{TempInsn}
 use Rattle.temp_ir.specs.declared.insn.TempInsn.TheVariants as i
 use Rattle.temp_ir.specs.Insns.{targets_of, with_block, flows_on_of}
-use Rattle.temp_ir.specs.Cost.{is_call}
-use Rattle.cfg.specs.Walks.{bare}
+use Rattle.temp_ir.specs.Cost.{makes_call}
+use Rattle.cfg.specs.Walks.{zero_targets}
 
 -- an instruction with block 0 as its target, if it has one
 abbrev pub bare_of : TempInsn → TempInsn
-bare_of z = bare targets_of with_block z
+bare_of z = zero_targets targets_of with_block z
 
-pub bare_calls : (z : TempInsn) → is_call (bare_of z) ≡ is_call z
+pub bare_calls : (z : TempInsn) → makes_call (bare_of z) ≡ makes_call z
 bare_calls (i.Address op d base plus) = refl
 bare_calls (i.ObjectAddress d place plus) = refl
 bare_calls (i.Load op d p plus) = refl
@@ -64,10 +64,10 @@ bare_leaves i.Mark = refl
 abbrev tally : Bool → ℕ
 tally b = cond b 1 0
 
-calls-cons : (z : TempInsn) (xs : List TempInsn) → count_by is_call (z ∷ xs) ≡ tally (is_call z) + count_by is_call xs
-calls-cons z xs = sum_by-cons (λ y. cond (is_call y) 1 0) z xs
+calls-cons : (z : TempInsn) (xs : List TempInsn) → count_by makes_call (z ∷ xs) ≡ tally (makes_call z) + count_by makes_call xs
+calls-cons z xs = sum_by-cons (λ y. cond (makes_call y) 1 0) z xs
 
-same_calls : (xs : List TempInsn) → count_by is_call (map bare_of xs) ≡ count_by is_call xs
+same_calls : (xs : List TempInsn) → count_by makes_call (map bare_of xs) ≡ count_by makes_call xs
 same_calls [] = refl
 same_calls (z ∷ xs) = omega (arith, calls-cons (bare_of z) (map bare_of xs), ap tally (bare_calls z), same_calls xs, calls-cons z xs)
 
@@ -88,8 +88,8 @@ same_edges (z ∷ y ∷ xs) =
     ap edges_after (last_more (bare_of z) (bare_of y) (map bare_of xs)) ∙ same_edges (y ∷ xs) ∙ sym (ap edges_after (last_more z y xs))
 
 -- blocks that are the same but for the targets of their instructions
-pub calls_stay : (xs ys : List TempInsn) → map bare_of xs ≡ map bare_of ys → count_by is_call xs ≡ count_by is_call ys
-calls_stay xs ys e = sym (same_calls xs) ∙ ap (count_by is_call) e ∙ same_calls ys
+pub calls_stay : (xs ys : List TempInsn) → map bare_of xs ≡ map bare_of ys → count_by makes_call xs ≡ count_by makes_call ys
+calls_stay xs ys e = sym (same_calls xs) ∙ ap (count_by makes_call) e ∙ same_calls ys
 
 pub edges_stay : (xs ys : List TempInsn) → map bare_of xs ≡ map bare_of ys → edges xs ≡ edges ys
 edges_stay xs ys e = sym (same_edges xs) ∙ ap edges e ∙ same_edges ys

@@ -11,9 +11,9 @@ use Rattle.suifvm_ir.specs.declared.insn.VmInsn.{VmInsn}
 use Rattle.suifvm_ir.specs.declared.insn.VmInsn.TheVariants as x
 use Rattle.temp_ir.specs.declared.insn.TempInsn.{TempInsn}
 use Rattle.temp_ir.specs.Insns.{targets_of, with_block}
-use Rattle.temp_ir.specs.Cost.{is_call}
+use Rattle.temp_ir.specs.Cost.{makes_call}
 use Rattle.cfg.specs.Edges.{successors_from, edge_count}
-use Rattle.cfg.specs.Walks.{bare}
+use Rattle.cfg.specs.Walks.{zero_targets}
 use Rattle.cfg.specs.Measures.{measure_of, NoMeasureGrows}
 use Rattle.back_laws.specs.Bulks.{RemovalKeepsBulk, RemovalKeepsCost}
 use Rattle.back_laws.proofs.Bare.{bare_calls}
@@ -48,14 +48,14 @@ module _ {I : Type 0} where
 pub removal_keeps_bulk : RemovalKeepsBulk
 removal_keeps_bulk f g grows few =
     let insns = no_more targets_of with_block f.blocks g.blocks grows in
-    let calls = grows (λ i. cond (is_call i) 1 0) (λ i. ap (λ b. cond b 1 0) (bare_calls i)) in (
+    let calls = grows (λ i. cond (makes_call i) 1 0) (λ i. ap (λ b. cond b 1 0) (bare_calls i)) in (
       omega (arith, insns, calls, few, same_count 0 f.blocks, same_count 0 g.blocks),
       omega (arith, insns, calls, few, same_count 0 f.blocks, same_count 0 g.blocks),
     )
 
 -- ---- functions over virtual registers
 
-bare_cost : (i : VmInsn) → insn_cost (bare vm.targets_of vm.with_block i) ≡ insn_cost i
+bare_cost : (i : VmInsn) → insn_cost (zero_targets vm.targets_of vm.with_block i) ≡ insn_cost i
 bare_cost (x.LoadConstant ty d word) = refl
 bare_cost (x.LoadAddress d place plus) = refl
 bare_cost (x.Load ty d p plus) = refl

@@ -7,7 +7,7 @@ use Rattle.suifvm_ir.specs.Functions.{count_of, last_of, successors_of}
 use Rattle.suifvm_ir.specs.Functions as functions
 use Rattle.temp_ir.specs.declared.insn.TempInsn.{TempInsn}
 use Rattle.temp_ir.specs.Insns.{targets_of, with_block, jump_of, flows_on_of}
-use Rattle.temp_ir.specs.Cost.{is_call, call_count}
+use Rattle.temp_ir.specs.Cost.{makes_call, call_count}
 use Rattle.cfg.specs.Edges.{successors_from, edge_count}
 use Rattle.cfg_edges.specs.Added.{AddsJumps, NoBlocks, SameBlock, NewBlock}
 use Rattle.back_laws.specs.Bulks.{SplitsKeepBulk}
@@ -33,8 +33,8 @@ same_count n (block ∷ blocks) =
 count_more : (xs : List TempInsn) (blocks : List (List TempInsn)) → count_of (xs ∷ blocks) ≡ length xs + count_of blocks
 count_more xs blocks = sum_by-cons (λ (block : List TempInsn). length block) xs blocks
 
-calls_more : (xs : List TempInsn) (blocks : List (List TempInsn)) → call_count (xs ∷ blocks) ≡ count_by is_call xs + call_count blocks
-calls_more xs blocks = sum_by-cons (λ (block : List TempInsn). count_by is_call block) xs blocks
+calls_more : (xs : List TempInsn) (blocks : List (List TempInsn)) → call_count (xs ∷ blocks) ≡ count_by makes_call xs + call_count blocks
+calls_more xs blocks = sum_by-cons (λ (block : List TempInsn). count_by makes_call block) xs blocks
 
 edges_more : (xs : List TempInsn) (blocks : List (List TempInsn)) → edges_of (xs ∷ blocks) ≡ edges xs + edges_of blocks
 edges_more xs blocks = sum_by-cons (λ (block : List TempInsn). edges block) xs blocks

@@ -11,7 +11,7 @@ use Rattle.cfg.specs.Edges.{successors_from}
 use Rattle.bk_bits.specs.Sets.{has}
 use Rattle.bitvector_flow.specs.Flows.{has_at, FlowsOut, FlowsIn, AreFlows}
 use Rattle.bitvector_flow.specs.Flows.FlowsOut.{IsMade, Passes as GoesThrough}
-use Rattle.bitvector_flow.specs.Lives.{names, reads_first, write, AreLive}
+use Rattle.bitvector_flow.specs.Lives.{has_register, reads_first, some_writes, AreLive}
 use Rattle.bitvector_flow.specs.model.Blocks.{AreBlockSets}
 
 -- ---- truth values
@@ -54,22 +54,22 @@ nil-cons x xs e = let size = ap length e in omega (arith, size)
 
 -- ---- a list of registers
 
-pub names_of : (registers : List ℕ) (t : ℕ) → Contains registers t → names registers t ≡ true
+pub names_of : (registers : List ℕ) (t : ℕ) → Contains registers t → has_register registers t ≡ true
 names_of [] t (k, within, is) = absurd (omega (arith, within))
-names_of (r ∷ rs) t (zero, within, is) = either (r == t) (names rs t) (inl (eq-eqb r t is))
-names_of (r ∷ rs) t (suc k, within, is) = either (r == t) (names rs t) (inr (names_of rs t (k, omega (arith, within), is)))
+names_of (r ∷ rs) t (zero, within, is) = either (r == t) (has_register rs t) (inl (eq-eqb r t is))
+names_of (r ∷ rs) t (suc k, within, is) = either (r == t) (has_register rs t) (inr (names_of rs t (k, omega (arith, within), is)))
 
-pub of_names : (registers : List ℕ) (t : ℕ) → names registers t ≡ true → Contains registers t
+pub of_names : (registers : List ℕ) (t : ℕ) → has_register registers t ≡ true → Contains registers t
 of_names [] t h = let no : ⊥ = cc in absurd no
-of_names (r ∷ rs) t h = ⊎_elim (λ here. (0, omega arith, eqb-true r t here)) (λ there. further (of_names rs t there)) (or_cases (r == t) (names rs t) h)
+of_names (r ∷ rs) t h = ⊎_elim (λ here. (0, omega arith, eqb-true r t here)) (λ there. further (of_names rs t there)) (or_cases (r == t) (has_register rs t) h)
   where
     further : Contains rs t → Contains (r ∷ rs) t
     further (k, within, is) = (suc k, omega (arith, within), is)
 
-pub names_none : (registers : List ℕ) (t : ℕ) → (Contains registers t → ⊥) → names registers t ≡ false
-names_none registers t none = not_true (names registers t) (λ h. none (of_names registers t h))
+pub names_none : (registers : List ℕ) (t : ℕ) → (Contains registers t → ⊥) → has_register registers t ≡ false
+names_none registers t none = not_true (has_register registers t) (λ h. none (of_names registers t h))
 
-pub none_of : (registers : List ℕ) (t : ℕ) → names registers t ≡ false → Contains registers t → ⊥
+pub none_of : (registers : List ℕ) (t : ℕ) → has_register registers t ≡ false → Contains registers t → ⊥
 none_of registers t h is = let there = names_of registers t is in cc
 
 module _ {A : Type 0} where
@@ -108,17 +108,17 @@ module _ {I : Type 0} (reads writes targets : I → List ℕ) (flows_on : I → 
       let d = drop_first insns at i xs e in
       ⊎_elim
       (λ here. IsRead i (there block at insns i block_is d.0) (of_names (reads i) t here))
-      (λ later. Passes i (there block at insns i block_is d.0) (none_of (writes i) t (and_left (names (writes i) t) (reads_first reads writes xs t) later))
-      (live_by_read block (suc at) insns xs block_is d.1 (and_right (names (writes i) t) (reads_first reads writes xs t) later)))
-      (or_cases (names (reads i) t) (not (names (writes i) t) && reads_first reads writes xs t) h)
+      (λ later. Passes i (there block at insns i block_is d.0) (none_of (writes i) t (and_left (has_register (writes i) t) (reads_first reads writes xs t) later))
+      (live_by_read block (suc at) insns xs block_is d.1 (and_right (has_register (writes i) t) (reads_first reads writes xs t) later)))
+      (or_cases (has_register (reads i) t) (not (has_register (writes i) t) && reads_first reads writes xs t) h)
 
   -- and what is live at the bottom, where the rest does not write it
-  pub live_from_bottom : (block at : ℕ) (insns xs : List I) → slice_get blocks block ≡ Some insns → drop at insns ≡ xs → at ≤ length insns → write writes xs t ≡ false → IsLive block (length insns) → IsLive block at
+  pub live_from_bottom : (block at : ℕ) (insns xs : List I) → slice_get blocks block ≡ Some insns → drop at insns ≡ xs → at ≤ length insns → some_writes writes xs t ≡ false → IsLive block (length insns) → IsLive block at
   live_from_bottom block at insns [] block_is e few h live =
       let past = drop_none insns at e in subst (IsLive block) (let same : length insns ≡ at = omega (arith, past, few) in same) live
   live_from_bottom block at insns (i ∷ xs) block_is e few h live =
       let d = drop_first insns at i xs e in
-      let neither = or_neither (names (writes i) t) (write writes xs t) h in
+      let neither = or_neither (has_register (writes i) t) (some_writes writes xs t) h in
       Passes i (there block at insns i block_is d.0) (none_of (writes i) t neither.0)
       (live_from_bottom block (suc at) insns xs block_is d.1 (let inside = d.2 in omega (arith, inside)) neither.1 live)
 
@@ -144,8 +144,8 @@ module _ {I : Type 0} (reads writes targets : I → List ℕ) (flows_on : I → 
     read_in : (block : ℕ) (insns : List I) → slice_get blocks block ≡ Some insns → has_at firsts block t ≡ reads_first reads writes insns t
     read_in block insns block_is = are.read block t ∙ ap (λ b. reads_first reads writes b t) (get_or_from_slice_get blocks block insns [] block_is)
 
-    written_in : (block : ℕ) (insns : List I) → slice_get blocks block ≡ Some insns → has_at lasts block t ≡ write writes insns t
-    written_in block insns block_is = are.written block t ∙ ap (λ b. write writes b t) (get_or_from_slice_get blocks block insns [] block_is)
+    written_in : (block : ℕ) (insns : List I) → slice_get blocks block ≡ Some insns → has_at lasts block t ≡ some_writes writes insns t
+    written_in block insns block_is = are.written block t ∙ ap (λ b. some_writes writes b t) (get_or_from_slice_get blocks block insns [] block_is)
 
     next_of : (block : ℕ) (insns : List I) → slice_get blocks block ≡ Some insns → get_or (successors_from targets flows_on 0 blocks) block [] ≡ successors_of targets flows_on block insns
     next_of block insns block_is = next_from 0 blocks block insns block_is ∙ ap (λ n. successors_of targets flows_on n insns) (let e : 0 + block ≡ block = omega arith in e)
@@ -186,30 +186,30 @@ module _ {I : Type 0} (reads writes targets : I → List ℕ) (flows_on : I → 
 
     -- ---- what is live flows
 
-    flows_by : (block : ℕ) (insns : List I) → slice_get blocks block ≡ Some insns → (reads_first reads writes insns t ≡ true) ⊎ ((write writes insns t ≡ false) × In block) → Out block
+    flows_by : (block : ℕ) (insns : List I) → slice_get blocks block ≡ Some insns → (reads_first reads writes insns t ≡ true) ⊎ ((some_writes writes insns t ≡ false) × In block) → Out block
     flows_by block insns block_is (inl read) = IsMade (let within = slice_get_within blocks block insns block_is in omega (arith, within, many_next)) (read_in block insns block_is ∙ read)
     flows_by block insns block_is (inr (unwritten, into)) = GoesThrough into.next (written_in block insns block_is ∙ unwritten) into.is_next into.flows
 
-    live_rest : (block at : ℕ) → IsLive block at → (insns xs : List I) → slice_get blocks block ≡ Some insns → drop at insns ≡ xs → (reads_first reads writes xs t ≡ true) ⊎ ((write writes xs t ≡ false) × In block)
+    live_rest : (block at : ℕ) → IsLive block at → (insns xs : List I) → slice_get blocks block ≡ Some insns → drop at insns ≡ xs → (reads_first reads writes xs t ≡ true) ⊎ ((some_writes writes xs t ≡ false) × In block)
     live_rest block at (IsRead i is named) insns xs block_is e =
         let list : drop at insns ≡ i ∷ drop (suc at) insns = drop_there insns at i (in_block block at insns i block_is is) in
         inl (ap (λ ys. reads_first reads writes ys t) (sym e ∙ list)
-        ∙ either (names (reads i) t) (not (names (writes i) t) && reads_first reads writes (drop (suc at) insns) t) (inl (names_of (reads i) t named)))
+        ∙ either (has_register (reads i) t) (not (has_register (writes i) t) && reads_first reads writes (drop (suc at) insns) t) (inl (names_of (reads i) t named)))
     live_rest block at (Passes i is none live) insns xs block_is e =
         let list : drop at insns ≡ i ∷ drop (suc at) insns = drop_there insns at i (in_block block at insns i block_is is) in
         let unwritten = names_none (writes i) t none in
         ⊎_elim
         (λ later. inl (ap (λ ys. reads_first reads writes ys t) (sym e ∙ list)
-        ∙ either (names (reads i) t) (not (names (writes i) t) && reads_first reads writes (drop (suc at) insns) t)
-        (inr (and_made (names (writes i) t) (reads_first reads writes (drop (suc at) insns) t) unwritten later))))
-        (λ through. inr ((ap (λ ys. write writes ys t) (sym e ∙ list) ∙ neither_made (names (writes i) t) (write writes (drop (suc at) insns) t) unwritten through.0), through.1))
+        ∙ either (has_register (reads i) t) (not (has_register (writes i) t) && reads_first reads writes (drop (suc at) insns) t)
+        (inr (and_made (has_register (writes i) t) (reads_first reads writes (drop (suc at) insns) t) unwritten later))))
+        (λ through. inr ((ap (λ ys. some_writes writes ys t) (sym e ∙ list) ∙ neither_made (has_register (writes i) t) (some_writes writes (drop (suc at) insns) t) unwritten through.0), through.1))
         (live_rest block (suc at) live insns (drop (suc at) insns) block_is refl)
     live_rest block at (Follows last next block_is end leads live) insns xs insns_is e =
         let same : last ≡ insns = same_Some last insns (sym block_is ∙ insns_is) in
         let none : xs ≡ [] = sym e ∙ ap (λ n. drop n insns) (end ∙ ap length same) ∙ drop_end insns in
         let there = live_block next 0 live in
         inr (
-          ap (λ ys. write writes ys t) none,
+          ap (λ ys. some_writes writes ys t) none,
           record {
             next = next;
             is_next = subst (λ ns. Contains ns next) (sym (next_of block last block_is)) leads;
@@ -223,7 +223,7 @@ module _ {I : Type 0} (reads writes targets : I → List ℕ) (flows_on : I → 
     pub live_in : (block : ℕ) (insns : List I) → slice_get blocks block ≡ Some insns → IsLive block (length insns) → In block
     live_in block insns block_is live = into (live_rest block (length insns) live insns [] block_is (drop_end insns))
       where
-        into : (reads_first reads writes [] t ≡ true) ⊎ ((write writes [] t ≡ false) × In block) → In block
+        into : (reads_first reads writes [] t ≡ true) ⊎ ((some_writes writes [] t ≡ false) × In block) → In block
         into (inl h) = let no : ⊥ = cc in absurd no
         into (inr (h, flows)) = flows
 

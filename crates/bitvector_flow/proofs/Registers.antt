@@ -8,7 +8,7 @@ use Rattle.std.proofs.lemmas.List.Folds.{list_any-append}
 use Rattle.bk_bits.specs.Sets.{has}
 use Rattle.bk_ilist.specs.Listing.{items}
 use Rattle.bitvector_flow.specs.Flows.{AreBounded}
-use Rattle.bitvector_flow.specs.Lives.{names, reads_first, write}
+use Rattle.bitvector_flow.specs.Lives.{has_register, reads_first, some_writes}
 use Rattle.bitvector_flow.specs.model.Blocks.{AreSetsOf, IsPushed, AreBlockSets}
 use Rattle.bitvector_flow.proofs.Unions.{or_false}
 
@@ -19,20 +19,20 @@ or_assoc false b c = refl
 -- ---- one register more
 
 pub names_more : (registers : List ℕ) (i register k : ℕ) → slice_get registers i ≡ Some register →
-    names (take (i + 1) registers) k ≡ (names (take i registers) k || (register == k))
+    has_register (take (i + 1) registers) k ≡ (has_register (take i registers) k || (register == k))
 names_more registers i register k found =
-    ap (λ rs. names rs k) (take_more registers i register (slice_get_within registers i register found))
+    ap (λ rs. has_register rs k) (take_more registers i register (slice_get_within registers i register found))
     ∙ list_any-append (λ r. r == k) (take i registers) (get_or registers i register ∷ [])
-    ∙ ap (λ b. names (take i registers) k || b) (sym (or_false (get_or registers i register == k)))
-    ∙ ap (λ r. names (take i registers) k || (r == k)) (get_or_from_slice_get registers i register register found)
+    ∙ ap (λ b. has_register (take i registers) k || b) (sym (or_false (get_or registers i register == k)))
+    ∙ ap (λ r. has_register (take i registers) k || (r == k)) (get_or_from_slice_get registers i register register found)
 
 pub past_end : {A : Type 0} (xs : List A) (i : ℕ) → slice_get xs i ≡ None → length xs ≤ i
 past_end [] i none = omega arith
 past_end (x ∷ xs) zero none = absurd (none-some x (sym none))
 past_end (x ∷ xs) (suc i) none = let rest = past_end xs i none in omega arith
 
-pub names_all : (registers : List ℕ) (i k : ℕ) → length registers ≤ i → names (take i registers) k ≡ names registers k
-names_all registers i k past = ap (λ rs. names rs k) (take_all i registers past)
+pub names_all : (registers : List ℕ) (i k : ℕ) → length registers ≤ i → has_register (take i registers) k ≡ has_register registers k
+names_all registers i k past = ap (λ rs. has_register rs k) (take_all i registers past)
 
 and_or : (a b c d : Bool) → (a || (not b && (c || d))) ≡ ((a || (not b && c)) || (not b && d))
 and_or true b c d = refl
@@ -40,17 +40,17 @@ and_or false true c d = refl
 and_or false false c d = refl
 
 pub read_more : (registers : List ℕ) (i register k : ℕ) (old now new written : Bool) → slice_get registers i ≡ Some register →
-    now ≡ (old || (not written && names (take i registers) k)) → new ≡ (now || (not written && (register == k))) →
-    new ≡ (old || (not written && names (take (i + 1) registers) k))
+    now ≡ (old || (not written && has_register (take i registers) k)) → new ≡ (now || (not written && (register == k))) →
+    new ≡ (old || (not written && has_register (take (i + 1) registers) k))
 read_more registers i register k old now new written found now_is new_is =
     new_is ∙ ap (λ b. b || (not written && (register == k))) now_is
-    ∙ sym (and_or old written (names (take i registers) k) (register == k))
+    ∙ sym (and_or old written (has_register (take i registers) k) (register == k))
     ∙ ap (λ b. old || (not written && b)) (sym (names_more registers i register k found))
 
 pub write_more : (registers : List ℕ) (i register k : ℕ) (old now new : Bool) → slice_get registers i ≡ Some register →
-    now ≡ (old || names (take i registers) k) → new ≡ (now || (register == k)) → new ≡ (old || names (take (i + 1) registers) k)
+    now ≡ (old || has_register (take i registers) k) → new ≡ (now || (register == k)) → new ≡ (old || has_register (take (i + 1) registers) k)
 write_more registers i register k old now new found now_is new_is =
-    new_is ∙ ap (λ b. b || (register == k)) now_is ∙ or_assoc old (names (take i registers) k) (register == k)
+    new_is ∙ ap (λ b. b || (register == k)) now_is ∙ or_assoc old (has_register (take i registers) k) (register == k)
     ∙ ap (λ b. old || b) (sym (names_more registers i register k found))
 
 -- ---- one instruction more
@@ -62,20 +62,20 @@ step_reads false false nr nw rest = refl
 
 module _ {I : Type 0} (reads writes : I → List ℕ) where
   pub insn_reads : (i : I) (rest all : List (ℕ × I)) (id k : ℕ) (r w r_new w_new whole : Bool) → all ≡ (id, i) ∷ rest →
-      r_new ≡ (r || (not w && names (reads i) k)) → w_new ≡ (w || names (writes i) k) →
+      r_new ≡ (r || (not w && has_register (reads i) k)) → w_new ≡ (w || has_register (writes i) k) →
       (r || (not w && reads_first reads writes (items all) k)) ≡ whole →
       (r_new || (not w_new && reads_first reads writes (items rest) k)) ≡ whole
   insn_reads i rest all id k r w r_new w_new whole is r_is w_is so =
       ap (λ b. b || (not w_new && reads_first reads writes (items rest) k)) r_is
-      ∙ ap (λ b. (r || (not w && names (reads i) k)) || (not b && reads_first reads writes (items rest) k)) w_is
-      ∙ step_reads r w (names (reads i) k) (names (writes i) k) (reads_first reads writes (items rest) k)
+      ∙ ap (λ b. (r || (not w && has_register (reads i) k)) || (not b && reads_first reads writes (items rest) k)) w_is
+      ∙ step_reads r w (has_register (reads i) k) (has_register (writes i) k) (reads_first reads writes (items rest) k)
       ∙ sym (ap (λ ps. r || (not w && reads_first reads writes (items ps) k)) is) ∙ so
 
   pub insn_writes : (i : I) (rest all : List (ℕ × I)) (id k : ℕ) (w w_new whole : Bool) → all ≡ (id, i) ∷ rest →
-      w_new ≡ (w || names (writes i) k) → (w || write writes (items all) k) ≡ whole → (w_new || write writes (items rest) k) ≡ whole
+      w_new ≡ (w || has_register (writes i) k) → (w || some_writes writes (items all) k) ≡ whole → (w_new || some_writes writes (items rest) k) ≡ whole
   insn_writes i rest all id k w w_new whole is w_is so =
-      ap (λ b. b || write writes (items rest) k) w_is ∙ or_assoc w (names (writes i) k) (write writes (items rest) k)
-      ∙ sym (ap (λ ps. w || write writes (items ps) k) is) ∙ so
+      ap (λ b. b || some_writes writes (items rest) k) w_is ∙ or_assoc w (has_register (writes i) k) (some_writes writes (items rest) k)
+      ∙ sym (ap (λ ps. w || some_writes writes (items ps) k) is) ∙ so
 
 pub first_left : {A : Type 0} (P : A → Type 0) (i : A) (rest all : List (ℕ × A)) (id : ℕ) → all ≡ (id, i) ∷ rest → All P (items all) → P i
 first_left P i rest all id is every = All-head P i (items rest) (subst (λ ps. All P (items ps)) is every)
@@ -122,7 +122,7 @@ module _ {I : Type 0} (reads writes : I → List ℕ) (registers : ℕ) where
     firsts_bounded = bounded_push registers blocks b firsts first are.firsts_bounded one.first_bound;
     lasts_bounded = bounded_push registers blocks b lasts last are.lasts_bounded one.last_bound;
     read = pushed_at (λ (s : List Bool) (insns : List I). (k : ℕ) → has s k ≡ reads_first reads writes insns k) [] [] (λ k. refl) firsts blocks are.firsts_bounded.as_many are.read first b one.read;
-    written = pushed_at (λ (s : List Bool) (insns : List I). (k : ℕ) → has s k ≡ write writes insns k) [] [] (λ k. refl) lasts blocks are.lasts_bounded.as_many are.written last b one.written;
+    written = pushed_at (λ (s : List Bool) (insns : List I). (k : ℕ) → has s k ≡ some_writes writes insns k) [] [] (λ k. refl) lasts blocks are.lasts_bounded.as_many are.written last b one.written;
   }
 
   no_sets : AreBlockSets reads writes registers [] [] []

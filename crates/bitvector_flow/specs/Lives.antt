@@ -4,20 +4,20 @@ use Rattle.std.specs.List.{list_any}
 use Rattle.suifvm_ir.specs.Live.{Live}
 use Rattle.bitvector_flow.specs.Flows.{has_at, AreBounded}
 
-abbrev pub names : (registers : List ℕ) → (register : ℕ) → Bool
-names registers register = list_any (λ r. r == register) registers
+abbrev pub has_register : (registers : List ℕ) → (register : ℕ) → Bool
+has_register registers register = list_any (λ r. r == register) registers
 
 module _ {I : Type 0} (reads writes : I → List ℕ) where
   -- instructions read a register before they write it
   abbrev pub reads_first : List I → (register : ℕ) → Bool
   reads_first [] register = false
   reads_first (i ∷ insns) register =
-      names (reads i) register || (not (names (writes i) register) && reads_first insns register)
+      has_register (reads i) register || (not (has_register (writes i) register) && reads_first insns register)
 
 -- one of them writes it
-abbrev pub write : {I : Type 0} → (writes : I → List ℕ) → List I → (register : ℕ) → Bool
-write writes [] register = false
-write writes (i ∷ insns) register = names (writes i) register || write writes insns register
+abbrev pub some_writes : {I : Type 0} → (writes : I → List ℕ) → List I → (register : ℕ) → Bool
+some_writes writes [] register = false
+some_writes writes (i ∷ insns) register = has_register (writes i) register || some_writes writes insns register
 
 -- an instruction reads and writes so few registers that each can be asked for by a number of 32 bits
 abbrev pub HasFewRegisters : {I : Type 0} → (reads writes : I → List ℕ) → I → Type 0

@@ -3,7 +3,7 @@
 ghost use Rattle.std.specs.Prelude.{◌≡◌, ◌<◌, ◌^◌, ◌==◌, ◌&&◌, ◌||◌, not, ℕ, All, length, IfOk, OnOk};
 ghost use Rattle.suifvm_ir.specs.Functions.{AllInsns, UsesRegisters};
 ghost use Rattle.bk_bits.specs.Sets.{has};
-ghost use Rattle.bitvector_flow.specs.Lives.{names, reads_first, write, HasFewRegisters};
+ghost use Rattle.bitvector_flow.specs.Lives.{has_register, reads_first, some_writes, HasFewRegisters};
 ghost use Rattle.bitvector_flow.specs.model.Blocks.{IsPushed, AreBlockSets};
 
 use bk_bits::BitSet;
@@ -46,7 +46,7 @@ fn add_reads<I: Insn>(reads: &mut BitSet, writes: &BitSet, insn: &I)
     requires few { length (I.reads insn.now) < 2 ^ 32 }
     ensures bound { length reads.new ≡ length reads.old }
     ensures members { (k : ℕ) → has reads.new k
-        ≡ (has reads.old k || (not (has writes.now k) && names (I.reads insn.now) k)) }
+        ≡ (has reads.old k || (not (has writes.now k) && has_register (I.reads insn.now) k)) }
 {
     for k in 0..u32::MAX {
         match insn.read_at(k) {
@@ -61,7 +61,7 @@ fn add_writes<I: Insn>(writes: &mut BitSet, insn: &I)
     requires inside { All (λ register. register < length writes.now) (I.writes insn.now) }
     requires few { length (I.writes insn.now) < 2 ^ 32 }
     ensures bound { length writes.new ≡ length writes.old }
-    ensures members { (k : ℕ) → has writes.new k ≡ (has writes.old k || names (I.writes insn.now) k) }
+    ensures members { (k : ℕ) → has writes.new k ≡ (has writes.old k || has_register (I.writes insn.now) k) }
 {
     for k in 0..u32::MAX {
         match insn.write_at(k) {
@@ -80,7 +80,7 @@ fn add_block<I: Insn>(reads: &mut BitSet, writes: &mut BitSet, block: &Block<I>)
     ensures bound_writes { length writes.new ≡ length writes.old }
     ensures reads { (k : ℕ) → has reads.new k
         ≡ (has reads.old k || (not (has writes.old k) && reads_first I.reads I.writes block.now k)) }
-    ensures writes { (k : ℕ) → has writes.new k ≡ (has writes.old k || write I.writes block.now k) }
+    ensures writes { (k : ℕ) → has writes.new k ≡ (has writes.old k || some_writes I.writes block.now k) }
 {
     for line in block.insns.iter() {
         let (_id, insn) = line;
@@ -100,7 +100,7 @@ fn registers_of<I: Insn>(
     ensures bound { IfOk result (λ s. length s.reads ≡ registers) }
     ensures bound_writes { IfOk result (λ s. length s.writes ≡ registers) }
     ensures reads { IfOk result (λ s. (k : ℕ) → has s.reads k ≡ reads_first I.reads I.writes block.now k) }
-    ensures writes { IfOk result (λ s. (k : ℕ) → has s.writes k ≡ write I.writes block.now k) }
+    ensures writes { IfOk result (λ s. (k : ℕ) → has s.writes k ≡ some_writes I.writes block.now k) }
 {
     let mut reads = BitSet::new(alloc, registers)?;
     let mut writes = BitSet::new(alloc, registers)?;

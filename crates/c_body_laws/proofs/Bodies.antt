@@ -7,7 +7,7 @@ use Rattle.c_tree.specs.declared.expressions.Expr.TheBlock as k
 use Rattle.c_typed_tree.specs.declared.types.CType.{CType}
 use Rattle.c_typed_tree.specs.declared.types.StructDef.{StructDef}
 use Rattle.c_typed_tree.specs.Layout.{is_complete}
-use Rattle.c_typed_tree.specs.Typing.{is_type}
+use Rattle.c_typed_tree.specs.Typing.{is_valid_type}
 use Rattle.c_typed_tree.specs.View.{type_view}
 use Rattle.c_typed_tree.specs.model.View.{opens}
 use Rattle.c_typed_tree.specs.Lawful.{IsLawfulStruct}
@@ -21,14 +21,14 @@ use Rattle.c_checks.specs.declared.meanings.Tag.{Tag}
 use Rattle.c_checks.specs.declared.meanings.Tag.TheVariants as g
 use Rattle.c_checks.specs.declared.notes.Notes.{Notes}
 use Rattle.c_checks.specs.Notes.{with_fault}
-use Rattle.c_checks.specs.Scopes.{with_name, stands_here}
-use Rattle.c_judgements.specs.Leaves.{incomplete, tag_named, struct_tagged, tagged_enum}
+use Rattle.c_checks.specs.Scopes.{with_meaning, stands_here}
+use Rattle.c_judgements.specs.Leaves.{incomplete_struct, tag_named, struct_tagged, tagged_enum}
 use Rattle.c_judgements.specs.Types.{JudgementState}
 use Rattle.c_expressions.specs.Expressions.{judge}
 use Rattle.c_tag_bodies.specs.declared.members.Members.{Members}
-use Rattle.c_tag_bodies.specs.Enums.{explicit_value, next, value_held, constant_meaning, constant_declared, constant_row}
-use Rattle.c_tag_bodies.specs.Members.{no_members, is_member, no_member, with_member, with_faulty_member, member_named, member_declared}
-use Rattle.c_tag_bodies.specs.Structs.{DefinedTags, enum_begun, number_of, add_untagged, number_for_tag, no_body, struct_begun, struct_where, tag_name, with_struct, with_untagged, too_large, with_members, complete, struct_ended}
+use Rattle.c_tag_bodies.specs.Enums.{explicit_value, one_above, value_held, constant_meaning, constant_declared, constant_row}
+use Rattle.c_tag_bodies.specs.Members.{no_members, is_member_type, no_member, with_member, with_faulty_member, member_named, member_declared}
+use Rattle.c_tag_bodies.specs.Structs.{DefinedTags, enum_begun, struct_number_of, add_untagged, number_for_tag, no_body, struct_begun, struct_where, tag_name, with_struct, with_untagged, too_large, with_members, finish_struct, struct_ended}
 use Rattle.c_tag_bodies.specs.Bodies.{TagScope, enum_entered, struct_entered, struct_left, type_behind, member_entered, bodies, constants_held, members_held, member_row, declared_type}
 use Rattle.c_judgement_laws.specs.Covers.{AreTagsIn, IsTagIn}
 use Rattle.c_expression_laws.specs.Types.{IsTypeIn}
@@ -48,20 +48,20 @@ use Rattle.c_body_laws.proofs.Types.{judge_env, leads_itself, leads_then, leads_
 value_leads : (at : ℕ) (value : k.Held-Constant-value) (before : Option (Option ℕ)) (s : JudgementState) → LeadsOn s (value_held at value before s).1
 value_leads at k.Constant-value-None' None s = leads_itself s
 value_leads at k.Constant-value-None' (Some before) s =
-    leads_steps s (value_held at k.Constant-value-None' (Some before) s).1 refl (each_adds before (next at) s.1 (λ word. ruled (next_value at word) s.1))
+    leads_steps s (value_held at k.Constant-value-None' (Some before) s).1 refl (each_adds before (one_above at) s.1 (λ word. ruled (next_value at word) s.1))
 value_leads at (k.Constant-value-Some' x) before s =
     let a = judge x s in
     leads_steps s (value_held at (k.Constant-value-Some' x) before s).1 (judge_env x s)
     (NoteSteps.Follows (judge_adds x s) (each_adds a.0 explicit_value a.1.1 (λ v. ruled (given_value v) a.1.1)))
 
-constant_named : (name : List ℕ) (value : Option ℕ) (s : JudgementState) → LeadsOn s (with_name name (constant_meaning value) s.0, s.1)
+constant_named : (name : List ℕ) (value : Option ℕ) (s : JudgementState) → LeadsOn s (with_meaning name (constant_meaning value) s.0, s.1)
 constant_named name None s = record { grow = grow_itself s.1.structs; sound = λ h. record { noted = h.noted; typedefs = (tt, h.typedefs) } }
 constant_named name (Some word) s = record { grow = grow_itself s.1.structs; sound = λ h. record { noted = h.noted; typedefs = (tt, h.typedefs) } }
 
 constant_leads : (at : ℕ) (name : List ℕ) (value : Option ℕ) (s : JudgementState) → LeadsOn s (constant_declared at name value s)
 constant_leads at name value s = choose (stands_here s.0 (find name s.0.names))
   where
-    choose : (b : Bool) → LeadsOn s (if b then (s.0, with_fault at Redeclared s.1) else (with_name name (constant_meaning value) s.0, s.1))
+    choose : (b : Bool) → LeadsOn s (if b then (s.0, with_fault at Redeclared s.1) else (with_meaning name (constant_meaning value) s.0, s.1))
     choose true = leads_steps s (s.0, with_fault at Redeclared s.1) refl (NoteSteps.AddsFault at Redeclared)
     choose false = constant_named name value s
 
@@ -90,8 +90,8 @@ pub record Begins (n : Notes) (r : Option ℕ × Notes) : Type 0 where
 
 begins_untagged : (n : Notes) → Begins n (add_untagged n)
 begins_untagged n =
-    let es = n.structs ++ incomplete [] ∷ [] in
-    let more = grow_more n.structs (incomplete [] ∷ []) in
+    let es = n.structs ++ incomplete_struct [] ∷ [] in
+    let more = grow_more n.structs (incomplete_struct [] ∷ []) in
     record {
       keeps = record {
         grow = more;
@@ -101,7 +101,7 @@ begins_untagged n =
           untagged = untagged_grows (of_structs n.structs) (of_structs es) more n.untagged h.untagged;
         };
       };
-      there = λ h. last_there n.structs (incomplete []);
+      there = λ h. last_there n.structs (incomplete_struct []);
     }
 
 abbrev IsTagAt : List StructDef → Option Tag → Type 0
@@ -117,9 +117,9 @@ tag_found ds name (x ∷ xs) h = of (bytes_eq name x.name) (tag_found ds name xs
     of false rest = rest
 
 number_there : (at : ℕ) (name : List ℕ) (o : Option Tag) (n : Notes) → IsTagAt n.structs o
-    → IfSome (number_of (struct_tagged at name o n).0) (λ number. IsTrue (is_some (slice_get (struct_tagged at name o n).1.structs number)))
+    → IfSome (struct_number_of (struct_tagged at name o n).0) (λ number. IsTrue (is_some (slice_get (struct_tagged at name o n).1.structs number)))
 unfolding opens
-number_there at name None n h = last_there n.structs (incomplete name)
+number_there at name None n h = last_there n.structs (incomplete_struct name)
 number_there at name (Some (g.Struct number)) n h = h
 number_there at name (Some g.Enum) n h = tt
 
@@ -143,7 +143,7 @@ fields_grow : (ds es : List StructDef) (fs : List Field) → Grow ds es → Have
 fields_grow ds es [] g h = tt
 fields_grow ds es (f ∷ fs) g h = (type_stays ds es g (type_view f.ty) h.0, fields_grow ds es fs g h.1)
 
-fields_more : (ds : List StructDef) (fs : List Field) (f : Field) → HaveTypes ds fs → IsTrue (is_type ds (type_view f.ty)) → HaveTypes ds (fs ++ f ∷ [])
+fields_more : (ds : List StructDef) (fs : List Field) (f : Field) → HaveTypes ds fs → IsTrue (is_valid_type ds (type_view f.ty)) → HaveTypes ds (fs ++ f ∷ [])
 fields_more ds [] f h t = (t, tt)
 fields_more ds (x ∷ xs) f h t = (h.0, fields_more ds xs f h.1 t)
 
@@ -152,10 +152,10 @@ pub record Declares (n : Notes) (m : Members) (given : Type 0) (r : Members × N
   pub steps : NoteSteps n r.1
   pub types : given → HaveTypes n.structs m.fields → HaveTypes r.1.structs r.0.fields
 
-member_is_named : (at : ℕ) (name : List ℕ) (m : Members) (o : Option CType) (n : Notes) → Declares n m (IfSome o (λ x. IsTrue (is_type n.structs (type_view x)))) (member_named at name m o n)
+member_is_named : (at : ℕ) (name : List ℕ) (m : Members) (o : Option CType) (n : Notes) → Declares n m (IfSome o (λ x. IsTrue (is_valid_type n.structs (type_view x)))) (member_named at name m o n)
 member_is_named at name m o n = choose (is_some (find name m.names)) o
   where
-    choose : (b : Bool) (o : Option CType) → Declares n m (IfSome o (λ x. IsTrue (is_type n.structs (type_view x)))) (if b then (with_faulty_member m, with_fault at NoMember n) else (with_member name o m, n))
+    choose : (b : Bool) (o : Option CType) → Declares n m (IfSome o (λ x. IsTrue (is_valid_type n.structs (type_view x)))) (if b then (with_faulty_member m, with_fault at NoMember n) else (with_member name o m, n))
     choose true o = record { steps = NoteSteps.AddsFault at NoMember; types = λ t h. h }
     choose false None = record { steps = NoteSteps.Stays; types = λ t h. h }
     choose false (Some x) = record { steps = NoteSteps.Stays; types = λ t h. fields_more n.structs m.fields (record { name = name; ty = x }) h t }
@@ -165,13 +165,13 @@ member_after_fault at name m n given =
     let after = member_is_named at name m None (with_fault at BadType n) in
     record { steps = NoteSteps.Follows (NoteSteps.AddsFault at BadType) after.steps; types = λ t h. after.types tt h }
 
-member_of_type : (at : ℕ) (name : List ℕ) (m : Members) (x : CType) (n : Notes) → Declares n m (IsTrue (is_type n.structs (type_view x))) (member_declared at name m (Some (d.Value x)) n)
-member_of_type at name m x n = choose (is_member n.structs x)
+member_of_type : (at : ℕ) (name : List ℕ) (m : Members) (x : CType) (n : Notes) → Declares n m (IsTrue (is_valid_type n.structs (type_view x))) (member_declared at name m (Some (d.Value x)) n)
+member_of_type at name m x n = choose (is_member_type n.structs x)
   where
-    choose : (b : Bool) → Declares n m (IsTrue (is_type n.structs (type_view x)))
+    choose : (b : Bool) → Declares n m (IsTrue (is_valid_type n.structs (type_view x)))
         (member_named at name m (if b then (Some x, n) else no_member at n).0 (if b then (Some x, n) else no_member at n).1)
     choose true = member_is_named at name m (Some x) n
-    choose false = member_after_fault at name m n (IsTrue (is_type n.structs (type_view x)))
+    choose false = member_after_fault at name m n (IsTrue (is_valid_type n.structs (type_view x)))
 
 member_is_declared : (at : ℕ) (name : List ℕ) (m : Members) (o : Option DeclaredType) (n : Notes) → Declares n m (IfSome o (IsTypeIn (of_structs n.structs))) (member_declared at name m o n)
 member_is_declared at name m None n =
@@ -257,7 +257,7 @@ written_where number tag m structure n made = choose (is_complete (slice_get n.s
     choose true e = ends_keeping n (HaveTypes n.structs m.fields) n (keeps_itself n)
     choose false e = written number tag m structure n made e
 
-completed : (at number : ℕ) (tag : List ℕ) (m : Members) (o : Option StructDef) (n : Notes) → struct_where n.structs tag m.fields ≡ o → Ends n (HaveTypes n.structs m.fields) (complete at number m o n)
+completed : (at number : ℕ) (tag : List ℕ) (m : Members) (o : Option StructDef) (n : Notes) → struct_where n.structs tag m.fields ≡ o → Ends n (HaveTypes n.structs m.fields) (finish_struct at number m o n)
 completed at number tag m (Some structure) n made = written_where number tag m structure n made
 completed at number tag m None n made = choose m.faulty
   where
@@ -277,7 +277,7 @@ struct_ends : (at : ℕ) (tag : Option (List ℕ)) (number : Option ℕ) (m : Me
     → Ends n (HaveTypes n.structs m.fields × IfSome number (λ k. IsTrue (is_some (slice_get n.structs k)))) (struct_ended at tag number m n)
 struct_ends at tag None m n = ends_keeping n _ n (keeps_itself n)
 struct_ends at tag (Some number) m n =
-    untagged_ends at tag number n (complete at number m (struct_where n.structs (tag_name tag) m.fields) n) (HaveTypes n.structs m.fields)
+    untagged_ends at tag number n (finish_struct at number m (struct_where n.structs (tag_name tag) m.fields) n) (HaveTypes n.structs m.fields)
     (completed at number (tag_name tag) m (struct_where n.structs (tag_name tag) m.fields) n refl)
 
 number_stays : (ds es : List StructDef) (number : Option ℕ) → Grow ds es → IfSome number (λ k. IsTrue (is_some (slice_get ds k))) → IfSome number (λ k. IsTrue (is_some (slice_get es k)))

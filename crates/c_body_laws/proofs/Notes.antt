@@ -16,7 +16,7 @@ use Rattle.c_checks.specs.declared.meanings.Tag.{Tag}
 use Rattle.c_checks.specs.declared.meanings.Tag.TheVariants as g
 use Rattle.c_checks.specs.declared.meanings.UntaggedStruct.{UntaggedStruct}
 use Rattle.c_checks.specs.declared.notes.Notes.{Notes}
-use Rattle.c_judgements.specs.Leaves.{incomplete}
+use Rattle.c_judgements.specs.Leaves.{incomplete_struct}
 use Rattle.c_layout_laws.proofs.Truth.{all_at}
 use Rattle.c_judgement_laws.specs.Covers.{AreTagsIn, IsTagIn, IsUntaggedIn, Knows}
 use Rattle.c_expression_laws.specs.Types.{AreTypes, IsTypeIn, IsTypedefIn, HasTypedefs}
@@ -75,10 +75,10 @@ pub keeps_then : (n m o : Notes) → KeepsNoted n m → KeepsNoted m o → Keeps
 keeps_then n m o h g = record { grow = grow_then n.structs m.structs o.structs h.grow g.grow; noted = λ k. g.noted (h.noted k) }
 
 -- a struct of which no member is known comes behind the others
-pub more_lawful : (ds : List StructDef) (name : List ℕ) → All (IsLawfulStruct ds) ds → All (IsLawfulStruct (ds ++ incomplete name ∷ [])) (ds ++ incomplete name ∷ [])
+pub more_lawful : (ds : List StructDef) (name : List ℕ) → All (IsLawfulStruct ds) ds → All (IsLawfulStruct (ds ++ incomplete_struct name ∷ [])) (ds ++ incomplete_struct name ∷ [])
 more_lawful ds name h =
-    let es = ds ++ incomplete name ∷ [] in
-    All-push (IsLawfulStruct es) ds (incomplete name) (structs_grow ds es ds (grow_more ds (incomplete name ∷ [])) h) (incomplete_lawful es name)
+    let es = ds ++ incomplete_struct name ∷ [] in
+    All-push (IsLawfulStruct es) ds (incomplete_struct name) (structs_grow ds es ds (grow_more ds (incomplete_struct name ∷ [])) h) (incomplete_lawful es name)
 
 pub last_there : (ds : List StructDef) (d : StructDef) → IsTrue (is_some (slice_get (ds ++ d ∷ []) (length ds)))
 last_there ds d = is_there (ds ++ d ∷ []) (length ds) (omega (arith, length-append ds (d ∷ [])))
@@ -98,13 +98,13 @@ steps_keep {n = n} (NoteSteps.Aside inner) =
     }
 steps_keep {n = n} (NoteSteps.AddsEnum name) = record { grow = grow_itself n.structs; noted = λ h. record { structs = h.structs; tags = (tt, h.tags); untagged = h.untagged } }
 steps_keep {n = n} (NoteSteps.AddsStruct name) =
-    let es = n.structs ++ incomplete name ∷ [] in
-    let more = grow_more n.structs (incomplete name ∷ []) in
+    let es = n.structs ++ incomplete_struct name ∷ [] in
+    let more = grow_more n.structs (incomplete_struct name ∷ []) in
     record {
       grow = more;
       noted = λ h. record {
         structs = more_lawful n.structs name h.structs;
-        tags = (last_there n.structs (incomplete name), tags_grow (of_structs n.structs) (of_structs es) more n.tags h.tags);
+        tags = (last_there n.structs (incomplete_struct name), tags_grow (of_structs n.structs) (of_structs es) more n.tags h.tags);
         untagged = untagged_grows (of_structs n.structs) (of_structs es) more n.untagged h.untagged;
       };
     }

@@ -29,10 +29,10 @@ abbrev pub each : {A B S : Type 0} → Option A → (A → S → Option B × S) 
 each None k s = (None, s)
 each (Some a) k s = k a s
 
-abbrev pub both : {A B C S : Type 0} → Option A → Option B → (A → B → S → Option C × S) → S → Option C × S
-both None b k s = (None, s)
-both (Some a) None k s = (None, s)
-both (Some a) (Some b) k s = k a b s
+abbrev pub both_parts : {A B C S : Type 0} → Option A → Option B → (A → B → S → Option C × S) → S → Option C × S
+both_parts None b k s = (None, s)
+both_parts (Some a) None k s = (None, s)
+both_parts (Some a) (Some b) k s = k a b s
 
 -- ---- lists
 

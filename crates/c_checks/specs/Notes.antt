@@ -50,8 +50,8 @@ abbrev pub new_text : List ℕ → Notes → ℕ × Notes
 new_text bytes n = (n.first_text + length n.texts, with_taken n.addressed (n.texts ++ bytes ∷ []) n)
 
 -- an operand that is not evaluated takes nothing
-abbrev pub apart : Notes → Notes
-apart n = with_taken [] [] n
+abbrev pub nothing_taken : Notes → Notes
+nothing_taken n = with_taken [] [] n
 
 abbrev pub rejoin : List ℕ → List (List ℕ) → Notes → Notes
 rejoin addressed texts n = with_taken addressed texts n

@@ -9,8 +9,8 @@ use Rattle.c_checks.specs.declared.env.Env.{Env}
 abbrev pub enter : Env → Env
 enter env = record { names = env.names; outside = length env.names }
 
-abbrev pub with_name : List ℕ → NameMeaning → Env → Env
-with_name name meaning env =
+abbrev pub with_meaning : List ℕ → NameMeaning → Env → Env
+with_meaning name meaning env =
     record { names = record { name = name; value = meaning } ∷ env.names; outside = env.outside }
 
 -- the names that were there when the scope was entered

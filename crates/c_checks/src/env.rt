@@ -32,7 +32,7 @@ pub fn declare<'a>(
     name: &'a [u8],
     meaning: NameMeaning,
 ) -> Result<(), AllocError>
-    ensures { OnOk result (env.new ≡ spec.with_name name.now meaning env.old) }
+    ensures { OnOk result (env.new ≡ spec.with_meaning name.now meaning env.old) }
 {
     env.names.push(name, meaning)
 }

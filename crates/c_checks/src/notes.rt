@@ -125,7 +125,7 @@ pub fn add_tag<'a>(notes: &mut Notes<'a>, name: &'a [u8], tag: Tag) -> Result<()
 pub fn keep_apart(alloc: Global, notes: &mut Notes<'_>) -> (Seq<u32>, Seq<Seq<u8>>)
     ensures addressed { result.0 ≡ notes.old.addressed }
     ensures texts { result.1 ≡ notes.old.texts }
-    ensures notes { notes.new ≡ spec.apart notes.old }
+    ensures notes { notes.new ≡ spec.nothing_taken notes.old }
 {
     let addressed = replace(&mut notes.addressed, Seq::new(alloc));
     let texts = replace(&mut notes.texts, Seq::new(alloc));

@@ -19,12 +19,12 @@ use Rattle.c_constant_rules.specs.declared.addresses.Address.{Address}
 
 -- ---- objects
 
-abbrev pub start_of : List StructDef → PlainType → (number : ℕ) → Option Address
-start_of ds ty number =
+abbrev pub start_address : List StructDef → PlainType → (number : ℕ) → Option Address
+start_address ds ty number =
     if is_object ds ty then Some (record { global = number; size = size_of ds ty; plus = 0 }) else None
 
 abbrev pub object_start : List StructDef → Expr → Option Address
-object_start ds (Global ty number) = start_of ds ty number
+object_start ds (Global ty number) = start_address ds ty number
 object_start ds _ = None
 
 -- an array stands for a pointer to its first element
@@ -41,13 +41,13 @@ address_of_operand ds _ x = None
 abbrev pub magnitude : IntegerType → (word : ℕ) → ℕ
 magnitude t word = if is_less t word 0 then 2 ^ 64 - conversion t UnsignedLong word else conversion t UnsignedLong word
 
-abbrev pub forward : Address → (bytes : ℕ) → Option Address
-forward a bytes =
+abbrev pub address_after : Address → (bytes : ℕ) → Option Address
+address_after a bytes =
     if nat_le bytes (a.size - a.plus) then Some (record { global = a.global; size = a.size; plus = a.plus + bytes })
     else None
 
-abbrev pub backward : Address → (bytes : ℕ) → Option Address
-backward a bytes =
+abbrev pub address_before : Address → (bytes : ℕ) → Option Address
+address_before a bytes =
     if nat_le bytes a.plus then Some (record { global = a.global; size = a.size; plus = a.plus - bytes }) else None
 
 -- a negative number turns a step round
@@ -56,7 +56,8 @@ goes_back back t word = not (beq back (is_less t word 0))
 
 abbrev pub step_elements : Address → (size : ℕ) → (back : Bool) → IntegerType → (word : ℕ) → Option Address
 step_elements a size back t word =
-    if goes_back back t word then backward a (size * magnitude t word) else forward a (size * magnitude t word)
+    if goes_back back t word then address_before a (size * magnitude t word)
+    else address_after a (size * magnitude t word)
 
 -- the size of what a pointer points to
 abbrev pub target_size : List StructDef → PlainType → Option ℕ
@@ -88,18 +89,18 @@ moved_either ds None x y a c = None
 moved_either ds (Some back) x y a c =
     if is_pointer (type_of x) then moved_by ds a x back y else moved_by ds c y back x
 
-abbrev pub place : List StructDef → Expr → Option Address
-place ds (Unary ty op x) = address_of_operand ds op x
-place ds (Convert ty x) = named_array ds x
-place ds (Binary ty op x y) = moved_either ds (direction op) x y (place ds x) (place ds y)
-place ds _ = None
+abbrev pub constant_place : List StructDef → Expr → Option Address
+constant_place ds (Unary ty op x) = address_of_operand ds op x
+constant_place ds (Convert ty x) = named_array ds x
+constant_place ds (Binary ty op x y) = moved_either ds (direction op) x y (constant_place ds x) (constant_place ds y)
+constant_place ds _ = None
 
 -- the same, converted to another pointer type at last
 abbrev pub converted_place : List StructDef → (whole operand : Expr) → Option Address
-converted_place ds whole x = if is_pointer (type_of x) then place ds x else place ds whole
+converted_place ds whole x = if is_pointer (type_of x) then constant_place ds x else constant_place ds whole
 
 abbrev pub address_constant : List StructDef → Expr → Option Address
 address_constant ds (Convert ty x) = converted_place ds (Convert ty x) x
-address_constant ds (Unary ty op x) = place ds (Unary ty op x)
-address_constant ds (Binary ty op x y) = place ds (Binary ty op x y)
+address_constant ds (Unary ty op x) = constant_place ds (Unary ty op x)
+address_constant ds (Binary ty op x y) = constant_place ds (Binary ty op x y)
 address_constant ds _ = None

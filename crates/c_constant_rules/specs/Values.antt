@@ -14,8 +14,8 @@ use Rattle.c_type_rules.specs.Rulings.{Ruling, fault}
 use Rattle.c_type_rules.specs.Values.{integer}
 
 -- the value of an integer constant, with its type
-abbrev pub value_of : TypedExpression → Option ℕ
-value_of a = constant (expr_view a.tree)
+abbrev pub constant_of : TypedExpression → Option ℕ
+constant_of a = constant (expr_view a.tree)
 
 -- ---- the length of an array (6.7.5.2), of which none below 1 is one; so one below 0 counts as 0
 
@@ -27,8 +27,8 @@ length_of at None word = fault at NotConstant
 length_of at (Some t) None = fault at NotConstant
 length_of at (Some t) (Some word) = Ok (natural t word)
 
-abbrev pub length : TypedExpression → Ruling ℕ
-length a = length_of a.at (integer a) (value_of a)
+abbrev pub length_value : TypedExpression → Ruling ℕ
+length_value a = length_of a.at (integer a) (constant_of a)
 
 -- ---- the value of an enumeration constant (6.7.2.2), which `int` has
 
@@ -48,7 +48,7 @@ given_of at (Some t) None = fault at NotConstant
 given_of at (Some t) (Some word) = enumeration_value at t word
 
 abbrev pub given_value : TypedExpression → Ruling ℕ
-given_value a = given_of a.at (integer a) (value_of a)
+given_value a = given_of a.at (integer a) (constant_of a)
 
 -- one without a value is 1 above the one before it
 abbrev pub next_of : ℕ → ArithmeticOutcome → Ruling ℕ
@@ -61,10 +61,10 @@ next_value at before = next_of at (sum i.Int before 1)
 
 -- ---- the value of a label, in the promoted type of the operand of its `switch` (6.8.4.2)
 
-abbrev pub label_of : IntegerType → ℕ → Option IntegerType → Option ℕ → Ruling ℕ
-label_of t at None word = fault at NotConstant
-label_of t at (Some s) None = fault at NotConstant
-label_of t at (Some s) (Some word) = Ok (conversion s t word)
+abbrev pub label_value_of : IntegerType → ℕ → Option IntegerType → Option ℕ → Ruling ℕ
+label_value_of t at None word = fault at NotConstant
+label_value_of t at (Some s) None = fault at NotConstant
+label_value_of t at (Some s) (Some word) = Ok (conversion s t word)
 
-abbrev pub label : IntegerType → TypedExpression → Ruling ℕ
-label t a = label_of t a.at (integer a) (value_of a)
+abbrev pub label_value : IntegerType → TypedExpression → Ruling ℕ
+label_value t a = label_value_of t a.at (integer a) (constant_of a)

@@ -25,7 +25,7 @@ pub struct Address {
 
 /// The start of an object of a type.
 fn start_of(structs: &[StructDef], ty: &CType, global: u32) -> Option<Address>
-    ensures { result ≡ spec.start_of structs.now (type_view ty.now) global }
+    ensures { result ≡ spec.start_address structs.now (type_view ty.now) global }
 {
     if is_object(structs, ty) {
         return Some(Address {
@@ -113,7 +113,7 @@ fn magnitude(t: IntegerType, word: u64) -> u128
 
 /// Some bytes further in the object, up to its end.
 fn forward(from: Address, bytes: u128) -> Option<Address>
-    ensures { result ≡ spec.forward from bytes }
+    ensures { result ≡ spec.address_after from bytes }
 {
     if bytes <= u128::from(from.size.saturating_sub(from.plus)) {
         return Some(Address {
@@ -127,7 +127,7 @@ fn forward(from: Address, bytes: u128) -> Option<Address>
 
 /// Some bytes back, down to the start of the object.
 fn backward(from: Address, bytes: u128) -> Option<Address>
-    ensures { result ≡ spec.backward from bytes }
+    ensures { result ≡ spec.address_before from bytes }
 {
     if bytes <= u128::from(from.plus) {
         return Some(Address {
@@ -251,7 +251,7 @@ fn direction(op: BinaryOp) -> Option<bool>
 /// leads to.
 #[tactic(auto, unfolding(c_typed_tree::specs::model::View::opens))]
 fn place(structs: &[StructDef], e: &TExpr) -> Option<Address>
-    ensures { result ≡ spec.place structs.now (expr_view e.now) }
+    ensures { result ≡ spec.constant_place structs.now (expr_view e.now) }
 {
     match e {
         TExpr::Unary { op, operand, .. } => address_of_operand(structs, *op, operand),

@@ -23,7 +23,7 @@ fn natural(t: IntegerType, word: u64) -> u64
 
 /// The length of an array; 0 where it is below 0.
 pub fn length(a: &TypedExpression) -> Result<u64, Refusal>
-    ensures { RuleGives (spec.length a.now) result }
+    ensures { RuleGives (spec.length_value a.now) result }
 {
     match integer_of(&a.ty) {
         None => Err(refuse(a.at, Kind::NotConstant)),
@@ -82,7 +82,7 @@ pub fn next_value(at: u32, before: u64) -> Result<u64, Refusal>
 
 /// The value of a label, converted to the promoted type of the operand of its `switch`.
 pub fn label(t: IntegerType, a: &TypedExpression) -> Result<u64, Refusal>
-    ensures { RuleGives (spec.label t a.now) result }
+    ensures { RuleGives (spec.label_value t a.now) result }
 {
     match integer_of(&a.ty) {
         None => Err(refuse(a.at, Kind::NotConstant)),

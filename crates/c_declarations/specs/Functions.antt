@@ -18,7 +18,7 @@ use Rattle.c_judgements.specs.Leaves.{no_type}
 use Rattle.c_unit_names.specs.declared.names.NameDeclaration.{NameDeclaration}
 use Rattle.c_declarations.specs.declared.walk.UnitSoFar.{UnitSoFar}
 use Rattle.c_declarations.specs.Walk.{UnitWalk, with_notes, declare, is_main, main_checked}
-use Rattle.c_initialisers.specs.Unfit.{unfit}
+use Rattle.c_initialisers.specs.Unfit.{faulty_init}
 
 -- ---- types
 
@@ -31,15 +31,15 @@ abbrev pub function_declared : (has_body : Bool) → DeclaredType → NameDeclar
 function_declared has_body ty = record { is_typedef = false; ty = ty; has_value = has_body }
 
 -- a declaration of a function of this type, if it has no fault
-abbrev pub function_of :
+abbrev pub function_by_type :
     Definitions → ℕ → List ℕ → Option Storage → (has_body : Bool) → Option DeclaredType → UnitWalk → UnitWalk
-function_of ds at name storage has_body None w = declare ds at name None w
-function_of ds at name storage has_body (Some ty) w =
+function_by_type ds at name storage has_body None w = declare ds at name None w
+function_by_type ds at name storage has_body (Some ty) w =
     declare ds at name (Some (function_declared has_body ty)) (with_notes (main_checked storage at name w.1.1) w)
 
 abbrev pub function_with_type :
     Definitions → ℕ → List ℕ → Option Storage → (has_body : Bool) → Option DeclaredType × UnitWalk → UnitWalk
-function_with_type ds at name storage has_body r = function_of ds at name storage has_body r.0 r.1
+function_with_type ds at name storage has_body r = function_by_type ds at name storage has_body r.0 r.1
 
 -- ---- a function has no initialiser
 
@@ -51,7 +51,7 @@ abbrev pub refusal_of : i.Init → Kind
 refusal_of x = if is_list x then BadInit else BadConversion
 
 abbrev pub init_refused : i.Init → JudgementState → JudgementState
-init_refused x s = (unfit (refusal_of x) x s).1
+init_refused x s = (faulty_init (refusal_of x) x s).1
 
 abbrev pub optional_refused : Option i.Init → JudgementState → JudgementState
 optional_refused None s = s

@@ -10,25 +10,25 @@ use Rattle.c_typed_tree.specs.declared.types.CType.{CType}
 use Rattle.c_type_faults.specs.declared.faults.Kind.TheVariants.{BadType}
 use Rattle.c_checks.specs.Checks.{Check, fault}
 use Rattle.c_judgements.specs.Types.{JudgementState}
-use Rattle.c_tag_bodies.specs.Members.{is_member}
+use Rattle.c_tag_bodies.specs.Members.{is_member_type}
 use Rattle.c_unit_names.specs.declared.names.NameDeclaration.{NameDeclaration}
 use Rattle.c_initialisers.specs.Unfit.{judge_init}
 use Rattle.c_initialisers.specs.Initialisers.{object_cells, length_given}
-use Rattle.c_declarations.specs.Walk.{UnitWalk, in_notes, with_state, with_notes, declare, main_checked, with_object, fill}
+use Rattle.c_declarations.specs.Walk.{UnitWalk, in_notes, with_state, with_notes, declare, main_checked, with_unit_object, fill}
 
 -- ---- types: those of members, which are complete and neither too large nor too deep
 
-abbrev pub no_object : ℕ → Check (Option CType)
-no_object at = fault at BadType
+abbrev pub no_object_type : ℕ → Check (Option CType)
+no_object_type at = fault at BadType
 
 abbrev pub object_type : ℕ → CType → Check (Option CType)
-object_type at ty n = if is_member n.structs ty then (Some ty, n) else no_object at n
+object_type at ty n = if is_member_type n.structs ty then (Some ty, n) else no_object_type at n
 
 abbrev pub type_there : ℕ → Option DeclaredType → Check (Option CType)
-type_there at None n = no_object at n
+type_there at None n = no_object_type at n
 type_there at (Some (d.Value ty)) n = object_type at ty n
-type_there at (Some (d.Unsized element)) n = no_object at n
-type_there at (Some (d.Function of parameters)) n = no_object at n
+type_there at (Some (d.Unsized element)) n = no_object_type at n
+type_there at (Some (d.Function of parameters)) n = no_object_type at n
 
 -- an array with the length that its initialiser gives
 abbrev pub array_type : ℕ → (element : CType) → (length : ℕ) → Check (Option CType)
@@ -56,22 +56,22 @@ judged_behind init w = with_state (init_judged init w.1) w
 abbrev pub faulty_object : Definitions → ℕ → List ℕ → Option Init → UnitWalk → UnitWalk
 faulty_object ds at name init w = judged_behind init (declare ds at name None w)
 
-abbrev pub object_of : Definitions → ℕ → List ℕ → Option Storage → Option Init → Option CType → UnitWalk → UnitWalk
-object_of ds at name storage init None w = faulty_object ds at name init w
-object_of ds at name storage init (Some ty) w =
+abbrev pub object_by_type : Definitions → ℕ → List ℕ → Option Storage → Option Init → Option CType → UnitWalk → UnitWalk
+object_by_type ds at name storage init None w = faulty_object ds at name init w
+object_by_type ds at name storage init (Some ty) w =
     init_filled name ty init
-    (with_object name ty
+    (with_unit_object name ty
     (declare ds at name (Some (object_declared ty (is_some init))) (with_notes (main_checked storage at name w.1.1) w)))
 
 abbrev pub object_with_type :
     Definitions → ℕ → List ℕ → Option Storage → Option Init → Option CType × UnitWalk → UnitWalk
-object_with_type ds at name storage init r = object_of ds at name storage init r.0 r.1
+object_with_type ds at name storage init r = object_by_type ds at name storage init r.0 r.1
 
 -- an array without a length has that of its initialiser
 abbrev pub array_object : Definitions → ℕ → List ℕ → Option Storage → Option Init → (element : CType) → UnitWalk →
     UnitWalk
 array_object ds at name storage None element w =
-    object_with_type ds at name storage None (in_notes w (no_object at w.1.1))
+    object_with_type ds at name storage None (in_notes w (no_object_type at w.1.1))
 array_object ds at name storage (Some x) element w =
     object_with_type ds at name storage (Some x) (in_notes w (array_type at element (length_given element x) w.1.1))
 

@@ -22,7 +22,7 @@ use Rattle.c_checks.specs.Scopes.{meaning_of}
 use Rattle.c_judgements.specs.Types.{JudgementState}
 use Rattle.c_unit_names.specs.declared.names.NameDeclaration.{NameDeclaration}
 use Rattle.c_unit_names.specs.declared.names.UnitNames.{UnitNames}
-use Rattle.c_unit_names.specs.UnitNames.{declaration}
+use Rattle.c_unit_names.specs.UnitNames.{judge_declaration}
 use Rattle.c_declarations.specs.declared.walk.UnitSoFar.{UnitSoFar}
 
 abbrev pub UnitWalk : Type 0
@@ -49,7 +49,7 @@ abbrev pub enter_names : UnitNames × JudgementState → UnitWalk → UnitWalk
 enter_names r w = (with_names r.0 w.0, r.1)
 
 abbrev pub declare : Definitions → ℕ → List ℕ → Option NameDeclaration → UnitWalk → UnitWalk
-declare ds at name new w = enter_names (declaration ds at name new w.0.names w.1) w
+declare ds at name new w = enter_names (judge_declaration ds at name new w.0.names w.1) w
 
 -- `main` is no function of one unit alone
 abbrev pub is_static : Option Storage → Bool
@@ -66,12 +66,12 @@ main_checked storage at name n =
 
 -- ---- objects, in the order of their numbers
 
-abbrev pub with_objects : List UnitObject → UnitSoFar → UnitSoFar
-with_objects os u = record { names = u.names; objects = os; functions = u.functions; has_main = u.has_main }
+abbrev pub set_objects : List UnitObject → UnitSoFar → UnitSoFar
+set_objects os u = record { names = u.names; objects = os; functions = u.functions; has_main = u.has_main }
 
 abbrev pub next_object : (is_next : Bool) → List ℕ → CType → UnitSoFar → UnitSoFar
 next_object false name ty u = u
-next_object true name ty u = with_objects (u.objects ++ record { name = name; ty = ty; cells = [] } ∷ []) u
+next_object true name ty u = set_objects (u.objects ++ record { name = name; ty = ty; cells = [] } ∷ []) u
 
 -- what a name means, if it is an object that the unit defines
 abbrev pub object_by : Option NameMeaning → Option ℕ
@@ -84,8 +84,8 @@ object_by (Some (m.Constant word)) = None
 object_by (Some (m.Function callee result parameters)) = None
 object_by (Some (m.Typedef ty)) = None
 
-abbrev pub object_at : Env → List ℕ → Option ℕ
-object_at env name = object_by (meaning_of env name)
+abbrev pub object_number : Env → List ℕ → Option ℕ
+object_number env name = object_by (meaning_of env name)
 
 -- an object stands among them from the declaration on that gives it its number
 abbrev pub add_numbered : Option ℕ → List ℕ → CType → UnitSoFar → UnitSoFar
@@ -93,28 +93,28 @@ add_numbered None name ty u = u
 add_numbered (Some number) name ty u = next_object (number == length u.objects) name ty u
 
 abbrev pub add_object : Env → List ℕ → CType → UnitSoFar → UnitSoFar
-add_object env name ty u = add_numbered (object_at env name) name ty u
+add_object env name ty u = add_numbered (object_number env name) name ty u
 
-abbrev pub with_object : List ℕ → CType → UnitWalk → UnitWalk
-with_object name ty w = (add_object w.1.0 name ty w.0, w.1)
+abbrev pub with_unit_object : List ℕ → CType → UnitWalk → UnitWalk
+with_unit_object name ty w = (add_object w.1.0 name ty w.0, w.1)
 
 -- ---- what initialisers give
 
 abbrev pub fill_numbered : Option ℕ → List DataCell → UnitSoFar → UnitSoFar
 fill_numbered None cells u = u
-fill_numbered (Some number) cells u = with_objects (set_cells number cells u.objects) u
+fill_numbered (Some number) cells u = set_objects (set_cells number cells u.objects) u
 
 abbrev pub keep_cells : Env → List ℕ → Option (List DataCell) → UnitSoFar → UnitSoFar
 keep_cells env name None u = u
-keep_cells env name (Some cells) u = fill_numbered (object_at env name) cells u
+keep_cells env name (Some cells) u = fill_numbered (object_number env name) cells u
 
 abbrev pub fill : List ℕ → UnitSoFar → Option (List DataCell) × JudgementState → UnitWalk
 fill name u r = (keep_cells r.1.0 name r.0 u, r.1)
 
 -- ---- functions, in the order of their bodies
 
-abbrev pub with_function : (number : ℕ) → TypedFn → UnitSoFar → UnitSoFar
-with_function number f u = record {
+abbrev pub with_unit_function : (number : ℕ) → TypedFn → UnitSoFar → UnitSoFar
+with_unit_function number f u = record {
   names = u.names;
   objects = u.objects;
   functions = u.functions ++ record { number = number; function = f } ∷ [];
@@ -141,7 +141,7 @@ function_at env name = function_by (meaning_of env name)
 
 abbrev pub add_function : Option ℕ → TypedFn → UnitSoFar → UnitSoFar
 add_function None f u = u
-add_function (Some number) f u = with_function number f u
+add_function (Some number) f u = with_unit_function number f u
 
 abbrev pub keep_function : Env → List ℕ → Option TypedFn → UnitSoFar → UnitSoFar
 keep_function env name None u = u

@@ -66,7 +66,7 @@ pub fn declare_function<'a>(
     ty: Option<DeclaredType>,
 ) -> Result<(), AllocError>
     ensures { OnOk result ((unit.new, (env.new, notes.new))
-        ≡ spec.function_of definitions.now at name.now storage has_body ty (unit.old, (env.old, notes.old))) }
+        ≡ spec.function_by_type definitions.now at name.now storage has_body ty (unit.old, (env.old, notes.old))) }
 {
     match ty {
         None => declare(alloc, definitions, unit, env, notes, at, name, None),

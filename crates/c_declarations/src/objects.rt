@@ -4,7 +4,7 @@ ghost use Rattle.std.specs.Prelude.{◌≡◌, OnOk, Some};
 ghost use Rattle.c_checks.specs.Checks.{Finds};
 ghost use Rattle.c_declarations.specs.Objects as spec;
 ghost use Rattle.c_declarations.specs.Walk.{declare};
-ghost use Rattle.c_initialisers.specs.Unfit.{judge_init, unfit};
+ghost use Rattle.c_initialisers.specs.Unfit.{judge_init, faulty_init};
 
 use crate::walk::{UnitSoFar, add_object, check_main, declare, keep_cells};
 use c_checks::{Env, Notes, note};
@@ -19,7 +19,7 @@ use c_unit_names::NameDeclaration;
 use std::alloc::{AllocError, Global};
 
 fn no_object(notes: &mut Notes<'_>, at: u32) -> Result<Option<CType>, AllocError>
-    ensures { Finds (spec.no_object at notes.old) result notes.new }
+    ensures { Finds (spec.no_object_type at notes.old) result notes.new }
 {
     note(notes, at, Kind::BadType)?;
     Ok(None)
@@ -102,7 +102,7 @@ pub(crate) fn refuse_init<'a>(
     kind: Kind,
     init: &'a Init,
 ) -> Result<(), AllocError>
-    ensures { OnOk result ((env.new, notes.new) ≡ (unfit kind init.now (env.old, notes.old)).1) }
+    ensures { OnOk result ((env.new, notes.new) ≡ (faulty_init kind init.now (env.old, notes.old)).1) }
 {
     unfit(alloc, kind, init, env, notes)?;
     Ok(())
@@ -188,7 +188,7 @@ fn declare_object<'a>(
     ty: Option<CType>,
 ) -> Result<(), AllocError>
     ensures { OnOk result ((unit.new, (env.new, notes.new))
-        ≡ spec.object_of definitions.now at name.now storage init.now ty (unit.old, (env.old, notes.old))) }
+        ≡ spec.object_by_type definitions.now at name.now storage init.now ty (unit.old, (env.old, notes.old))) }
 {
     match ty {
         None => declare_faulty(alloc, definitions, unit, env, notes, at, name, init),

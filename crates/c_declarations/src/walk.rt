@@ -117,7 +117,7 @@ fn object_by(meaning: Option<&NameMeaning>) -> Option<u32>
 
 /// The number of the object that a name means, if it is one that the unit defines.
 fn object_at(env: &Env<'_>, name: &[u8]) -> Option<u32>
-    ensures { result ≡ spec.object_at env.now name.now }
+    ensures { result ≡ spec.object_number env.now name.now }
 {
     object_by(meaning_of(env, name))
 }

@@ -37,10 +37,10 @@ parameter_value (t.Pointer' _ (t.more_of-CType x t.end_of-CType)) = Some (t.Poin
 parameter_value (t.Array' _ (t.more_of-CType x t.end_of-CType) length) = Some (t.Pointer x)
 parameter_value (t.Struct number) = None
 
-abbrev pub parameter_of : DeclaredType → Option t.CType
-parameter_of (d.Value ty) = parameter_value ty
-parameter_of (d.Unsized element) = Some (t.Pointer element)
-parameter_of (d.Function of parameters) = None
+abbrev pub adjusted_parameter : DeclaredType → Option t.CType
+adjusted_parameter (d.Value ty) = parameter_value ty
+adjusted_parameter (d.Unsized element) = Some (t.Pointer element)
+adjusted_parameter (d.Function of parameters) = None
 
 -- the result of a function is void or a scalar
 abbrev pub function_with : t.CType → List t.CType → Option DeclaredType

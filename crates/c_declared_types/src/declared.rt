@@ -89,7 +89,7 @@ pub fn array_of(
 /// The type of a parameter, of which an array becomes a pointer to its first element (C99 6.7.5.3); `None` where it is
 /// no scalar then.
 pub fn parameter_of(alloc: Global, ty: DeclaredType) -> Result<Option<CType>, AllocError>
-    ensures { IfOk result (λ r. r ≡ spec.parameter_of ty) }
+    ensures { IfOk result (λ r. r ≡ spec.adjusted_parameter ty) }
 {
     match ty {
         DeclaredType::Value(ty) => parameter_value(alloc, ty),

@@ -17,23 +17,23 @@ abbrev pub NameSet : Type 0
 NameSet = List (Entry (Unit {0}))
 
 -- a name is counted once
-abbrev pub with_name : List ℕ → NameSet → NameSet
-with_name name ns = if is_some (find name ns) then ns else record { name = name; value = tt } ∷ ns
+abbrev pub add_to_names : List ℕ → NameSet → NameSet
+add_to_names name ns = if is_some (find name ns) then ns else record { name = name; value = tt } ∷ ns
 
 abbrev pub nothing_defined : Definitions
 nothing_defined = record { function_types = []; functions = []; objects = [] }
 
 abbrev pub with_function_type : List ℕ → Definitions → Definitions
 with_function_type name d =
-    record { function_types = with_name name d.function_types; functions = d.functions; objects = d.objects }
+    record { function_types = add_to_names name d.function_types; functions = d.functions; objects = d.objects }
 
 abbrev pub with_function : List ℕ → Definitions → Definitions
 with_function name d =
-    record { function_types = d.function_types; functions = with_name name d.functions; objects = d.objects }
+    record { function_types = d.function_types; functions = add_to_names name d.functions; objects = d.objects }
 
 abbrev pub with_object : List ℕ → Definitions → Definitions
 with_object name d =
-    record { function_types = d.function_types; functions = d.functions; objects = with_name name d.objects }
+    record { function_types = d.function_types; functions = d.functions; objects = add_to_names name d.objects }
 
 -- a function type is spelled by a list of parameters, or by a typedef name of one (6.7.5.3, 6.7.7)
 unfoldable pub is_function : (function_types : NameSet) → t.TypeNode → Bool
@@ -67,16 +67,16 @@ function_seen e f.Nothing d = d
 function_seen e (f.Init value) d = d
 function_seen e (f.Body statements) d = with_function e.name d
 
-abbrev pub see : External → Definitions → Definitions
-see (x.Typedef e) d = typedef_seen e d
-see (x.Object e storage init) d = object_seen e storage init d
-see (x.Function e storage end) d = function_seen e end d
-see (x.Tags storage ty) d = d
+abbrev pub add_external : External → Definitions → Definitions
+add_external (x.Typedef e) d = typedef_seen e d
+add_external (x.Object e storage init) d = object_seen e storage init d
+add_external (x.Function e storage end) d = function_seen e end d
+add_external (x.Tags storage ty) d = d
 
 -- what a list of externals defines, besides what those before it do
 abbrev pub defined_behind : List External → Definitions → Definitions
 defined_behind [] d = d
-defined_behind (e ∷ es) d = defined_behind es (see e d)
+defined_behind (e ∷ es) d = defined_behind es (add_external e d)
 
 abbrev pub definitions : List External → Definitions
 definitions es = defined_behind es nothing_defined

@@ -26,7 +26,7 @@ fn has(names: &NameTable<'_, ()>, name: &[u8]) -> bool
 }
 
 fn add_name<'a>(names: &mut NameTable<'a, ()>, name: &'a [u8]) -> Result<(), AllocError>
-    ensures { OnOk result (names.new ≡ spec.with_name name.now names.old) }
+    ensures { OnOk result (names.new ≡ spec.add_to_names name.now names.old) }
 {
     if has(names, name) {
         return Ok(());
@@ -105,7 +105,7 @@ fn see_function<'a>(
 }
 
 fn see<'a>(found: &mut Definitions<'a>, external: &'a External) -> Result<(), AllocError>
-    ensures { OnOk result (found.new ≡ spec.see external.now found.old) }
+    ensures { OnOk result (found.new ≡ spec.add_external external.now found.old) }
 {
     match external {
         External::Typedef(declaration) => see_typedef(found, declaration),

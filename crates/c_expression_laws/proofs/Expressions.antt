@@ -7,18 +7,18 @@ use Rattle.c_typed_tree.specs.declared.types.CType.{CType}
 use Rattle.c_typed_tree.specs.Typing.{Context}
 use Rattle.c_declared_types.specs.declared.declared.DeclaredType.{DeclaredType}
 use Rattle.c_type_rules.specs.declared.typed.TypedExpression.{TypedExpression}
-use Rattle.c_constant_rules.specs.Values.{length}
+use Rattle.c_constant_rules.specs.Values.{length_value}
 use Rattle.c_checks.specs.declared.env.Env.{Env}
 use Rattle.c_checks.specs.declared.notes.Notes.{Notes}
 use Rattle.c_checks.specs.Checks.{each, append_part}
-use Rattle.c_checks.specs.Notes.{apart}
+use Rattle.c_checks.specs.Notes.{nothing_taken}
 use Rattle.c_checks.specs.Scopes.{enter, leave, meaning_of}
-use Rattle.c_judgements.specs.Operators.{apply_prefix, between, assignment, element, cast, size_of_name, behind}
+use Rattle.c_judgements.specs.Operators.{apply_prefix, binary_check, assignment_check, subscript_check, cast_check, size_of_name, postfix_check}
 use Rattle.c_judgements.specs.Names.{name_of}
 use Rattle.c_judgements.specs.Members.{field_named, arrow_named}
 use Rattle.c_judgements.specs.Texts.{string}
 use Rattle.c_judgements.specs.Leaves.{leaf}
-use Rattle.c_judgements.specs.Types.{JudgementState, within, pointer, given_length, array, function, type_named, parameter_declared}
+use Rattle.c_judgements.specs.Types.{JudgementState, in_env, pointer, given_length, array, function, type_named, parameter_declared}
 use Rattle.c_primary_rules.specs.Primary.{integer_constant, character_constant}
 use Rattle.c_checks.specs.Checks.{note_fault}
 use Rattle.c_expressions.specs.Expressions.{judge, judge_row, derive, length_held, parameter_row}
@@ -56,7 +56,7 @@ module _ (c : Context) (lawful : IsLawfulContext c) where
 
   -- a type name: its specifier, then its declarator
   type_name_walk : (names : Type 0) (place : ℕ) (s : JudgementState) (n : Notes) (o : Option DeclaredType) (u : JudgementState) → Later c s.1 n → Walks c names (IsFoundType c) (s.0, n) (o, u)
-      → Walks c names (λ taken x. IsFitType c x) s (within u.0 (each o (type_named place) u.1))
+      → Walks c names (λ taken x. IsFitType c x) s (in_env u.0 (each o (type_named place) u.1))
   type_name_walk names place s n o u later h =
       walk_one c names (IsFoundType c) (λ taken x. IsFitType c x) s o u (type_named place) (walk_after c names (IsFoundType c) s n (o, u) later h) (λ a f. name_found c names place a u.1 f)
 
@@ -77,13 +77,13 @@ module _ (c : Context) (lawful : IsLawfulContext c) where
         let u = (judge x s).1 in
         let one = judge_walks names x s h d in
         let two = judge_walks names y u (names_after names (IsJudged c) s (judge x s) one h) (typedefs_after names (IsJudged c) s (judge x s) one d) in
-        walk_two c names (IsJudged c) (IsJudged c) (IsJudged c) s (judge x s).0 u (judge y u).0 (judge y u).1 (between at op) (judged_stays c) one two
+        walk_two c names (IsJudged c) (IsJudged c) (IsJudged c) s (judge x s).0 u (judge y u).0 (judge y u).1 (binary_check at op) (judged_stays c) one two
         (λ a b f l. between_judged c lawful names at op a b (judge y u).1.1 f l)
     judge_walks names (e.Assign' at op _ (k.more_of-Expr x k.end_of-Expr) _ (k.more_of-Expr y k.end_of-Expr)) s h d =
         let u = (judge x s).1 in
         let one = judge_walks names x s h d in
         let two = judge_walks names y u (names_after names (IsJudged c) s (judge x s) one h) (typedefs_after names (IsJudged c) s (judge x s) one d) in
-        walk_two c names (IsJudged c) (IsJudged c) (IsJudged c) s (judge x s).0 u (judge y u).0 (judge y u).1 (assignment at op) (judged_stays c) one two
+        walk_two c names (IsJudged c) (IsJudged c) (IsJudged c) s (judge x s).0 u (judge y u).0 (judge y u).1 (assignment_check at op) (judged_stays c) one two
         (λ a b f l. assignment_judged c lawful names at op a b (judge y u).1.1 f l)
     judge_walks names (e.Conditional' at _ (k.more_of-Expr x k.end_of-Expr) _ (k.more_of-Expr y k.end_of-Expr) _ (k.more_of-Expr z k.end_of-Expr)) s h d =
         let u = (judge x s).1 in
@@ -99,32 +99,32 @@ module _ (c : Context) (lawful : IsLawfulContext c) where
         let specified = leaf s.0 place ty s.1 in
         let specifier = leaf_found c names s.0 place ty s.1 d in
         let r = derive place ty specified.0 (s.0, specified.1) in
-        let to = within r.1.0 (each r.0 (type_named place) r.1.1) in
+        let to = in_env r.1.0 (each r.0 (type_named place) r.1.1) in
         let one = type_name_walk names place s specified.1 r.0 r.1 (later_of c names (IsFoundType c) s.1 specified specifier) (derive_walks names place ty specified.0 (s.0, specified.1) d specifier.found) in
         let two = judge_walks names x to.1 (names_after names (λ taken x. IsFitType c x) s to one h) (typedefs_after names (λ taken x. IsFitType c x) s to one d) in
-        walk_two c names (λ taken x. IsFitType c x) (IsJudged c) (IsJudged c) s to.0 to.1 (judge x to.1).0 (judge x to.1).1 (cast at) (λ taken later a back f. f) one two
+        walk_two c names (λ taken x. IsFitType c x) (IsJudged c) (IsJudged c) s to.0 to.1 (judge x to.1).0 (judge x to.1).1 (cast_check at) (λ taken later a back f. f) one two
         (λ a b f l. cast_judged c lawful names at a b (judge x to.1).1.1 f l)
     judge_walks names (e.SizeOfValue' at _ (k.more_of-Expr x k.end_of-Expr)) s h d =
-        size_walk c lawful names at s (judge x (s.0, apart s.1)).0 (judge x (s.0, apart s.1)).1 (judge_walks names x (s.0, apart s.1) h d)
+        size_walk c lawful names at s (judge x (s.0, nothing_taken s.1)).0 (judge x (s.0, nothing_taken s.1)).1 (judge_walks names x (s.0, nothing_taken s.1) h d)
     judge_walks names (e.SizeOfType' at _ (k.more_of-TypeName place ty k.end_of-TypeName)) s h d =
         let specified = leaf s.0 place ty s.1 in
         let specifier = leaf_found c names s.0 place ty s.1 d in
         let r = derive place ty specified.0 (s.0, specified.1) in
-        let to = within r.1.0 (each r.0 (type_named place) r.1.1) in
+        let to = in_env r.1.0 (each r.0 (type_named place) r.1.1) in
         let one = type_name_walk names place s specified.1 r.0 r.1 (later_of c names (IsFoundType c) s.1 specified specifier) (derive_walks names place ty specified.0 (s.0, specified.1) d specifier.found) in
         walk_one c names (λ taken x. IsFitType c x) (IsJudged c) s to.0 to.1 (size_of_name at) one (λ a f. size_name_judged c lawful names at a to.1.1 f)
     judge_walks names (e.Index' at _ (k.more_of-Expr x k.end_of-Expr) _ (k.more_of-Expr y k.end_of-Expr)) s h d =
         let u = (judge x s).1 in
         let one = judge_walks names x s h d in
         let two = judge_walks names y u (names_after names (IsJudged c) s (judge x s) one h) (typedefs_after names (IsJudged c) s (judge x s) one d) in
-        walk_two c names (IsJudged c) (IsJudged c) (IsJudged c) s (judge x s).0 u (judge y u).0 (judge y u).1 (element at) (judged_stays c) one two
+        walk_two c names (IsJudged c) (IsJudged c) (IsJudged c) s (judge x s).0 u (judge y u).0 (judge y u).1 (subscript_check at) (judged_stays c) one two
         (λ a b f l. element_judged c lawful names at a b (judge y u).1.1 f l)
     judge_walks names (e.Field' at _ (k.more_of-Expr x k.end_of-Expr) name) s h d =
         walk_one c names (IsJudged c) (IsJudged c) s (judge x s).0 (judge x s).1 (field_named at name) (judge_walks names x s h d) (λ a f. field_judged c lawful names at name a (judge x s).1.1 f)
     judge_walks names (e.Arrow' at _ (k.more_of-Expr x k.end_of-Expr) name) s h d =
         walk_one c names (IsJudged c) (IsJudged c) s (judge x s).0 (judge x s).1 (arrow_named at name) (judge_walks names x s h d) (λ a f. arrow_judged c lawful names at name a (judge x s).1.1 f)
     judge_walks names (e.Postfix' at op _ (k.more_of-Expr x k.end_of-Expr)) s h d =
-        walk_one c names (IsJudged c) (IsJudged c) s (judge x s).0 (judge x s).1 (behind at op) (judge_walks names x s h d) (λ a f. behind_judged c lawful names at op a (judge x s).1.1 f)
+        walk_one c names (IsJudged c) (IsJudged c) s (judge x s).0 (judge x s).1 (postfix_check at op) (judge_walks names x s h d) (λ a f. behind_judged c lawful names at op a (judge x s).1.1 f)
     judge_walks names (e.Comma' at _ operands) s h d =
         comma_walk c lawful names at s (judge_row operands (Some []) s).0 (judge_row operands (Some []) s).1
         (judge_row_walks names operands (Some []) s h d (λ v k. tt))
@@ -168,7 +168,7 @@ module _ (c : Context) (lawful : IsLawfulContext c) where
     length_walks names (k.TypeNode-Array-1-Some' _ (k.more_of-Expr x k.end_of-Expr)) s =
         let r = judge x s in
         walk_one c names (λ taken a. Unit {0}) IsLength s r.0 r.1 given_length
-        (walk_any c names (IsJudged c) s r.0 r.1 (judge_walks ⊥ x s (λ v. absurd v) (λ v. absurd v))) (λ a f. given_found c names (length a) r.1.1)
+        (walk_any c names (IsJudged c) s r.0 r.1 (judge_walks ⊥ x s (λ v. absurd v) (λ v. absurd v))) (λ a f. given_found c names (length_value a) r.1.1)
 
     pub parameter_row_walks : (names : Type 0) {m : _} (xs : k.Row_of-Parameter m) (found : Option (List CType)) (s : JudgementState) → (names → HasTypedefs c s.0.names)
         → (names → Knows c s.1 → IfSome found (AreTypes c.structs)) → Declares c names (AreParameters c) s (parameter_row xs found s)

@@ -2,11 +2,11 @@
 use Rattle.std.proofs.Common.{◌≡◌, ℕ, zero, suc, ◌+◌, ◌-◌, Bool, true, false, IsTrue, List, [], ◌∷◌, ◌++◌, length, drop, Option, Some, None, Ok, Err, IfSome, refl, sym, ap, ◌∙◌, subst, if◌then◌else◌, arith, option_map, append_assoc, length-append}
 use Rattle.c_typed_tree.specs.declared.types.CType.{CType}
 use Rattle.c_typed_tree.specs.View.{type_view}
-use Rattle.c_typed_tree.specs.Typing.{Context, is_type, most_depth}
+use Rattle.c_typed_tree.specs.Typing.{Context, is_valid_type, most_depth}
 use Rattle.c_declared_types.specs.declared.declared.DeclaredType.{DeclaredType}
 use Rattle.c_type_rules.specs.declared.typed.TypedExpression.{TypedExpression}
 use Rattle.c_type_rules.specs.Rulings.{Ruling}
-use Rattle.c_declared_types.specs.Declarators.{parameter_of}
+use Rattle.c_declared_types.specs.Declarators.{adjusted_parameter}
 use Rattle.c_declared_types.specs.Depth.{is_deep_at_most}
 use Rattle.c_type_faults.specs.declared.faults.Kind.TheVariants.{BadType, Redeclared}
 use Rattle.c_scopes.specs.Names.{Entry, find, oldest}
@@ -14,11 +14,11 @@ use Rattle.c_checks.specs.declared.env.Env.{Env}
 use Rattle.c_checks.specs.declared.meanings.NameMeaning.{NameMeaning}
 use Rattle.c_checks.specs.declared.notes.Notes.{Notes}
 use Rattle.c_checks.specs.Checks.{pure, and_then, each, append_part, note_fault}
-use Rattle.c_checks.specs.Notes.{apart, rejoin, with_fault}
-use Rattle.c_checks.specs.Scopes.{enter, leave, with_name, meaning_of, stands_here}
+use Rattle.c_checks.specs.Notes.{nothing_taken, rejoin, with_fault}
+use Rattle.c_checks.specs.Scopes.{enter, leave, with_meaning, meaning_of, stands_here}
 use Rattle.c_judgements.specs.Operators.{size_of_value, commas}
 use Rattle.c_judgements.specs.Calls.{call_by_meaning}
-use Rattle.c_judgements.specs.Types.{JudgementState, within, no_parameter, within_depth, parameter_type, parameter_meaning, declared_parameter, parameter_declared}
+use Rattle.c_judgements.specs.Types.{JudgementState, in_env, no_parameter, within_depth, parameter_type, parameter_meaning, declared_parameter, parameter_declared}
 use Rattle.c_judgement_laws.specs.Covers.{is_whole, HasNames, HaveTexts, Knows, Takes, IsLawfulContext, IsJudged, AreJudged, Judges}
 use Rattle.c_judgement_laws.proofs.Notes.{Later, later_itself, later_fault, found_itself, found_none, found_later, found_fault}
 use Rattle.c_judgement_laws.proofs.Forms.{size_judged, commas_judged}
@@ -74,7 +74,7 @@ left env later h =
     ap (λ ns. record { names = ns; outside = env.outside })
     (ap (λ o. oldest o later.names) h.outside ∙ (ap (oldest (length env.names)) h.names ∙ oldest_of h.more env.names))
 
-typedefs_more : (c : Context) (name : List ℕ) (of : Option CType) (env : Env) → HasTypedefs c env.names → HasTypedefs c (with_name name (parameter_meaning of) env).names
+typedefs_more : (c : Context) (name : List ℕ) (of : Option CType) (env : Env) → HasTypedefs c env.names → HasTypedefs c (with_meaning name (parameter_meaning of) env).names
 typedefs_more c name None env h = (tt, h)
 typedefs_more c name (Some x) env h = (tt, h)
 
@@ -85,16 +85,16 @@ pub record Declares (c : Context) (names : Type 0) {A : Type 0} (P : Type 0 → 
   pub notes : Judges c names P s.1 (r.0, r.1.1)
 
 abbrev pub IsParameter : Context → Type 0 → CType → Type 0
-IsParameter c taken x = IsTrue (is_type c.structs (type_view x))
+IsParameter c taken x = IsTrue (is_valid_type c.structs (type_view x))
 
 abbrev pub AreParameters : Context → Type 0 → List CType → Type 0
 AreParameters c taken xs = AreTypes c.structs xs
 
-more_types : (c : Context) (xs : List CType) (x : CType) → AreTypes c.structs xs → IsTrue (is_type c.structs (type_view x)) → AreTypes c.structs (xs ++ x ∷ [])
+more_types : (c : Context) (xs : List CType) (x : CType) → AreTypes c.structs xs → IsTrue (is_valid_type c.structs (type_view x)) → AreTypes c.structs (xs ++ x ∷ [])
 more_types c [] x h g = (g, tt)
 more_types c (y ∷ ys) x h g = (h.0, more_types c ys x h.1 g)
 
-pub parameter_more : (c : Context) (found : Option (List CType)) (q : Option CType) → IfSome found (AreTypes c.structs) → IfSome q (λ x. IsTrue (is_type c.structs (type_view x))) → IfSome (append_part found q) (AreTypes c.structs)
+pub parameter_more : (c : Context) (found : Option (List CType)) (q : Option CType) → IfSome found (AreTypes c.structs) → IfSome q (λ x. IsTrue (is_valid_type c.structs (type_view x))) → IfSome (append_part found q) (AreTypes c.structs)
 parameter_more c None q h g = tt
 parameter_more c (Some xs) None h g = tt
 parameter_more c (Some xs) (Some x) h g = more_types c xs x h g
@@ -112,7 +112,7 @@ extends_then a b d h g = record {
 module _ (c : Context) (names : Type 0) where
   -- ---- one parameter
 
-  within_found : (at : ℕ) (o : Option CType) (n : Notes) → (names → Knows c n → IfSome o (λ x. IsTrue (is_type c.structs (type_view x)))) → Judges c names (IsParameter c) n (within_depth at o n)
+  within_found : (at : ℕ) (o : Option CType) (n : Notes) → (names → Knows c n → IfSome o (λ x. IsTrue (is_valid_type c.structs (type_view x)))) → Judges c names (IsParameter c) n (within_depth at o n)
   within_found at None n h = found_fault c names (IsParameter c) at _ n
   within_found at (Some x) n h = choose (is_deep_at_most n.structs most_depth x)
     where
@@ -122,9 +122,9 @@ module _ (c : Context) (names : Type 0) where
 
   parameter_found : (at : ℕ) (of : Option DeclaredType) (n : Notes) → (names → Knows c n → IfSome of (IsTypeIn c)) → Judges c names (IsParameter c) n (each of (parameter_type at) n)
   parameter_found at None n h = found_none c names (IsParameter c) n n (later_itself c n)
-  parameter_found at (Some x) n h = within_found at (parameter_of x) n (λ v k. parameter_typed c x (h v k))
+  parameter_found at (Some x) n h = within_found at (adjusted_parameter x) n (λ v k. parameter_typed c x (h v k))
 
-  declared_found : (at : ℕ) (name : Option (List ℕ)) (q : Option CType) (s : JudgementState) → (names → Knows c s.1 → IfSome q (λ x. IsTrue (is_type c.structs (type_view x)))) → Declares c names (IsParameter c) s (declared_parameter at name q s)
+  declared_found : (at : ℕ) (name : Option (List ℕ)) (q : Option CType) (s : JudgementState) → (names → Knows c s.1 → IfSome q (λ x. IsTrue (is_valid_type c.structs (type_view x)))) → Declares c names (IsParameter c) s (declared_parameter at name q s)
   declared_found at None q s h = record {
     env = extends_same s.0 s.0 refl;
     typedefs = λ d. d;
@@ -132,7 +132,7 @@ module _ (c : Context) (names : Type 0) where
   }
   declared_found at (Some name) q s h = choose (stands_here s.0 (find name s.0.names))
     where
-      choose : (b : Bool) → Declares c names (IsParameter c) s (if b then within s.0 (no_parameter at Redeclared s.1) else (q, (with_name name (parameter_meaning q) s.0, s.1)))
+      choose : (b : Bool) → Declares c names (IsParameter c) s (if b then in_env s.0 (no_parameter at Redeclared s.1) else (q, (with_meaning name (parameter_meaning q) s.0, s.1)))
       choose true = record { env = extends_same s.0 s.0 refl; typedefs = λ d. d; notes = found_fault c names (IsParameter c) at Redeclared s.1 }
       choose false = record {
         env = record { more = record { name = name; value = parameter_meaning q } ∷ []; names = refl; outside = refl };
@@ -161,7 +161,7 @@ module _ (c : Context) (names : Type 0) where
   given_found (Err f) n = found_none c names (λ taken a. Unit {0}) n (with_fault f.at f.kind n) (later_fault c f.at f.kind n)
 
 module _ (c : Context) (lawful : IsLawfulContext c) (names : Type 0) where
-  pub comma_walk : (at : ℕ) (s : JudgementState) (o : Option (List TypedExpression)) (u : JudgementState) → Walks c names (AreJudged c) s (o, u) → Walks c names (IsJudged c) s (within u.0 (commas at o u.1))
+  pub comma_walk : (at : ℕ) (s : JudgementState) (o : Option (List TypedExpression)) (u : JudgementState) → Walks c names (AreJudged c) s (o, u) → Walks c names (IsJudged c) s (in_env u.0 (commas at o u.1))
   comma_walk at s o u w = record {
     env = w.env;
     notes = found_later c names (IsJudged c) s.1 u.1 (commas at o u.1) (later_of c names (AreJudged c) s.1 (o, u.1) w.notes) (commas_judged c lawful names at o u.1 w.notes.found);
@@ -175,25 +175,25 @@ module _ (c : Context) (lawful : IsLawfulContext c) (names : Type 0) where
   whole_of taken None h = tt
   whole_of taken (Some a) h = h.whole
 
-  later_apart : (n m : Notes) → Later c (apart n) m → Later c n (rejoin n.addressed n.texts m)
+  later_apart : (n m : Notes) → Later c (nothing_taken n) m → Later c n (rejoin n.addressed n.texts m)
   later_apart n m h = record {
     first = h.first;
     knows = h.knows;
     takes = λ t. record { locals = t.locals; objects = subst (λ f. HaveTexts c f n.texts) h.first t.objects };
   }
 
-  pub size_walk : (at : ℕ) (s : JudgementState) (o : Option TypedExpression) (u : JudgementState) → Walks c names (IsJudged c) (s.0, apart s.1) (o, u)
-      → Walks c names (IsJudged c) s (within u.0 (each o (size_of_value at) (rejoin s.1.addressed s.1.texts u.1)))
+  pub size_walk : (at : ℕ) (s : JudgementState) (o : Option TypedExpression) (u : JudgementState) → Walks c names (IsJudged c) (s.0, nothing_taken s.1) (o, u)
+      → Walks c names (IsJudged c) s (in_env u.0 (each o (size_of_value at) (rejoin s.1.addressed s.1.texts u.1)))
   size_walk at s o u h =
       let next = rejoin s.1.addressed s.1.texts u.1 in
       record {
         env = h.env;
-        notes = found_later c names (IsJudged c) s.1 next (each o (size_of_value at) next) (later_apart s.1 u.1 (later_of c names (IsJudged c) (apart s.1) (o, u.1) h.notes))
+        notes = found_later c names (IsJudged c) s.1 next (each o (size_of_value at) next) (later_apart s.1 u.1 (later_of c names (IsJudged c) (nothing_taken s.1) (o, u.1) h.notes))
             (size_walk_found at o next (λ v k. whole_of (Takes c u.1) o (h.notes.found v k)));
       }
 
   pub call_walk : (at : ℕ) (name : List ℕ) (s : JudgementState) (o : Option (List TypedExpression)) (u : JudgementState) → (names → HasNames c s.0) → Walks c names (AreJudged c) s (o, u)
-      → Walks c names (IsJudged c) s (within u.0 (call_by_meaning at (meaning_of u.0 name) o u.1))
+      → Walks c names (IsJudged c) s (in_env u.0 (call_by_meaning at (meaning_of u.0 name) o u.1))
   call_walk at name s o u h w = record {
     env = w.env;
     notes = found_later c names (IsJudged c) s.1 u.1 (call_by_meaning at (meaning_of u.0 name) o u.1) (later_of c names (AreJudged c) s.1 (o, u.1) w.notes)

@@ -10,10 +10,10 @@ use Rattle.c_typed_tree.specs.declared.types.StructDef.{StructDef}
 use Rattle.c_typed_tree.specs.View.{type_view}
 use Rattle.c_typed_tree.specs.model.View.{opens}
 use Rattle.c_typed_tree.specs.Layout.{is_complete, is_object}
-use Rattle.c_typed_tree.specs.Typing.{Context, is_type, is_void, is_scalar, depth_of, depth_behind}
+use Rattle.c_typed_tree.specs.Typing.{Context, is_valid_type, is_void, is_scalar, depth_of, depth_behind}
 use Rattle.c_declared_types.specs.declared.declared.DeclaredType.{DeclaredType}
 use Rattle.c_declared_types.specs.declared.declared.DeclaredType.TheVariants as d
-use Rattle.c_declared_types.specs.Declarators.{array_with, array_without, parameter_value, parameter_of, function_with}
+use Rattle.c_declared_types.specs.Declarators.{array_with, array_without, parameter_value, adjusted_parameter, function_with}
 use Rattle.c_declared_types.specs.Depth.{is_declarable}
 use Rattle.c_type_faults.specs.declared.faults.Kind.TheVariants.{BadType}
 use Rattle.c_scopes.specs.Names.{Entry, find}
@@ -26,8 +26,8 @@ use Rattle.c_checks.specs.declared.meanings.UntaggedStruct.{UntaggedStruct}
 use Rattle.c_checks.specs.declared.notes.Notes.{Notes}
 use Rattle.c_checks.specs.Notes.{with_tag}
 use Rattle.c_checks.specs.Scopes.{meaning_of}
-use Rattle.c_judgements.specs.Leaves.{basic, no_type, named_type, tag_named, enum_tagged, enum_type, incomplete, struct_numbered, struct_tagged, struct_at, struct_type, leaf}
-use Rattle.c_judgements.specs.Types.{there, pointer, array, function, type_named}
+use Rattle.c_judgements.specs.Leaves.{basic, no_type, typedef_type, tag_named, enum_tagged, enum_type, incomplete_struct, struct_numbered, struct_tagged, struct_at, struct_type, leaf}
+use Rattle.c_judgements.specs.Types.{required_type, pointer, array, function, type_named}
 use Rattle.c_type_laws.specs.Typed.{AreKnown, IsFitType}
 use Rattle.c_type_laws.proofs.Truth.{no_true, front, also}
 use Rattle.c_type_laws.proofs.Types.{known_object}
@@ -104,23 +104,23 @@ struct_type_in : (c : Context) (number : ℕ) → IsTrue (is_some (slice_get c.s
 unfolding opens
 struct_type_in c number h = h
 
-pointer_type_in : (c : Context) (x : ty.CType) → IsTrue (is_type c.structs (type_view x)) → IsTrue (is_type c.structs (type_view (ty.Pointer x)))
+pointer_type_in : (c : Context) (x : ty.CType) → IsTrue (is_valid_type c.structs (type_view x)) → IsTrue (is_valid_type c.structs (type_view (ty.Pointer x)))
 unfolding opens
 pointer_type_in c x h = h
 
-array_type_in : (c : Context) (x : ty.CType) (n : ℕ) → IsTrue (is_type c.structs (type_view x)) → IsTrue (is_object c.structs (type_view (ty.Array x n))) → IsTrue (is_type c.structs (type_view (ty.Array x n)))
+array_type_in : (c : Context) (x : ty.CType) (n : ℕ) → IsTrue (is_valid_type c.structs (type_view x)) → IsTrue (is_object c.structs (type_view (ty.Array x n))) → IsTrue (is_valid_type c.structs (type_view (ty.Array x n)))
 unfolding opens
-array_type_in c x n h o = also (is_type c.structs (type_view x)) (is_object c.structs (type_view (ty.Array x n))) h o
+array_type_in c x n h o = also (is_valid_type c.structs (type_view x)) (is_object c.structs (type_view (ty.Array x n))) h o
 
-parameter_type_in : (c : Context) (x : ty.CType) → IsTrue (is_type c.structs (type_view x)) → IfSome (parameter_value x) (λ z. IsTrue (is_type c.structs (type_view z)))
+parameter_type_in : (c : Context) (x : ty.CType) → IsTrue (is_valid_type c.structs (type_view x)) → IfSome (parameter_value x) (λ z. IsTrue (is_valid_type c.structs (type_view z)))
 unfolding opens parameter_value
 parameter_type_in c ty.Void h = tt
 parameter_type_in c (ty.Int n s) h = h
 parameter_type_in c (ty.Pointer' _ (ty.more_of-CType x ty.end_of-CType)) h = h
-parameter_type_in c (ty.Array' _ (ty.more_of-CType x ty.end_of-CType) n) h = front (is_type c.structs (type_view x)) _ h
+parameter_type_in c (ty.Array' _ (ty.more_of-CType x ty.end_of-CType) n) h = front (is_valid_type c.structs (type_view x)) _ h
 parameter_type_in c (ty.Struct n) h = tt
 
-pub parameter_typed : (c : Context) (of : DeclaredType) → IsTypeIn c of → IfSome (parameter_of of) (λ z. IsTrue (is_type c.structs (type_view z)))
+pub parameter_typed : (c : Context) (of : DeclaredType) → IsTypeIn c of → IfSome (adjusted_parameter of) (λ z. IsTrue (is_valid_type c.structs (type_view z)))
 parameter_typed c (d.Value x) h = parameter_type_in c x h
 parameter_typed c (d.Unsized x) h = pointer_type_in c x h
 parameter_typed c (d.Function x xs) h = tt
@@ -131,14 +131,14 @@ fit_from c ds (d.Value x) h e =
     let own = type_view x in
     let shallow = leb-true (depth_of ds own) 256 e in
     let behind = behind_within ds own in
-    also (is_type c.structs own) (nat_le (depth_behind own) 257) h (le-leb (depth_behind own) 257 (omega arith))
+    also (is_valid_type c.structs own) (nat_le (depth_behind own) 257) h (le-leb (depth_behind own) 257 (omega arith))
 fit_from c ds (d.Unsized x) h e = tt
 fit_from c ds (d.Function x xs) h e = tt
 
 module _ (c : Context) (names : Type 0) where
   -- ---- specifiers
 
-  named_found : (at : ℕ) (o : Option NameMeaning) (n : Notes) → (names → IsTypedefAt c o) → Judges c names (IsFoundType c) n (named_type at o n)
+  named_found : (at : ℕ) (o : Option NameMeaning) (n : Notes) → (names → IsTypedefAt c o) → Judges c names (IsFoundType c) n (typedef_type at o n)
   named_found at None n h = found_fault c names (IsFoundType c) at _ n
   named_found at (Some m.Faulty) n h = found_none c names (IsFoundType c) n n (later_itself c n)
   named_found at (Some (m.Undefined number)) n h = found_fault c names (IsFoundType c) at _ n
@@ -169,7 +169,7 @@ module _ (c : Context) (names : Type 0) where
   struct_found_tagged : (at : ℕ) (name : List ℕ) (o : Option Tag) (n : Notes) → (Knows c n → IsTagAt c o) → Judges c names (IsFoundType c) n (struct_tagged at name o n)
   struct_found_tagged at name None n h = record {
     first = refl;
-    knows = λ k. record { structs_known = structs_front c n.structs (incomplete name ∷ []) k.structs_known; tags_known = k.tags_known.1; untagged_known = k.untagged_known };
+    knows = λ k. record { structs_known = structs_front c n.structs (incomplete_struct name ∷ []) k.structs_known; tags_known = k.tags_known.1; untagged_known = k.untagged_known };
     takes = λ t. t;
     found = λ v k. struct_type_in c (length n.structs) k.tags_known.0;
   }
@@ -200,7 +200,7 @@ module _ (c : Context) (names : Type 0) where
 
   -- ---- declarators
 
-  there_found : (at : ℕ) (o : Option DeclaredType) (n : Notes) → (names → Knows c n → IfSome o (IsTypeIn c)) → Judges c names (IsFoundType c) n (there at o n)
+  there_found : (at : ℕ) (o : Option DeclaredType) (n : Notes) → (names → Knows c n → IfSome o (IsTypeIn c)) → Judges c names (IsFoundType c) n (required_type at o n)
   there_found at None n h = found_fault c names (IsFoundType c) at _ n
   there_found at (Some x) n h = found_itself c names (IsFoundType c) n x h
 
@@ -209,14 +209,14 @@ module _ (c : Context) (names : Type 0) where
   pointer_found at (d.Unsized x) n h = there_found at None n (λ v k. tt)
   pointer_found at (d.Function x xs) n h = there_found at None n (λ v k. tt)
 
-  sized : (ds : List StructDef) (x : ty.CType) (size : ℕ) → AreKnown ds c.structs → IsTrue (is_type c.structs (type_view x)) → IfSome (array_with ds x size) (IsTypeIn c)
+  sized : (ds : List StructDef) (x : ty.CType) (size : ℕ) → AreKnown ds c.structs → IsTrue (is_valid_type c.structs (type_view x)) → IfSome (array_with ds x size) (IsTypeIn c)
   sized ds x size known h = of (is_object ds (type_view (ty.Array x size))) refl
     where
       of : (b : Bool) → is_object ds (type_view (ty.Array x size)) ≡ b → IfSome (if b then Some (d.Value (ty.Array x size)) else None) (IsTypeIn c)
       of true e = array_type_in c x size h (known_object ds c.structs known (type_view (ty.Array x size)) e)
       of false e = tt
 
-  unsized : (ds : List StructDef) (x : ty.CType) → IsTrue (is_type c.structs (type_view x)) → IfSome (array_without ds x) (IsTypeIn c)
+  unsized : (ds : List StructDef) (x : ty.CType) → IsTrue (is_valid_type c.structs (type_view x)) → IfSome (array_without ds x) (IsTypeIn c)
   unsized ds x h = of (is_object ds (type_view x))
     where
       of : (b : Bool) → IfSome (if b then Some (d.Unsized x) else None) (IsTypeIn c)
@@ -231,7 +231,7 @@ module _ (c : Context) (names : Type 0) where
   array_found at None (d.Function x xs) n h = there_found at None n (λ v k. tt)
   array_found at (Some size) (d.Function x xs) n h = there_found at None n (λ v k. tt)
 
-  function_given : (x : ty.CType) (xs : List ty.CType) → IsTrue (is_type c.structs (type_view x)) → AreTypes c.structs xs → IfSome (function_with x xs) (IsTypeIn c)
+  function_given : (x : ty.CType) (xs : List ty.CType) → IsTrue (is_valid_type c.structs (type_view x)) → AreTypes c.structs xs → IfSome (function_with x xs) (IsTypeIn c)
   function_given x xs h g = of (is_void (type_view x)) (is_scalar (type_view x))
     where
       of : (a b : Bool) → IfSome (if a then Some (d.Function x xs) else if b then Some (d.Function x xs) else None) (IsTypeIn c)

@@ -3,7 +3,7 @@ use Rattle.std.specs.Prelude.{IsTrue, List, [], ◌∷◌}
 use Rattle.c_typed_tree.specs.declared.types.CType.{CType}
 use Rattle.c_typed_tree.specs.declared.types.StructDef.{StructDef}
 use Rattle.c_typed_tree.specs.View.{type_view}
-use Rattle.c_typed_tree.specs.Typing.{Context, is_type}
+use Rattle.c_typed_tree.specs.Typing.{Context, is_valid_type}
 use Rattle.c_declared_types.specs.declared.declared.DeclaredType.{DeclaredType}
 use Rattle.c_declared_types.specs.declared.declared.DeclaredType.TheVariants as d
 use Rattle.c_scopes.specs.Names.{Entry}
@@ -12,13 +12,13 @@ use Rattle.c_checks.specs.declared.meanings.NameMeaning.TheVariants as m
 
 abbrev pub AreTypes : List StructDef → List CType → Type 0
 AreTypes structs [] = Unit {0}
-AreTypes structs (ty ∷ tys) = IsTrue (is_type structs (type_view ty)) × AreTypes structs tys
+AreTypes structs (ty ∷ tys) = IsTrue (is_valid_type structs (type_view ty)) × AreTypes structs tys
 
 -- all parts of the type are there
 abbrev pub IsTypeIn : Context → DeclaredType → Type 0
-IsTypeIn c (d.Value ty) = IsTrue (is_type c.structs (type_view ty))
-IsTypeIn c (d.Unsized element) = IsTrue (is_type c.structs (type_view element))
-IsTypeIn c (d.Function result parameters) = IsTrue (is_type c.structs (type_view result))
+IsTypeIn c (d.Value ty) = IsTrue (is_valid_type c.structs (type_view ty))
+IsTypeIn c (d.Unsized element) = IsTrue (is_valid_type c.structs (type_view element))
+IsTypeIn c (d.Function result parameters) = IsTrue (is_valid_type c.structs (type_view result))
     × AreTypes c.structs parameters
 
 -- so it is of each typedef name

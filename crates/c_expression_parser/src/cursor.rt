@@ -118,7 +118,7 @@ impl<'a> Tokens<'a> {
 
     /// The offset of the next one in the text.
     pub fn place(&self) -> u32
-        ensures { result ≡ tokens.place self.now }
+        ensures { result ≡ tokens.token_place self.now }
     {
         match self.rest {
             [] => 0,
@@ -155,7 +155,7 @@ impl<'a> Tokens<'a> {
 
     /// The tokens behind the next one.
     pub fn behind(&self) -> Tokens<'a>
-        ensures { result ≡ tokens.behind self.now }
+        ensures { result ≡ tokens.token_tail self.now }
     {
         match self.rest {
             [] => Tokens {
@@ -173,7 +173,7 @@ impl<'a> Tokens<'a> {
 
     /// Goes past the next one.
     pub fn take(&mut self)
-        ensures { self.new ≡ tokens.behind self.old }
+        ensures { self.new ≡ tokens.token_tail self.old }
     {
         if let [_, rest @ ..] = self.rest {
             self.rest = rest;
@@ -192,7 +192,7 @@ impl<'a> Tokens<'a> {
 
     /// Whether the next one is this keyword.
     pub fn sees_word(&self, word: Keyword) -> bool
-        ensures { result ≡ tokens.is_word word (tokens.kind_at self.now) }
+        ensures { result ≡ tokens.is_keyword word (tokens.kind_at self.now) }
     {
         match self.peek() {
             TokenKind::Word(found) => found == word,
@@ -202,7 +202,7 @@ impl<'a> Tokens<'a> {
 
     /// Whether the next one is a name.
     pub fn sees_name(&self) -> bool
-        ensures { result ≡ tokens.is_name (tokens.kind_at self.now) }
+        ensures { result ≡ tokens.is_name_token (tokens.kind_at self.now) }
     {
         match self.peek() {
             TokenKind::Name => true,

@@ -63,7 +63,7 @@ pub fn named_type(
     tokens: &mut Tokens<'_>,
 ) -> Result<SpecifierType, ParseStop>
     ensures answers { Answers (model.named_type scope.now tokens.old) result tokens.new }
-    ensures bare { IfOk result (λ base. types.bare base ≡ base) }
+    ensures bare { IfOk result (λ base. types.without_body base ≡ base) }
 {
     if !scope.is_type_at(tokens) {
         return Err(ParseStop::Refused);
@@ -78,7 +78,7 @@ pub fn named_type(
 #[tactic(auto, unfolding(c_grammar::specs::ParseExpr::tag))]
 fn tag(alloc: Global, tokens: &mut Tokens<'_>, word: Specifier) -> Result<SpecifierType, ParseStop>
     ensures answers { Answers (model.tag word tokens.old) result tokens.new }
-    ensures bare { IfOk result (λ base. types.bare base ≡ base) }
+    ensures bare { IfOk result (λ base. types.without_body base ≡ base) }
 {
     if !tokens.sees_name() {
         return Err(ParseStop::Refused);
@@ -103,7 +103,7 @@ pub fn plain(
     tokens: &mut Tokens<'_>,
 ) -> Result<SpecifierType, ParseStop>
     ensures answers { Answers (model.plain scope.now tokens.old) result tokens.new }
-    ensures bare { IfOk result (λ base. types.bare base ≡ base) }
+    ensures bare { IfOk result (λ base. types.without_body base ≡ base) }
 {
     match read_words(tokens) {
         SpecifierStart::Basic(basic) => Ok(SpecifierType::basic(basic)),

@@ -8,11 +8,11 @@ use Rattle.c_tree.specs.declared.expressions.Expr.TheBlock as k
 use Rattle.c_declared_types.specs.declared.declared.DeclaredType.{DeclaredType}
 use Rattle.c_typed_tree.specs.declared.types.CType.{CType}
 use Rattle.c_type_rules.specs.declared.typed.TypedExpression.{TypedExpression}
-use Rattle.c_checks.specs.Checks.{and_then, both, walk, append_part}
+use Rattle.c_checks.specs.Checks.{and_then, both_parts, walk, append_part}
 use Rattle.c_checks.specs.Scopes.{enter, leave, meaning_of}
 use Rattle.c_judgements.specs.Operators.{commas}
 use Rattle.c_judgements.specs.Calls.{call_by_meaning}
-use Rattle.c_judgements.specs.Types.{JudgementState, within, array, function}
+use Rattle.c_judgements.specs.Types.{JudgementState, in_env, array, function}
 use Rattle.c_expressions.specs.Expressions.{judge, judge_row, derive, parameter_row}
 use Rattle.c_expressions.specs.model.Parts.{one_parameter, optional_length}
 use Rattle.c_expressions.specs.model.Opens.{opens}
@@ -37,24 +37,24 @@ parameter_row-hidden xs found s = parameter_row_is _ (k.hidden-the_row-Parameter
 -- ---- forms with lists, as code sees them
 
 pub judge-Call : (at : ℕ) (name : List ℕ) (xs : List e.Expr) (s : JudgementState)
-    → judge (e.Call at name xs) s ≡ and_then (walk judge xs (Some []) s) (λ vs u. within u.0 (call_by_meaning at (meaning_of u.0 name) vs u.1))
+    → judge (e.Call at name xs) s ≡ and_then (walk judge xs (Some []) s) (λ vs u. in_env u.0 (call_by_meaning at (meaning_of u.0 name) vs u.1))
 unfolding opens
-judge-Call at name xs s = ap (λ q. and_then q (λ vs (u : JudgementState). within u.0 (call_by_meaning at (meaning_of u.0 name) vs u.1))) (judge_row-hidden xs (Some []) s)
+judge-Call at name xs s = ap (λ q. and_then q (λ vs (u : JudgementState). in_env u.0 (call_by_meaning at (meaning_of u.0 name) vs u.1))) (judge_row-hidden xs (Some []) s)
 
-pub judge-Comma : (at : ℕ) (xs : List e.Expr) (s : JudgementState) → judge (e.Comma at xs) s ≡ and_then (walk judge xs (Some []) s) (λ vs u. within u.0 (commas at vs u.1))
+pub judge-Comma : (at : ℕ) (xs : List e.Expr) (s : JudgementState) → judge (e.Comma at xs) s ≡ and_then (walk judge xs (Some []) s) (λ vs u. in_env u.0 (commas at vs u.1))
 unfolding opens
-judge-Comma at xs s = ap (λ q. and_then q (λ vs (u : JudgementState). within u.0 (commas at vs u.1))) (judge_row-hidden xs (Some []) s)
+judge-Comma at xs s = ap (λ q. and_then q (λ vs (u : JudgementState). in_env u.0 (commas at vs u.1))) (judge_row-hidden xs (Some []) s)
 
 pub derive-Array : (at : ℕ) (x : t.TypeNode) (length : Option e.Expr) (of : Option DeclaredType) (s : JudgementState)
-    → derive at (t.Array x length) of s ≡ and_then (optional_length length s) (λ count u. and_then (derive at x of u) (λ ty v. within v.0 (both count ty (array at) v.1)))
+    → derive at (t.Array x length) of s ≡ and_then (optional_length length s) (λ count u. and_then (derive at x of u) (λ ty v. in_env v.0 (both_parts count ty (array at) v.1)))
 unfolding opens
 derive-Array at x None of s = refl
 derive-Array at x (Some y) of s = refl
 
 pub derive-Takes : (at : ℕ) (x : t.TypeNode) (list : List Parameter) (of : Option DeclaredType) (s : JudgementState)
-    → derive at (t.Takes x list) of s ≡ and_then (walk one_parameter list (Some []) (enter s.0, s.1)) (λ found u. and_then (derive at x of (leave s.0.outside u.0, u.1)) (λ ty v. within v.0 (both found ty (function at) v.1)))
+    → derive at (t.Takes x list) of s ≡ and_then (walk one_parameter list (Some []) (enter s.0, s.1)) (λ found u. and_then (derive at x of (leave s.0.outside u.0, u.1)) (λ ty v. in_env v.0 (both_parts found ty (function at) v.1)))
 unfolding opens
 derive-Takes at x list of s =
-    ap (λ q. and_then q (λ found (u : JudgementState). and_then (derive at x of (leave s.0.outside u.0, u.1)) (λ ty v. within v.0 (both found ty (function at) v.1)))) (parameter_row-hidden list (Some []) (enter s.0, s.1))
+    ap (λ q. and_then q (λ found (u : JudgementState). and_then (derive at x of (leave s.0.outside u.0, u.1)) (λ ty v. in_env v.0 (both_parts found ty (function at) v.1)))) (parameter_row-hidden list (Some []) (enter s.0, s.1))
 
 pub ruleset rows = (judge-Call, judge-Comma, derive-Array, derive-Takes)

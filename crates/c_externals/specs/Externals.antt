@@ -20,7 +20,7 @@ use Rattle.c_judgements.specs.Types.{JudgementState, type_named}
 use Rattle.c_tag_bodies.specs.Bodies.{TagScope, declared_type}
 use Rattle.c_declarations.specs.Unfit.{judge_init}
 use Rattle.c_statements.specs.declared.functions.FunctionType.{FunctionType}
-use Rattle.c_statements.specs.Functions.{function}
+use Rattle.c_statements.specs.Functions.{judge_function}
 use Rattle.c_unit_names.specs.declared.names.NameDeclaration.{NameDeclaration}
 use Rattle.c_declarations.specs.declared.walk.UnitSoFar.{UnitSoFar}
 use Rattle.c_declarations.specs.Walk.{UnitWalk, in_notes, with_state, declare, body_kept}
@@ -46,8 +46,8 @@ prototype ds at name storage ty w = function_with_type ds at name storage false 
 abbrev pub refused_behind : Option Init → UnitWalk → UnitWalk
 refused_behind init w = with_state (optional_refused init w.1) w
 
-abbrev pub value_behind : Init → UnitWalk → UnitWalk
-value_behind init w = with_state (init_refused init w.1) w
+abbrev pub with_init_refused : Init → UnitWalk → UnitWalk
+with_init_refused init w = with_state (init_refused init w.1) w
 
 abbrev pub object_with : Definitions → ℕ → List ℕ → Option Storage → Option Init → Option DeclaredType → UnitWalk →
     UnitWalk
@@ -82,7 +82,7 @@ type_of_function (Some (d.Function of parameters)) = Some (type_with of paramete
 
 -- a body is judged behind the declaration of its name, which may call itself there
 abbrev pub body_judged : Declaration → Option FunctionType → List Stmt → UnitWalk → UnitWalk
-body_judged e of list w = body_kept e.name w.0 (function e of list w.1)
+body_judged e of list w = body_kept e.name w.0 (judge_function e of list w.1)
 
 abbrev pub definition_with : Definitions → Declaration → Option Storage → List Stmt → Option DeclaredType × UnitWalk →
     UnitWalk
@@ -94,24 +94,25 @@ definition ds e storage list ty w =
     definition_with ds e storage list
     (with_definition e.at e.ty (with_main_in e.name (in_notes w (function_type e.at ty w.1.1))))
 
-abbrev pub function_with : Definitions → Declaration → Option Storage → FunctionEnd → DeclaredType → UnitWalk → UnitWalk
-function_with ds e storage f.Nothing ty w = prototype ds e.at e.name storage ty w
-function_with ds e storage (f.Init init) ty w = value_behind init (prototype ds e.at e.name storage ty w)
-function_with ds e storage (f.Body list) ty w = definition ds e storage list ty w
+abbrev pub external_function : Definitions → Declaration → Option Storage → FunctionEnd → DeclaredType → UnitWalk →
+    UnitWalk
+external_function ds e storage f.Nothing ty w = prototype ds e.at e.name storage ty w
+external_function ds e storage (f.Init init) ty w = with_init_refused init (prototype ds e.at e.name storage ty w)
+external_function ds e storage (f.Body list) ty w = definition ds e storage list ty w
 
 -- what stands behind a declaration with a fault
 abbrev pub end_judged : Declaration → FunctionEnd → JudgementState → JudgementState
 end_judged e f.Nothing s = s
 end_judged e (f.Init init) s = (judge_init init s).1
-end_judged e (f.Body list) s = (function e None list s).1
+end_judged e (f.Body list) s = (judge_function e None list s).1
 
-abbrev pub end_behind : Declaration → FunctionEnd → UnitWalk → UnitWalk
-end_behind e end w = with_state (end_judged e end w.1) w
+abbrev pub with_end_judged : Declaration → FunctionEnd → UnitWalk → UnitWalk
+with_end_judged e end w = with_state (end_judged e end w.1) w
 
 abbrev pub function_typed : Definitions → Declaration → Option Storage → FunctionEnd → Option DeclaredType →
     UnitWalk → UnitWalk
-function_typed ds e storage end None w = end_behind e end (declare ds e.at e.name None w)
-function_typed ds e storage end (Some ty) w = function_with ds e storage end ty w
+function_typed ds e storage end None w = with_end_judged e end (declare ds e.at e.name None w)
+function_typed ds e storage end (Some ty) w = external_function ds e storage end ty w
 
 -- ---- the type of each comes first
 
@@ -120,19 +121,21 @@ abbrev pub behind_type : UnitSoFar → Option DeclaredType × TagScope → (Opti
     UnitSoFar × TagScope
 behind_type u r rest = ((rest r.0 (u, r.1.1)).0, (r.1.0, (rest r.0 (u, r.1.1)).1))
 
-abbrev pub type_of : Declaration → TagScope → Option DeclaredType × TagScope
-type_of e s = declared_type e.at e.ty s
+abbrev pub declarator_type : Declaration → TagScope → Option DeclaredType × TagScope
+declarator_type e s = declared_type e.at e.ty s
 
 -- a declaration that declares tags alone has no place of its own
 abbrev pub tags_declared : UnitSoFar → Option DeclaredType × TagScope → UnitSoFar × TagScope
 tags_declared u r = (u, r.1)
 
-abbrev pub external : Definitions → External → UnitSoFar × TagScope → UnitSoFar × TagScope
-external ds (x.Typedef e) s = behind_type s.0 (type_of e s.1) (typedef_declared ds e.at e.name)
-external ds (x.Object e storage init) s = behind_type s.0 (type_of e s.1) (object_with ds e.at e.name storage init)
-external ds (x.Function e storage end) s = behind_type s.0 (type_of e s.1) (function_typed ds e storage end)
-external ds (x.Tags storage ty) s = tags_declared s.0 (declared_type 0 ty s.1)
+abbrev pub walk_external : Definitions → External → UnitSoFar × TagScope → UnitSoFar × TagScope
+walk_external ds (x.Typedef e) s = behind_type s.0 (declarator_type e s.1) (typedef_declared ds e.at e.name)
+walk_external ds (x.Object e storage init) s = behind_type s.0 (declarator_type e s.1)
+    (object_with ds e.at e.name storage init)
+walk_external ds (x.Function e storage end) s = behind_type s.0 (declarator_type e s.1)
+    (function_typed ds e storage end)
+walk_external ds (x.Tags storage ty) s = tags_declared s.0 (declared_type 0 ty s.1)
 
 abbrev pub externals : Definitions → List External → UnitSoFar × TagScope → UnitSoFar × TagScope
 externals ds [] s = s
-externals ds (e ∷ es) s = externals ds es (external ds e s)
+externals ds (e ∷ es) s = externals ds es (walk_external ds e s)

@@ -264,7 +264,7 @@ fn function_with<'a>(
     ty: DeclaredType,
 ) -> Result<(), AllocError>
     ensures { OnOk result ((unit.new, (env.new, notes.new))
-        ≡ spec.function_with definitions.now d.now storage end.now ty (unit.old, (env.old, notes.old))) }
+        ≡ spec.external_function definitions.now d.now storage end.now ty (unit.old, (env.old, notes.old))) }
 {
     let name = d.name.as_slice();
     match end {
@@ -374,7 +374,7 @@ fn external<'a>(
     item: &'a External,
 ) -> Result<(), AllocError>
     ensures { OnOk result ((unit.new, (defined.new, (env.new, notes.new)))
-        ≡ spec.external definitions.now item.now (unit.old, (defined.old, (env.old, notes.old)))) }
+        ≡ spec.walk_external definitions.now item.now (unit.old, (defined.old, (env.old, notes.old)))) }
 {
     match item {
         External::Typedef(d) => {

@@ -15,7 +15,7 @@ use Rattle.c_typed_tree.specs.Layout.{struct_member}
 use Rattle.c_typed_tree.specs.Typing.{most_depth}
 use Rattle.c_typed_tree.specs.View.{type_view}
 use Rattle.c_declared_types.specs.declared.declared.DeclaredType.{DeclaredType}
-use Rattle.c_declared_types.specs.Declarators.{parameter_of}
+use Rattle.c_declared_types.specs.Declarators.{adjusted_parameter}
 use Rattle.c_declared_types.specs.Depth.{is_declarable, is_deep_at_most}
 use Rattle.c_type_faults.specs.declared.faults.Kind.{Kind}
 use Rattle.c_type_faults.specs.declared.faults.Kind.TheVariants.{BadType, Redeclared, BadOperand, UnknownName, NotFunction}
@@ -25,9 +25,9 @@ use Rattle.c_type_rules.specs.declared.typed.TypedExpression.{TypedExpression}
 use Rattle.c_type_rules.specs.Rulings.{Ruling}
 use Rattle.c_type_rules.specs.Conversions.{decay}
 use Rattle.c_primary_rules.specs.Primary.{text}
-use Rattle.c_primary_rules.specs.Commas.{comma}
-use Rattle.c_primary_rules.specs.Calls.{count_arguments, call}
-use Rattle.c_operators.specs.Unary.{unary}
+use Rattle.c_primary_rules.specs.Commas.{comma_value}
+use Rattle.c_primary_rules.specs.Calls.{count_arguments, call_rvalue}
+use Rattle.c_operators.specs.Unary.{unary_ruling}
 use Rattle.c_operators.specs.Null.{take_value}
 use Rattle.c_scopes.specs.Names.{Entry, find}
 use Rattle.c_checks.specs.declared.env.Env.{Env}
@@ -37,18 +37,18 @@ use Rattle.c_checks.specs.declared.meanings.Tag.{Tag}
 use Rattle.c_checks.specs.declared.meanings.Tag.TheVariants as g
 use Rattle.c_checks.specs.declared.meanings.UntaggedStruct.{UntaggedStruct}
 use Rattle.c_checks.specs.declared.notes.Notes.{Notes}
-use Rattle.c_checks.specs.Checks.{pure, and_then, each, both, append_part, note_fault, fault}
+use Rattle.c_checks.specs.Checks.{pure, and_then, each, both_parts, append_part, note_fault, fault}
 use Rattle.c_checks.specs.Notes.{with_address, with_fault, with_use, new_text}
-use Rattle.c_checks.specs.Scopes.{enter, leave, with_name, meaning_of, stands_here}
+use Rattle.c_checks.specs.Scopes.{enter, leave, with_meaning, meaning_of, stands_here}
 use Rattle.c_judgements.specs.declared.members.MemberMeaning.{MemberMeaning}
 use Rattle.c_judgements.specs.declared.members.MemberMeaning.TheVariants as q
-use Rattle.c_judgements.specs.Operators.{taken_by, apply_prefix, choice, choice_of, are_two_or_more, commas_between, commas}
+use Rattle.c_judgements.specs.Operators.{taken_by, apply_prefix, choice_check, choice_of_parts, are_two_or_more, commas_between, commas}
 use Rattle.c_judgements.specs.Names.{name_of}
-use Rattle.c_judgements.specs.Texts.{bytes_of, string_of, string}
+use Rattle.c_judgements.specs.Texts.{spelling_bytes, string_of, string}
 use Rattle.c_judgements.specs.Calls.{argument, convert_arguments, call_passing, call_of, call_by_meaning}
 use Rattle.c_judgements.specs.Members.{member_at, number_in, meaning_in, member_of, struct_number, target_number, field_in, field_named, arrow_in, arrow_named}
-use Rattle.c_judgements.specs.Leaves.{no_type, named_type, tag_named, enum_tagged, enum_type, struct_numbered, struct_tagged, struct_at, struct_type, leaf}
-use Rattle.c_judgements.specs.Types.{JudgementState, within, there, type_named, no_parameter, within_depth, parameter_type, parameter_meaning, declared_parameter, parameter_declared}
+use Rattle.c_judgements.specs.Leaves.{no_type, typedef_type, tag_named, enum_tagged, enum_type, struct_numbered, struct_tagged, struct_at, struct_type, leaf}
+use Rattle.c_judgements.specs.Types.{JudgementState, in_env, required_type, type_named, no_parameter, within_depth, parameter_type, parameter_meaning, declared_parameter, parameter_declared}
 use Rattle.c_found_laws.specs.Laws.{is_sound, are_sound_names, are_sound_members, NamesAreSound, Tells, IsFound, YieldsFound}
 
 -- ---- truth values and lists
@@ -134,7 +134,7 @@ module _ (env : Env) (s : JudgementState) where
   each_tells (Some a) f n h g = tells_both s (env, n) (env, (f a n).1) (λ x y. y) h (g a)
 
   pub both_tells : {A B D : Type 0} (o : Option A) (q : Option B) (f : A → B → Notes → Option D × Notes) (n : Notes) → Tells (IsFound o × IsFound q) s (env, n) → ((a : A) (b : B) → Tells (IsFound (f a b n).0) (env, n) (env, (f a b n).1))
-      → Tells (IsFound (both o q f n).0) s (env, (both o q f n).1)
+      → Tells (IsFound (both_parts o q f n).0) s (env, (both_parts o q f n).1)
   both_tells None q f n h g = tells_as s (env, n) (λ p. no_true p.0) h
   both_tells (Some a) None f n h g = tells_as s (env, n) (λ p. no_true p.1) h
   both_tells (Some a) (Some b) f n h g = tells_both s (env, n) (env, (f a b n).1) (λ x y. y) h (g a b)
@@ -146,7 +146,7 @@ module _ (env : Env) (s : JudgementState) where
   each_under P (Some a) f n h g = tells_both s (env, n) (env, (f a n).1) (λ k y x. y) h (g a)
 
   pub both_under : {A B D : Type 0} (P : Type 0) (o : Option A) (q : Option B) (f : A → B → Notes → Option D × Notes) (n : Notes) → Tells (IsFound o × (P → IsFound q)) s (env, n) → ((a : A) (b : B) → Tells (IsFound (f a b n).0) (env, n) (env, (f a b n).1))
-      → Tells (P → IsFound (both o q f n).0) s (env, (both o q f n).1)
+      → Tells (P → IsFound (both_parts o q f n).0) s (env, (both_parts o q f n).1)
   both_under P None q f n h g = tells_as s (env, n) (λ k x. no_true k.0) h
   both_under P (Some a) None f n h g = tells_as s (env, n) (λ k x. no_true (k.1 x)) h
   both_under P (Some a) (Some b) f n h g = tells_both s (env, n) (env, (f a b n).1) (λ k y x. y) h (g a b)
@@ -181,19 +181,19 @@ module _ (env : Env) where
 
   pub prefix_tells : (at : ℕ) (op : UnaryOp) (a : TypedExpression) (n : Notes) → Tells (IsFound (apply_prefix at op a n).0) (env, n) (env, (apply_prefix at op a n).1)
   prefix_tells at op a n =
-      tells_both (env, n) (env, taken_by op a.place n) (env, (apply_prefix at op a n).1) (λ x y. y) (taken_tells op a.place n) (ruled env (unary n.structs at op a) (taken_by op a.place n))
+      tells_both (env, n) (env, taken_by op a.place n) (env, (apply_prefix at op a n).1) (λ x y. y) (taken_tells op a.place n) (ruled env (unary_ruling n.structs at op a) (taken_by op a.place n))
 
-  pub choice_tells : (s : JudgementState) (at : ℕ) (c a b : Option TypedExpression) (n : Notes) → Tells ((IsFound c × IsFound a) × IsFound b) s (env, n) → Tells (IsFound (choice_of at c a b n).0) s (env, (choice_of at c a b n).1)
+  pub choice_tells : (s : JudgementState) (at : ℕ) (c a b : Option TypedExpression) (n : Notes) → Tells ((IsFound c × IsFound a) × IsFound b) s (env, n) → Tells (IsFound (choice_of_parts at c a b n).0) s (env, (choice_of_parts at c a b n).1)
   choice_tells s at None a b n h = tells_as s (env, n) (λ x. no_true x.0.0) h
   choice_tells s at (Some c) None b n h = tells_as s (env, n) (λ x. no_true x.0.1) h
   choice_tells s at (Some c) (Some a) None n h = tells_as s (env, n) (λ x. no_true x.1) h
-  choice_tells s at (Some c) (Some a) (Some b) n h = tells_both s (env, n) (env, (choice at c a b n).1) (λ x y. y) h (ruled env _ n)
+  choice_tells s at (Some c) (Some a) (Some b) n h = tells_both s (env, n) (env, (choice_check at c a b n).1) (λ x y. y) h (ruled env _ n)
 
   between_tells : (at : ℕ) (l : List TypedExpression) (n : Notes) → Tells (IsFound (commas_between at l n).0) (env, n) (env, (commas_between at l n).1)
   between_tells at l n = choose (are_two_or_more l)
     where
       either : Bool → Option TypedExpression × Notes
-      either b = if b then (Some (comma at l), n) else fault at BadOperand n
+      either b = if b then (Some (comma_value at l), n) else fault at BadOperand n
 
       choose : (b : Bool) → Tells (IsFound (either b).0) (env, n) (env, (either b).1)
       choose true = tells_none (env, n) refl
@@ -252,7 +252,7 @@ module _ (env : Env) where
       choose false = tells_fault env at BadType n
 
   pub string_tells : (at : ℕ) (spellings : List (List ℕ)) (n : Notes) → Tells (IsFound (string at spellings n).0) (env, n) (env, (string at spellings n).1)
-  string_tells at spellings n = text_tells at (bytes_of spellings) n
+  string_tells at spellings n = text_tells at (spelling_bytes spellings) n
 
   -- ---- calls
 
@@ -272,7 +272,7 @@ module _ (env : Env) where
 
       of : (r : Ruling (List TypedExpression)) → Tells (IsFound (by r).0) (env, n) (env, (by r).1)
       of (Ok l) =
-          tells_as (env, n) (env, (by (Ok l)).1) (map_found (call at callee ty) (convert_arguments tys l (Some []) n).0) (arguments_tell (env, n) tys l (Some []) n (tells_none (env, n) refl))
+          tells_as (env, n) (env, (by (Ok l)).1) (map_found (call_rvalue at callee ty) (convert_arguments tys l (Some []) n).0) (arguments_tell (env, n) tys l (Some []) n (tells_none (env, n) refl))
       of (Err f) = tells_fault env f.at f.kind n
 
   call_by : (s : JudgementState) (at : ℕ) (o : Option NameMeaning) (args : Option (List TypedExpression)) (n : Notes) → (IsTrue (are_sound_names env.names) → IsTrue (holds is_sound o)) → Tells (IsFound args) s (env, n)
@@ -342,7 +342,7 @@ module _ (env : Env) where
 
   -- ---- specifiers
 
-  named_by : (at : ℕ) (o : Option NameMeaning) (n : Notes) → Told env o n (named_type at o n)
+  named_by : (at : ℕ) (o : Option NameMeaning) (n : Notes) → Told env o n (typedef_type at o n)
   named_by at None n h = tells_fault env at UnknownName n
   named_by at (Some m.Faulty) n h = faulty_tells env n h
   named_by at (Some (m.Undefined number)) n h = tells_fault env at BadType n
@@ -401,7 +401,7 @@ leaf_tells env at (t.Takes' _ (k.more_of-TypeNode x k.end_of-TypeNode) _ paramet
 -- ---- declarators
 
 module _ (env : Env) where
-  pub there_tells : (at : ℕ) (o : Option DeclaredType) (n : Notes) → Tells (IsFound (there at o n).0) (env, n) (env, (there at o n).1)
+  pub there_tells : (at : ℕ) (o : Option DeclaredType) (n : Notes) → Tells (IsFound (required_type at o n).0) (env, n) (env, (required_type at o n).1)
   there_tells at None n = tells_fault env at BadType n
   there_tells at (Some x) n = tells_none (env, n) refl
 
@@ -427,26 +427,26 @@ module _ (env : Env) where
       choose false = tells_fault env at BadType n
 
   pub parameter_type_tells : (at : ℕ) (x : DeclaredType) (n : Notes) → Tells (IsFound (parameter_type at x n).0) (env, n) (env, (parameter_type at x n).1)
-  parameter_type_tells at x n = depth_tells at (parameter_of x) n
+  parameter_type_tells at x n = depth_tells at (adjusted_parameter x) n
 
 -- a name with a sound meaning
-pub tells_named : {X : Type 0} (name : List ℕ) (meaning : NameMeaning) (s : JudgementState) → IsTrue (is_sound meaning) → X → Tells X s (with_name name meaning s.0, s.1)
+pub tells_named : {X : Type 0} (name : List ℕ) (meaning : NameMeaning) (s : JudgementState) → IsTrue (is_sound meaning) → X → Tells X s (with_meaning name meaning s.0, s.1)
 tells_named name meaning s h x = record {
   before = λ t. t;
   stays = λ t g. (also (is_sound meaning) (are_sound_names s.0.names) h g.0, g.1);
   found = λ t g. x;
 }
 
-parameter_meaning_tells : (name : List ℕ) (o : Option CType) (s u : JudgementState) → Tells (IsFound o) s u → Tells (IsFound o) s (with_name name (parameter_meaning o) u.0, u.1)
+parameter_meaning_tells : (name : List ℕ) (o : Option CType) (s u : JudgementState) → Tells (IsFound o) s u → Tells (IsFound o) s (with_meaning name (parameter_meaning o) u.0, u.1)
 parameter_meaning_tells name None s u h = record { before = h.before; stays = λ t g. no_true (h.found t g); found = h.found }
-parameter_meaning_tells name (Some ty) s u h = tells_both s u (with_name name (m.Local 0 ty) u.0, u.1) (λ x y. x) h (tells_named {X = Unit {0}} name (m.Local 0 ty) u refl tt)
+parameter_meaning_tells name (Some ty) s u h = tells_both s u (with_meaning name (m.Local 0 ty) u.0, u.1) (λ x y. x) h (tells_named {X = Unit {0}} name (m.Local 0 ty) u refl tt)
 
 declared_tells : (at : ℕ) (name : Option (List ℕ)) (o : Option CType) (s u : JudgementState) → Tells (IsFound o) s u → YieldsFound s (declared_parameter at name o u)
 declared_tells at None o s u h = h
 declared_tells at (Some name) o s u h = choose (stands_here u.0 (find name u.0.names))
   where
     either : Bool → Option CType × JudgementState
-    either b = if b then within u.0 (no_parameter at Redeclared u.1) else (o, (with_name name (parameter_meaning o) u.0, u.1))
+    either b = if b then in_env u.0 (no_parameter at Redeclared u.1) else (o, (with_meaning name (parameter_meaning o) u.0, u.1))
 
     choose : (b : Bool) → YieldsFound s (either b)
     choose true = tells_both s u (u.0, with_fault at Redeclared u.1) (λ x y. y) h (tells_fault u.0 at Redeclared u.1)

@@ -7,26 +7,26 @@ use Rattle.c_tree.specs.declared.types.TypeNode as t
 use Rattle.c_typed_tree.specs.declared.types.CType.{CType}
 use Rattle.c_declared_types.specs.declared.declared.DeclaredType.{DeclaredType}
 use Rattle.c_type_rules.specs.declared.typed.TypedExpression.{TypedExpression}
-use Rattle.c_constant_rules.specs.Values.{length}
+use Rattle.c_constant_rules.specs.Values.{length_value}
 use Rattle.c_primary_rules.specs.Primary.{integer_constant, character_constant}
 use Rattle.c_checks.specs.declared.env.Env.{Env}
 use Rattle.c_checks.specs.declared.notes.Notes.{Notes}
-use Rattle.c_checks.specs.Checks.{each, both, append_part, note_fault}
-use Rattle.c_checks.specs.Notes.{apart, rejoin}
+use Rattle.c_checks.specs.Checks.{each, both_parts, append_part, note_fault}
+use Rattle.c_checks.specs.Notes.{nothing_taken, rejoin}
 use Rattle.c_checks.specs.Scopes.{enter, leave}
 use Rattle.c_judgements.specs.Leaves.{leaf}
-use Rattle.c_judgements.specs.Operators.{apply_prefix, between, assignment, element, cast, size_of_value, size_of_name, behind}
+use Rattle.c_judgements.specs.Operators.{apply_prefix, binary_check, assignment_check, subscript_check, cast_check, size_of_value, size_of_name, postfix_check}
 use Rattle.c_judgements.specs.Members.{field_named, arrow_named}
-use Rattle.c_judgements.specs.Types.{JudgementState, within, pointer, given_length, array, function, type_named, parameter_declared}
+use Rattle.c_judgements.specs.Types.{JudgementState, in_env, pointer, given_length, array, function, type_named, parameter_declared}
 use Rattle.c_expressions.specs.Expressions.{judge, judge_row, derive, length_held, parameter_row}
 use Rattle.c_found_laws.specs.Laws.{Tells, IsFound, YieldsFound}
 use Rattle.c_found_laws.proofs.Forms.{tells_none, tells_as, tells_then, tells_both, tells_kept, ruled, each_tells, both_tells, each_under, both_under, append_found, prefix_tells, choice_tells, commas_tells, name_tells, string_tells, call_tells, field_tells, arrow_tells, leaf_tells, there_tells, type_named_tells, parameter_tells, left_tells}
 
 -- a form of one part, and of two
-pub one_part : {A B : Type 0} (s : JudgementState) (r : Option A × JudgementState) (f : A → Notes → Option B × Notes) → YieldsFound s r → ((env : Env) (a : A) (n : Notes) → Tells (IsFound (f a n).0) (env, n) (env, (f a n).1)) → YieldsFound s (within r.1.0 (each r.0 f r.1.1))
+pub one_part : {A B : Type 0} (s : JudgementState) (r : Option A × JudgementState) (f : A → Notes → Option B × Notes) → YieldsFound s r → ((env : Env) (a : A) (n : Notes) → Tells (IsFound (f a n).0) (env, n) (env, (f a n).1)) → YieldsFound s (in_env r.1.0 (each r.0 f r.1.1))
 one_part s r f h g = each_tells r.1.0 s r.0 f r.1.1 h (λ a. g r.1.0 a r.1.1)
 
-pub two_parts : {A B D : Type 0} (s u : JudgementState) (r : Option A) (q : Option B × JudgementState) (f : A → B → Notes → Option D × Notes) → Tells (IsFound r) s u → YieldsFound u q → ((env : Env) (a : A) (b : B) (n : Notes) → Tells (IsFound (f a b n).0) (env, n) (env, (f a b n).1)) → YieldsFound s (within q.1.0 (both r q.0 f q.1.1))
+pub two_parts : {A B D : Type 0} (s u : JudgementState) (r : Option A) (q : Option B × JudgementState) (f : A → B → Notes → Option D × Notes) → Tells (IsFound r) s u → YieldsFound u q → ((env : Env) (a : A) (b : B) (n : Notes) → Tells (IsFound (f a b n).0) (env, n) (env, (f a b n).1)) → YieldsFound s (in_env q.1.0 (both_parts r q.0 f q.1.1))
 two_parts s u r q f h k g = both_tells q.1.0 s r q.0 f q.1.1 (tells_then s u q.1 h k) (λ a b. g q.1.0 a b q.1.1)
 
 given_found : {A : Type 0} (o : Option A) → IsFound o → IsFound (option_map Some o)
@@ -34,12 +34,12 @@ given_found None h = h
 given_found (Some x) h = refl
 
 length_tells : (env : Env) (a : TypedExpression) (n : Notes) → Tells (IsFound (given_length a n).0) (env, n) (env, (given_length a n).1)
-length_tells env a n = tells_as (env, n) (env, (given_length a n).1) (given_found (note_fault (length a) n).0) (ruled env (length a) n)
+length_tells env a n = tells_as (env, n) (env, (given_length a n).1) (given_found (note_fault (length_value a) n).0) (ruled env (length_value a) n)
 
 -- the type of a type name
 abbrev named_type_of : ℕ → t.TypeNode → JudgementState → Option DeclaredType × JudgementState
 named_type_of at node s =
-    let l = leaf s.0 at node s.1 in let r = derive at node l.0 (s.0, l.1) in within r.1.0 (each r.0 (type_named at) r.1.1)
+    let l = leaf s.0 at node s.1 in let r = derive at node l.0 (s.0, l.1) in in_env r.1.0 (each r.0 (type_named at) r.1.1)
 
 type_tells : (at : ℕ) (node : t.TypeNode) (s : JudgementState) → (let l = leaf s.0 at node s.1 in let r = derive at node l.0 (s.0, l.1) in Tells (IsFound l.0 → IsFound r.0) (s.0, l.1) r.1) → YieldsFound s (named_type_of at node s)
 type_tells at node s h =
@@ -60,31 +60,31 @@ mutual
   judge_tells (e.Unary' at op _ (k.more_of-Expr x k.end_of-Expr)) s = one_part s (judge x s) (apply_prefix at op) (judge_tells x s) (λ env a n. prefix_tells env at op a n)
   judge_tells (e.Binary' at op _ (k.more_of-Expr x k.end_of-Expr) _ (k.more_of-Expr y k.end_of-Expr)) s =
       let u = judge x s in
-      two_parts s u.1 u.0 (judge y u.1) (between at op) (judge_tells x s) (judge_tells y u.1) (λ env a b n. ruled env _ n)
+      two_parts s u.1 u.0 (judge y u.1) (binary_check at op) (judge_tells x s) (judge_tells y u.1) (λ env a b n. ruled env _ n)
   judge_tells (e.Assign' at op _ (k.more_of-Expr x k.end_of-Expr) _ (k.more_of-Expr y k.end_of-Expr)) s =
       let u = judge x s in
-      two_parts s u.1 u.0 (judge y u.1) (assignment at op) (judge_tells x s) (judge_tells y u.1) (λ env a b n. ruled env _ n)
+      two_parts s u.1 u.0 (judge y u.1) (assignment_check at op) (judge_tells x s) (judge_tells y u.1) (λ env a b n. ruled env _ n)
   judge_tells (e.Conditional' at _ (k.more_of-Expr x k.end_of-Expr) _ (k.more_of-Expr y k.end_of-Expr) _ (k.more_of-Expr z k.end_of-Expr)) s =
       let u = judge x s in let v = judge y u.1 in let w = judge z v.1 in
       choice_tells w.1.0 s at u.0 v.0 w.0 w.1.1 (tells_then s v.1 w.1 (tells_then s u.1 v.1 (judge_tells x s) (judge_tells y u.1)) (judge_tells z v.1))
   judge_tells (e.Cast' at _ (k.more_of-TypeName place ty k.end_of-TypeName) _ (k.more_of-Expr x k.end_of-Expr)) s =
-      let l = leaf s.0 place ty s.1 in let r = derive place ty l.0 (s.0, l.1) in let to = within r.1.0 (each r.0 (type_named place) r.1.1) in
-      two_parts s to.1 to.0 (judge x to.1) (cast at) (type_tells place ty s (derive_tells place ty l.0 (s.0, l.1)))
+      let l = leaf s.0 place ty s.1 in let r = derive place ty l.0 (s.0, l.1) in let to = in_env r.1.0 (each r.0 (type_named place) r.1.1) in
+      two_parts s to.1 to.0 (judge x to.1) (cast_check at) (type_tells place ty s (derive_tells place ty l.0 (s.0, l.1)))
       (judge_tells x to.1) (λ env a b n. ruled env _ n)
   judge_tells (e.SizeOfValue' at _ (k.more_of-Expr x k.end_of-Expr)) s =
-      let a = judge x (s.0, apart s.1) in let back : JudgementState = (a.1.0, rejoin s.1.addressed s.1.texts a.1.1) in
+      let a = judge x (s.0, nothing_taken s.1) in let back : JudgementState = (a.1.0, rejoin s.1.addressed s.1.texts a.1.1) in
       one_part s (a.0, back) (size_of_value at)
-      (tells_both s a.1 back (λ x y. x) (tells_both s (s.0, apart s.1) a.1 (λ x y. y) (tells_kept {X = Unit {0}} s (s.0, apart s.1) refl refl refl refl tt) (judge_tells x (s.0, apart s.1))) (tells_kept {X = Unit {0}} a.1 back refl refl refl refl tt))
+      (tells_both s a.1 back (λ x y. x) (tells_both s (s.0, nothing_taken s.1) a.1 (λ x y. y) (tells_kept {X = Unit {0}} s (s.0, nothing_taken s.1) refl refl refl refl tt) (judge_tells x (s.0, nothing_taken s.1))) (tells_kept {X = Unit {0}} a.1 back refl refl refl refl tt))
       (λ env a n. ruled env _ n)
   judge_tells (e.SizeOfType' at _ (k.more_of-TypeName place ty k.end_of-TypeName)) s =
-      let l = leaf s.0 place ty s.1 in let r = derive place ty l.0 (s.0, l.1) in let to = within r.1.0 (each r.0 (type_named place) r.1.1) in
+      let l = leaf s.0 place ty s.1 in let r = derive place ty l.0 (s.0, l.1) in let to = in_env r.1.0 (each r.0 (type_named place) r.1.1) in
       one_part s to (size_of_name at) (type_tells place ty s (derive_tells place ty l.0 (s.0, l.1))) (λ env a n. ruled env _ n)
   judge_tells (e.Index' at _ (k.more_of-Expr x k.end_of-Expr) _ (k.more_of-Expr y k.end_of-Expr)) s =
       let u = judge x s in
-      two_parts s u.1 u.0 (judge y u.1) (element at) (judge_tells x s) (judge_tells y u.1) (λ env a b n. ruled env _ n)
+      two_parts s u.1 u.0 (judge y u.1) (subscript_check at) (judge_tells x s) (judge_tells y u.1) (λ env a b n. ruled env _ n)
   judge_tells (e.Field' at _ (k.more_of-Expr x k.end_of-Expr) name) s = one_part s (judge x s) (field_named at name) (judge_tells x s) (λ env a n. field_tells env at name a n)
   judge_tells (e.Arrow' at _ (k.more_of-Expr x k.end_of-Expr) name) s = one_part s (judge x s) (arrow_named at name) (judge_tells x s) (λ env a n. arrow_tells env at name a n)
-  judge_tells (e.Postfix' at op _ (k.more_of-Expr x k.end_of-Expr)) s = one_part s (judge x s) (behind at op) (judge_tells x s) (λ env a n. ruled env _ n)
+  judge_tells (e.Postfix' at op _ (k.more_of-Expr x k.end_of-Expr)) s = one_part s (judge x s) (postfix_check at op) (judge_tells x s) (λ env a n. ruled env _ n)
   judge_tells (e.Comma' at _ operands) s =
       let u = judge_row operands (Some []) s in
       commas_tells u.1.0 s at u.0 u.1.1 (row_tells operands (Some []) s s (tells_none s refl))

@@ -13,10 +13,10 @@ use Rattle.c_statement_rules.specs.Jumps.{no_jumps}
 use Rattle.c_statement_rules.specs.Locals.{BodyState, parameter_named, with_addressed}
 use Rattle.c_statements.specs.declared.functions.FunctionType.{FunctionType}
 use Rattle.c_statements.specs.Statements.{statement}
-use Rattle.c_statements.specs.Functions.{parameters_of, parameter_of, parameters, typed_parameters, declared_parameters, result_of, typed_function, function}
+use Rattle.c_statements.specs.Functions.{parameters_of, judge_parameter, parameters, typed_parameters, declared_parameters, result_of, typed_function, judge_function}
 use Rattle.c_found_laws.specs.Laws.{Tells, IsFound}
 use Rattle.c_found_laws.proofs.Forms.{no_true, also, tells_none, tells_as, tells_then, tells_both, append_found, left_tells}
-use Rattle.c_found_statement_laws.specs.Laws.{are_as_many, fits}
+use Rattle.c_found_statement_laws.specs.Laws.{are_as_many, type_fits}
 use Rattle.c_found_statement_laws.proofs.Parts.{parameter_named_tells, parameter_tells}
 use Rattle.c_found_statement_laws.proofs.Statements.{statement_tells}
 
@@ -25,7 +25,7 @@ use Rattle.c_found_statement_laws.proofs.Statements.{statement_tells}
 parameters_tell : (ps : List Parameter) (sound : Bool) (v : JudgementState) (w : BodyState) → Tells (Unit {0}) v w.1 → Tells (Unit {0}) v (parameters ps sound w).1.1
 parameters_tell [] sound v w h = h
 parameters_tell (p ∷ ps) sound v w h =
-    let r = parameter_of p w in
+    let r = judge_parameter p w in
     parameters_tell ps (sound && is_some r.0) v r.1 (tells_both v w.1 r.1.1 (λ x y. tt) h (parameter_tells p w))
 
 typed_parameters_tell : (ps : List Parameter) (tys : List CType) (sound : Bool) (v : JudgementState) (w : BodyState) → Tells (IsTrue sound) v w.1
@@ -59,14 +59,14 @@ module _ (of : Option CType) where
 
 -- ---- functions
 
-made_found : (d : Declaration) (of : Option FunctionType) (sound : Bool) (params : ℕ) (ls : List Local) (found : Option (List TStmt)) → Declared of (parameters_of d.ty) sound → (IsFound (result_of of) → IsFound found) → IsTrue (fits of d)
+made_found : (d : Declaration) (of : Option FunctionType) (sound : Bool) (params : ℕ) (ls : List Local) (found : Option (List TStmt)) → Declared of (parameters_of d.ty) sound → (IsFound (result_of of) → IsFound found) → IsTrue (type_fits of d)
     → IsFound (typed_function d.name (result_of of) sound params ls found)
 made_found d None sound params ls found h g k = no_true k
 made_found d (Some of) false params ls found h g k = no_true (h k)
 made_found d (Some of) true params ls None h g k = no_true (g refl)
 made_found d (Some of) true params ls (Some list) h g k = refl
 
-pub function_tells : (d : Declaration) (of : Option FunctionType) (list : List Stmt) (s : JudgementState) → Tells (IsTrue (fits of d) → IsFound (function d of list s).0) s (function d of list s).1
+pub function_tells : (d : Declaration) (of : Option FunctionType) (list : List Stmt) (s : JudgementState) → Tells (IsTrue (type_fits of d) → IsFound (judge_function d of list s).0) s (judge_function d of list s).1
 function_tells d of list s =
     let start : BodyState = ([], (enter s.0, s.1)) in
     let p = declared_parameters of (parameters_of d.ty) start in

@@ -23,27 +23,27 @@ use Rattle.c_typed_tree.specs.declared.statements.TLabel.{TLabel}
 use Rattle.c_typed_tree.specs.declared.statements.TLabel.TheVariants.{Case, Default}
 use Rattle.c_typed_tree.specs.Typing.{is_array, is_void}
 use Rattle.c_typed_tree.specs.View.{type_view}
-use Rattle.c_constant_rules.specs.Values.{label}
+use Rattle.c_constant_rules.specs.Values.{label_value}
 use Rattle.c_operators.specs.Null.{take_value}
 use Rattle.c_checks.specs.declared.env.Env.{Env}
 use Rattle.c_checks.specs.declared.meanings.NameMeaning.TheVariants as m
 use Rattle.c_checks.specs.declared.notes.Notes.{Notes}
-use Rattle.c_checks.specs.Checks.{and_then, each, both, walk, append_part, note_fault, pure}
+use Rattle.c_checks.specs.Checks.{and_then, each, both_parts, walk, append_part, note_fault, pure}
 use Rattle.c_checks.specs.Notes.{with_fault}
-use Rattle.c_checks.specs.Scopes.{with_name, stands_here}
+use Rattle.c_checks.specs.Scopes.{with_meaning, stands_here}
 use Rattle.c_judgements.specs.Leaves.{leaf}
 use Rattle.c_judgements.specs.Types.{JudgementState, parameter_type}
 use Rattle.c_expressions.specs.Expressions.{judge, derive}
-use Rattle.c_statement_rules.specs.Members.{is_member}
+use Rattle.c_statement_rules.specs.Members.{is_member_type}
 use Rattle.c_statement_rules.specs.declared.jumps.Jumps.{Jumps}
 use Rattle.c_statement_rules.specs.declared.labels.Labels.{Labels}
 use Rattle.c_statement_rules.specs.declared.locals.NewLocal.{NewLocal}
-use Rattle.c_statement_rules.specs.Objects.{no_object, object_type}
-use Rattle.c_statement_rules.specs.Values.{condition, switch_operand, full_expression, return_of, bad_return, return_value, return_nothing}
+use Rattle.c_statement_rules.specs.Objects.{no_object_type, object_type}
+use Rattle.c_statement_rules.specs.Values.{condition_check, switch_check, full_expression, return_of, bad_return, return_value, return_nothing}
 use Rattle.c_statement_rules.specs.Jumps.{bad_jump, break_statement, continue_statement}
 use Rattle.c_statement_rules.specs.Labels.{has_word, with_words, with_default, LabelState, beside_labels, bad_label, operand_type, case_value, case_label, default_label}
-use Rattle.c_statement_rules.specs.Locals.{BodyState, with_notes, local_of_type, local_named, no_name, parameter_named, parameter_declared, no_initialiser, initialiser, with_initialiser, local_with_value, without_initialiser}
-use Rattle.c_statements.specs.Parts.{condition_of, value_of, operand_of, optional_condition, optional_value, return_statement, type_of, initialiser_of, local_of, first_of, label_of}
+use Rattle.c_statement_rules.specs.Locals.{BodyState, with_notes, local_of_type, local_named, nameless_local, parameter_named, parameter_declared, no_initialiser, initialiser, with_initialiser, local_with_value, without_initialiser}
+use Rattle.c_statements.specs.Parts.{condition_of, full_value, operand_of, optional_condition, optional_value, return_statement, judge_type, initialiser_of, local_of, first_of, label_of}
 use Rattle.c_found_laws.specs.Laws.{Tells, IsFound, YieldsFound}
 use Rattle.c_found_laws.proofs.Forms.{no_true, tells_none, tells_fault, tells_as, tells_then, tells_both, tells_never, tells_named, ruled, map_found, each_tells, both_tells, each_under, append_found, parameter_type_tells, leaf_tells}
 use Rattle.c_found_laws.proofs.Walks.{one_part, judge_tells, derive_tells}
@@ -57,13 +57,13 @@ module _ {A B S : Type 0} (f : A → S → Option B × S) (state : S → Judgeme
 -- ---- expressions
 
 pub condition_tells : (x : Expr) (s : JudgementState) → YieldsFound s (condition_of x s)
-condition_tells x s = one_part s (judge x s) condition (judge_tells x s) (λ env a n. ruled env _ n)
+condition_tells x s = one_part s (judge x s) condition_check (judge_tells x s) (λ env a n. ruled env _ n)
 
-pub value_tells : (x : Expr) (s : JudgementState) → YieldsFound s (value_of x s)
+pub value_tells : (x : Expr) (s : JudgementState) → YieldsFound s (full_value x s)
 value_tells x s = tells_as s (judge x s).1 (map_found full_expression (judge x s).0) (judge_tells x s)
 
 pub operand_tells : (x : Expr) (s : JudgementState) → YieldsFound s (operand_of x s)
-operand_tells x s = one_part s (judge x s) switch_operand (judge_tells x s) (λ env a n. ruled env _ n)
+operand_tells x s = one_part s (judge x s) switch_check (judge_tells x s) (λ env a n. ruled env _ n)
 
 pub optional_condition_tells : (x : Option Expr) (s : JudgementState) → YieldsFound s (optional_condition x s)
 optional_condition_tells None s = tells_none s refl
@@ -71,7 +71,7 @@ optional_condition_tells (Some x) s = tells_as s (condition_of x s).1 (map_found
 
 pub optional_value_tells : (x : Option Expr) (s : JudgementState) → YieldsFound s (optional_value x s)
 optional_value_tells None s = tells_none s refl
-optional_value_tells (Some x) s = tells_as s (value_of x s).1 (map_found Some (value_of x s).0) (value_tells x s)
+optional_value_tells (Some x) s = tells_as s (full_value x s).1 (map_found Some (full_value x s).0) (value_tells x s)
 
 -- ---- `return`
 
@@ -100,21 +100,21 @@ return_tells of at None s = each_under s.0 s (IsFound of) of (return_nothing at)
 return_tells None at (Some x) s = tells_as s (judge x s).1 (λ h k. no_true k) (judge_tells x s)
 return_tells (Some ty) at (Some x) s =
     let r = judge x s in
-    tells_as s (r.1.0, (both (Some ty) r.0 (return_value at) r.1.1).1) (λ h k. h)
+    tells_as s (r.1.0, (both_parts (Some ty) r.0 (return_value at) r.1.1).1) (λ h k. h)
     (both_tells r.1.0 s (Some ty) r.0 (return_value at) r.1.1 (tells_as s r.1 (λ h. (refl, h)) (judge_tells x s)) (λ t a. returned_tells r.1.0 at t a r.1.1))
 
 -- ---- locals
 
-pub type_tells : (at : ℕ) (ty : TypeNode) (s : JudgementState) → YieldsFound s (type_of at ty s)
+pub type_tells : (at : ℕ) (ty : TypeNode) (s : JudgementState) → YieldsFound s (judge_type at ty s)
 type_tells at ty s =
     let l = leaf s.0 at ty s.1 in
     tells_both s (s.0, l.1) (derive at ty l.0 (s.0, l.1)).1 (λ x y. y x) (leaf_tells s.0 at ty s.1) (derive_tells at ty l.0 (s.0, l.1))
 
 object_tells : (env : Env) (at : ℕ) (x : DeclaredType) (n : Notes) → Tells (IsFound (object_type at x n).0) (env, n) (env, (object_type at x n).1)
-object_tells env at (d.Value x) n = choose (is_member n.structs x)
+object_tells env at (d.Value x) n = choose (is_member_type n.structs x)
   where
     either : Bool → Option CType × Notes
-    either b = if b then (Some x, n) else no_object at n
+    either b = if b then (Some x, n) else no_object_type at n
 
     choose : (b : Bool) → Tells (IsFound (either b).0) (env, n) (env, (either b).1)
     choose true = tells_none (env, n) refl
@@ -127,7 +127,7 @@ FindsIn s r = Tells (IsFound r.0) s r.1.1
 
 local_by_type : (name : List ℕ) (o : Option CType) (s : JudgementState) (w : BodyState) → Tells (IsFound o) s w.1 → FindsIn s (with_notes w.1.1 (local_of_type name o (w.0, w.1.0)))
 local_by_type name None s w h = record { before = h.before; stays = λ t g. no_true (h.found t g); found = λ t g. no_true (h.found t g) }
-local_by_type name (Some ty) s w h = tells_both s w.1 (with_name name (m.Local (length w.0) ty) w.1.0, w.1.1) (λ x y. y) h (tells_named name (m.Local (length w.0) ty) w.1 refl refl)
+local_by_type name (Some ty) s w h = tells_both s w.1 (with_meaning name (m.Local (length w.0) ty) w.1.0, w.1.1) (λ x y. y) h (tells_named name (m.Local (length w.0) ty) w.1 refl refl)
 
 pub local_named_tells : (at : ℕ) (name : List ℕ) (o : Option CType) (s : JudgementState) (w : BodyState) → Tells (IsFound o) s w.1 → FindsIn s (local_named at name o w)
 local_named_tells at name o s w h = choose (stands_here w.1.0 (find name w.1.0.names))
@@ -159,7 +159,7 @@ initialised_tells new (Some x) s w h =
 pub local_tells : (x : tree.LocalDeclarator) (w : BodyState) → FindsIn w.1 (local_of x w)
 local_tells x w =
     let at = x.declaration.at in
-    let ty = type_of at x.declaration.ty w.1 in
+    let ty = judge_type at x.declaration.ty w.1 in
     let o = each ty.0 (object_type at) ty.1.1 in
     let u : BodyState = (w.0, (ty.1.0, o.1)) in
     let new = local_named at x.declaration.name o.0 u in
@@ -168,7 +168,7 @@ local_tells x w =
 
 pub first_tells : (p : ForFirst) (w : BodyState) → FindsIn w.1 (first_of p w)
 first_tells g.Nothing w = tells_none w.1 refl
-first_tells (g.Value x) w = tells_as w.1 (value_of x w.1).1 (map_found _ (value_of x w.1).0) (value_tells x w.1)
+first_tells (g.Value x) w = tells_as w.1 (full_value x w.1).1 (map_found _ (full_value x w.1).0) (value_tells x w.1)
 first_tells (g.Locals ds) w =
     let r = walk local_of ds (Some []) w in
     tells_as w.1 r.1.1 (map_found _ r.0) (walk_tells local_of (λ (w : BodyState). w.1) local_tells ds (Some []) w.1 w (tells_none w.1 refl))
@@ -187,7 +187,7 @@ case_tells env (Some ty) at word s = choose (has_word word s.0.words)
     choose false = tells_none (env, s.1) refl
 
 case_label_tells : (env : Env) (ty : Option IntegerType) (at : ℕ) (a : TypedExpression) (s : LabelState) → Tells (IsFound (case_label ty at a s).0) (env, s.1) (env, (case_label ty at a s).1.1)
-case_label_tells env ty at a s = of (label (operand_type ty) a)
+case_label_tells env ty at a s = of (label_value (operand_type ty) a)
   where
     by : Ruling ℕ → Option TLabel × LabelState
     by r = and_then (beside_labels s.0 (note_fault r s.1)) (λ v. each v (case_value ty at))
@@ -231,15 +231,15 @@ module _ (env : Env) (j : Jumps) (at : ℕ) (n : Notes) where
 
 -- ---- parameters
 
-no_name_tells : (at : ℕ) (o : Option CType) (s : JudgementState) (w : BodyState) → Tells (IsFound o) s w.1 → Tells (IsFound (each o (no_name at) w.1.1).0) s (w.1.0, (each o (no_name at) w.1.1).1)
-no_name_tells at o s w h = each_tells w.1.0 s o (no_name at) w.1.1 h (λ x. tells_fault w.1.0 at BadType w.1.1)
+no_name_tells : (at : ℕ) (o : Option CType) (s : JudgementState) (w : BodyState) → Tells (IsFound o) s w.1 → Tells (IsFound (each o (nameless_local at) w.1.1).0) s (w.1.0, (each o (nameless_local at) w.1.1).1)
+no_name_tells at o s w h = each_tells w.1.0 s o (nameless_local at) w.1.1 h (λ x. tells_fault w.1.0 at BadType w.1.1)
 
 pub parameter_named_tells : (at : ℕ) (name : Option (List ℕ)) (o : Option CType) (s : JudgementState) (w : BodyState) → Tells (IsFound o) s w.1 → FindsIn s (parameter_named at name o w)
 parameter_named_tells at None o s w h = no_name_tells at o s w h
 parameter_named_tells at (Some name) o s w h = local_named_tells at name o s w h
 
-pub parameter_tells : (p : Parameter) (w : BodyState) → (let ty = type_of p.at p.ty w.1 in FindsIn w.1 (parameter_declared p.at p.name ty.0 (w.0, ty.1)))
+pub parameter_tells : (p : Parameter) (w : BodyState) → (let ty = judge_type p.at p.ty w.1 in FindsIn w.1 (parameter_declared p.at p.name ty.0 (w.0, ty.1)))
 parameter_tells p w =
-    let ty = type_of p.at p.ty w.1 in
+    let ty = judge_type p.at p.ty w.1 in
     let o = each ty.0 (parameter_type p.at) ty.1.1 in
     parameter_named_tells p.at p.name o.0 w.1 (w.0, (ty.1.0, o.1)) (each_tells ty.1.0 w.1 ty.0 (parameter_type p.at) ty.1.1 (type_tells p.at p.ty w.1) (λ a. parameter_type_tells ty.1.0 p.at a ty.1.1))

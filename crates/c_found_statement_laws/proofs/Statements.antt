@@ -17,7 +17,7 @@ use Rattle.c_statement_rules.specs.Jumps.{in_loop, in_switch, break_statement, c
 use Rattle.c_statement_rules.specs.Labels.{no_labels}
 use Rattle.c_statement_rules.specs.Locals.{BodyState}
 use Rattle.c_statement_rules.specs.Forms.{if_else, while_loop, do_loop, for_loop, switch, section_under, switch_type}
-use Rattle.c_statements.specs.Parts.{condition_of, value_of, operand_of, optional_condition, optional_value, local_of, first_of, label_of}
+use Rattle.c_statements.specs.Parts.{condition_of, full_value, operand_of, optional_condition, optional_value, local_of, first_of, label_of}
 use Rattle.c_statements.specs.Statements.{SwitchState, in_scope, beside_locals, statement, statement_row, else_held, section_row}
 use Rattle.c_found_laws.specs.Laws.{Tells, IsFound}
 use Rattle.c_found_laws.proofs.Forms.{no_true, tells_none, tells_as, tells_then, tells_both, append_found, map_found, left_tells}
@@ -93,7 +93,7 @@ module _ (of : Option CType) where
     statement_tells j (s.Break at) w = tells_as w.1 (w.1.0, (break_statement j at w.1.1).1) (λ h k. h) (break_tells w.1.0 j at w.1.1)
     statement_tells j (s.Continue at) w = tells_as w.1 (w.1.0, (continue_statement j at w.1.1).1) (λ h k. h) (continue_tells w.1.0 j at w.1.1)
     statement_tells j (s.Return at x) w = return_tells of at x w.1
-    statement_tells j (s.Expression x) w = let v = value_of x w.1 in tells_as w.1 v.1 (λ h k. map_found _ v.0 h) (value_tells x w.1)
+    statement_tells j (s.Expression x) w = let v = full_value x w.1 in tells_as w.1 v.1 (λ h k. map_found _ v.0 h) (value_tells x w.1)
     statement_tells j s.Empty w = tells_none w.1 (λ k. refl)
     statement_tells j (s.Local x) w = let r = local_of x w in tells_as w.1 r.1.1 (λ h k. map_found _ r.0 h) (local_tells x w)
 

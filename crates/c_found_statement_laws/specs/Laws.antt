@@ -4,7 +4,7 @@ use Rattle.c_tree.specs.declared.types.Declaration.{Declaration}
 use Rattle.c_tree.specs.declared.statements.Stmt.{Stmt}
 use Rattle.c_judgements.specs.Types.{JudgementState}
 use Rattle.c_statements.specs.declared.functions.FunctionType.{FunctionType}
-use Rattle.c_statements.specs.Functions.{parameters_of, function}
+use Rattle.c_statements.specs.Functions.{parameters_of, judge_function}
 use Rattle.c_found_laws.specs.Laws.{Tells, IsFound}
 
 -- whether there is a type for each parameter
@@ -15,12 +15,12 @@ are_as_many (x ∷ xs) [] = false
 are_as_many (x ∷ xs) (y ∷ ys) = are_as_many xs ys
 
 -- a type that fits the declarator
-abbrev pub fits : Option FunctionType → Declaration → Bool
-fits None d = false
-fits (Some of) d = are_as_many (parameters_of d.ty) of.parameters
+abbrev pub type_fits : Option FunctionType → Declaration → Bool
+type_fits None d = false
+type_fits (Some of) d = are_as_many (parameters_of d.ty) of.parameters
 
 -- what is judged of a function whose declarator has no fault
 abbrev pub FunctionsAreFound : Type 0
 FunctionsAreFound =
     (d : Declaration) (of : Option FunctionType) (list : List Stmt) (s : JudgementState) →
-    Tells (IsTrue (fits of d) → IsFound (function d of list s).0) s (function d of list s).1
+    Tells (IsTrue (type_fits of d) → IsFound (judge_function d of list s).0) s (judge_function d of list s).1

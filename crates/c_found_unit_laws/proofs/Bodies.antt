@@ -19,14 +19,14 @@ use Rattle.c_checks.specs.declared.meanings.NameMeaning.TheVariants as m
 use Rattle.c_checks.specs.declared.notes.Notes.{Notes}
 use Rattle.c_checks.specs.Checks.{each, and_then}
 use Rattle.c_checks.specs.Notes.{with_fault}
-use Rattle.c_checks.specs.Scopes.{with_name, stands_here}
+use Rattle.c_checks.specs.Scopes.{with_meaning, stands_here}
 use Rattle.c_judgements.specs.Leaves.{leaf, tagged_enum, tagged_struct}
-use Rattle.c_judgements.specs.Types.{JudgementState, within}
+use Rattle.c_judgements.specs.Types.{JudgementState, in_env}
 use Rattle.c_expressions.specs.Expressions.{judge, derive}
 use Rattle.c_tag_bodies.specs.declared.members.Members.{Members}
-use Rattle.c_tag_bodies.specs.Enums.{explicit_value, next, value_behind, value_held, constant_meaning, constant_declared, constant_row}
-use Rattle.c_tag_bodies.specs.Members.{no_members, is_member, no_member, member_type, with_member, with_faulty_member, member_named, member_declared}
-use Rattle.c_tag_bodies.specs.Structs.{DefinedTags, with_body, tagged_body, enum_begun, number_of, no_body, number_for_tag, struct_begun, struct_where, with_struct, with_untagged, too_large, with_members, complete, tag_name, struct_ended}
+use Rattle.c_tag_bodies.specs.Enums.{explicit_value, one_above, value_behind, value_held, constant_meaning, constant_declared, constant_row}
+use Rattle.c_tag_bodies.specs.Members.{no_members, is_member_type, no_member, member_type, with_member, with_faulty_member, member_named, member_declared}
+use Rattle.c_tag_bodies.specs.Structs.{DefinedTags, with_body, tagged_body, enum_begun, struct_number_of, no_body, number_for_tag, struct_begun, struct_where, with_struct, with_untagged, too_large, with_members, finish_struct, tag_name, struct_ended}
 use Rattle.c_tag_bodies.specs.Bodies.{TagScope, enum_entered, struct_entered, struct_left, type_behind, member_entered, bodies, constants_held, members_held, member_row, declared_type}
 use Rattle.c_found_laws.specs.Laws.{are_sound_members, NamesAreSound, Tells, IsFound, YieldsFound}
 use Rattle.c_found_laws.proofs.Forms.{no_true, front, back, also, holds, tells_none, tells_kept, tells_fault, tells_as, tells_then, tells_both, tells_never, tells_named, ruled, each_tells, enum_tells, struct_tells, leaf_tells}
@@ -40,7 +40,7 @@ Told s later = Tells (Unit {0}) s later
 
 value_tells : (env : Env) (s : JudgementState) (at : ℕ) (before : Option (Option ℕ)) (n : Notes) → Tells (IsTrue (holds is_some before)) s (env, n) → Tells (IsFound (value_behind at before n).0) s (env, (value_behind at before n).1)
 value_tells env s at None n h = tells_as s (env, n) (λ x. refl) h
-value_tells env s at (Some last) n h = each_tells env s last (next at) n h (λ x. ruled env (next_value at x) n)
+value_tells env s at (Some last) n h = each_tells env s last (one_above at) n h (λ x. ruled env (next_value at x) n)
 
 value_held_tells : (at : ℕ) (value : k.Held-Constant-value) (before : Option (Option ℕ)) (s u : JudgementState) → Tells (IsTrue (holds is_some before)) s u → YieldsFound s (value_held at value before u)
 value_held_tells at k.Constant-value-None' before s u h = value_tells u.0 s at before u.1 h
@@ -48,15 +48,15 @@ value_held_tells at (k.Constant-value-Some' x) before s u h =
     let r = judge x u in
     each_tells r.1.0 s r.0 explicit_value r.1.1 (tells_both s u r.1 (λ x y. y) h (judge_tells x u)) (λ a. ruled r.1.0 (given_value a) r.1.1)
 
-constant_named : (name : List ℕ) (value : Option ℕ) (s u : JudgementState) → Tells (IsFound value) s u → Tells (IsFound value) s (with_name name (constant_meaning value) u.0, u.1)
+constant_named : (name : List ℕ) (value : Option ℕ) (s u : JudgementState) → Tells (IsFound value) s u → Tells (IsFound value) s (with_meaning name (constant_meaning value) u.0, u.1)
 constant_named name None s u h = record { before = h.before; stays = λ t g. no_true (h.found t g); found = h.found }
-constant_named name (Some word) s u h = tells_both s u (with_name name (m.Constant word) u.0, u.1) (λ x y. x) h (tells_named {X = Unit {0}} name (m.Constant word) u refl tt)
+constant_named name (Some word) s u h = tells_both s u (with_meaning name (m.Constant word) u.0, u.1) (λ x y. x) h (tells_named {X = Unit {0}} name (m.Constant word) u refl tt)
 
 constant_tells : (at : ℕ) (name : List ℕ) (value : Option ℕ) (s u : JudgementState) → Tells (IsFound value) s u → Tells (IsFound value) s (constant_declared at name value u)
 constant_tells at name value s u h = choose (stands_here u.0 (find name u.0.names))
   where
     either : Bool → JudgementState
-    either b = if b then (u.0, with_fault at Redeclared u.1) else (with_name name (constant_meaning value) u.0, u.1)
+    either b = if b then (u.0, with_fault at Redeclared u.1) else (with_meaning name (constant_meaning value) u.0, u.1)
 
     choose : (b : Bool) → Tells (IsFound value) s (either b)
     choose true = tells_both s u (u.0, with_fault at Redeclared u.1) (λ x y. x) h (tells_fault {X = Unit {0}} u.0 at Redeclared u.1)
@@ -72,7 +72,7 @@ constants_tell (k.more_of-Constant at name value rest) before s u h =
 -- ---- structs
 
 member_type_tells : (env : Env) (at : ℕ) (x : DeclaredType) (n : Notes) → Tells (IsFound (member_type at x n).0) (env, n) (env, (member_type at x n).1)
-member_type_tells env at (d.Value x) n = choose (is_member n.structs x)
+member_type_tells env at (d.Value x) n = choose (is_member_type n.structs x)
   where
     either : Bool → Option CType × Notes
     either b = if b then (Some x, n) else no_member at n
@@ -167,7 +167,7 @@ module _ (env : Env) (s : JudgementState) (at : ℕ) (number : ℕ) (m : Members
     found = λ t g. tt;
   }
 
-  complete_tells : (o : Option StructDef) (n : Notes) → Tells (AreSound m) s (env, n) → Told s (env, complete at number m o n)
+  complete_tells : (o : Option StructDef) (n : Notes) → Tells (AreSound m) s (env, n) → Told s (env, finish_struct at number m o n)
   complete_tells None n h = large_tells m.faulty n h
   complete_tells (Some structure) n h = choose (is_complete (slice_get n.structs number))
     where
@@ -182,7 +182,7 @@ ended_tells : (env : Env) (s : JudgementState) (at : ℕ) (tag : Option (List �
 ended_tells env s at tag None m n h = tells_as s (env, n) (λ x. tt) h
 ended_tells env s at tag (Some number) m n h =
     let o = struct_where n.structs (tag_name tag) m.fields in
-    untagged_tells env s at number m tag (complete at number m o n) (complete_tells env s at number m o n h)
+    untagged_tells env s at number m tag (finish_struct at number m o n) (complete_tells env s at number m o n h)
 
 -- ---- the type behind the bodies
 

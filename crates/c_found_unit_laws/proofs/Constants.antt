@@ -13,13 +13,13 @@ use Rattle.c_checks.specs.declared.env.Env.{Env}
 use Rattle.c_checks.specs.declared.notes.Notes.{Notes}
 use Rattle.c_checks.specs.Checks.{each, note_fault}
 use Rattle.c_checks.specs.Notes.{with_fault}
-use Rattle.c_checks.specs.Scopes.{with_name, stands_here}
+use Rattle.c_checks.specs.Scopes.{with_meaning, stands_here}
 use Rattle.c_constant_rules.specs.Values.{given_value, next_value}
 use Rattle.c_judgements.specs.Leaves.{leaf}
 use Rattle.c_judgements.specs.Types.{JudgementState}
 use Rattle.c_expressions.specs.Expressions.{judge, derive}
 use Rattle.c_tag_bodies.specs.declared.members.Members.{Members}
-use Rattle.c_tag_bodies.specs.Enums.{explicit_value, next, value_behind, value_held, constant_meaning, constant_declared, constant_row}
+use Rattle.c_tag_bodies.specs.Enums.{explicit_value, one_above, value_behind, value_held, constant_meaning, constant_declared, constant_row}
 use Rattle.c_tag_bodies.specs.Members.{no_members}
 use Rattle.c_tag_bodies.specs.Bodies.{TagScope, enum_entered, struct_entered, type_behind, member_entered, bodies, constants_held, members_held, member_row, declared_type}
 use Rattle.c_found_unit_laws.proofs.Names.{judge_leaves, derive_leaves}
@@ -27,7 +27,7 @@ use Rattle.c_found_unit_laws.proofs.Names.{judge_leaves, derive_leaves}
 -- names that do not stand in the scope are declared, with values of the type `int`
 pub data Enters : Env → Env → Type 0 where
   Same : {env : Env} → Enters env env
-  More : {env mid : Env} (name : List ℕ) (value : Option ℕ) → Enters env mid → stands_here mid (find name mid.names) ≡ false → IfSome value (λ word. IsTrue (is_word Int word)) → Enters env (with_name name (constant_meaning value) mid)
+  More : {env mid : Env} (name : List ℕ) (value : Option ℕ) → Enters env mid → stands_here mid (find name mid.names) ≡ false → IfSome value (λ word. IsTrue (is_word Int word)) → Enters env (with_meaning name (constant_meaning value) mid)
 
 pub enters_then : {a b c : Env} → Enters a b → Enters b c → Enters a c
 enters_then h Same = h
@@ -65,7 +65,7 @@ constant_enters : (at : ℕ) (name : List ℕ) (value : Option ℕ) (s : Judgeme
 constant_enters at name value s h = choose (stands_here s.0 (find name s.0.names)) refl
   where
     either : Bool → JudgementState
-    either b = if b then (s.0, with_fault at Redeclared s.1) else (with_name name (constant_meaning value) s.0, s.1)
+    either b = if b then (s.0, with_fault at Redeclared s.1) else (with_meaning name (constant_meaning value) s.0, s.1)
 
     choose : (b : Bool) → stands_here s.0 (find name s.0.names) ≡ b → Enters s.0 (either b).0
     choose true e = Same

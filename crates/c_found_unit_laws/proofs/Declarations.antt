@@ -24,25 +24,25 @@ use Rattle.c_checks.specs.declared.meanings.NameMeaning.TheVariants as m
 use Rattle.c_checks.specs.declared.notes.Notes.{Notes}
 use Rattle.c_checks.specs.Checks.{each, and_then, pure}
 use Rattle.c_checks.specs.Notes.{with_fault}
-use Rattle.c_checks.specs.Scopes.{with_name, meaning_of}
+use Rattle.c_checks.specs.Scopes.{with_meaning, meaning_of}
 use Rattle.c_judgements.specs.Leaves.{no_type}
 use Rattle.c_judgements.specs.Types.{JudgementState, type_named}
-use Rattle.c_tag_bodies.specs.Members.{is_member}
+use Rattle.c_tag_bodies.specs.Members.{is_member_type}
 use Rattle.c_statements.specs.declared.functions.FunctionType.{FunctionType}
-use Rattle.c_statements.specs.Functions.{function}
+use Rattle.c_statements.specs.Functions.{judge_function}
 use Rattle.c_unit_names.specs.declared.names.NameDeclaration.{NameDeclaration}
 use Rattle.c_unit_names.specs.declared.names.UnitNames.{UnitNames}
-use Rattle.c_unit_names.specs.UnitNames.{may_follow, object_name, function_name, first_meaning, named_first, with_declared, with_value, meaning_before, redeclare, first_by, first_declared, follows, known_by, known_declared, declaration}
+use Rattle.c_unit_names.specs.UnitNames.{may_follow, object_name, function_name, first_meaning, named_first, with_declared, with_value, meaning_before, redeclare, first_by, first_declared, follows, known_by, known_declared, judge_declaration}
 use Rattle.c_initialisers.specs.Unfit.{judge_init}
 use Rattle.c_initialisers.specs.Initialisers.{object_cells, length_given}
 use Rattle.c_declarations.specs.declared.walk.UnitSoFar.{UnitSoFar}
-use Rattle.c_declarations.specs.Walk.{UnitWalk, in_notes, with_notes, declare, with_names, is_main, main_checked, add_object, with_object, keep_cells, fill, keep_function, body_kept}
-use Rattle.c_declarations.specs.Objects.{no_object, object_type, type_there, array_type, init_judged, init_filled, object_declared, faulty_object, object_of, array_object, value_object}
-use Rattle.c_declarations.specs.Functions.{function_type, function_declared, function_of, function_with_type, init_refused, optional_refused, name_judged, name_row, type_where, defined_type, with_main, main_seen, refusal_of}
+use Rattle.c_declarations.specs.Walk.{UnitWalk, in_notes, with_notes, declare, with_names, is_main, main_checked, add_object, with_unit_object, keep_cells, fill, keep_function, body_kept}
+use Rattle.c_declarations.specs.Objects.{no_object_type, object_type, type_there, array_type, init_judged, init_filled, object_declared, faulty_object, object_by_type, array_object, value_object}
+use Rattle.c_declarations.specs.Functions.{function_type, function_declared, function_by_type, function_with_type, init_refused, optional_refused, name_judged, name_row, type_where, defined_type, with_main, main_seen, refusal_of}
 use Rattle.c_units.specs.Externals.{typedef_of, prototype, type_with, type_of_function, body_judged, definition_with}
 use Rattle.c_found_laws.specs.Laws.{is_sound, are_sound_names, NamesAreSound, Tells, IsFound, YieldsFound}
 use Rattle.c_found_laws.proofs.Forms.{no_true, also, holds, meaning_sound, tells_none, tells_fault, tells_as, tells_then, tells_both, tells_never, tells_named, type_named_tells}
-use Rattle.c_found_statement_laws.specs.Laws.{fits}
+use Rattle.c_found_statement_laws.specs.Laws.{type_fits}
 use Rattle.c_found_statement_laws.proofs.Functions.{function_tells}
 use Rattle.c_found_unit_laws.specs.Steps.{DeclaresName, First, Again, declared_as, UnitSteps, Stays, Follows, SeesMain, DeclaresType, DeclaresFunction, DefinesFunction, DeclaresObject, KeepsCells}
 use Rattle.c_found_unit_laws.proofs.Names.{function_env}
@@ -83,7 +83,7 @@ module _ (ds : Definitions) (at : ℕ) (name : List ℕ) (new : NameDeclaration)
   known_tells sound None e = first_tells sound e (meaning_of s.0 name) refl
   known_tells sound (Some old) e = again_tells old e (may_follow old.1 new) refl
 
-  pub declaration_tells : IsTrue (is_sound (first_meaning ds name new u).0) → IsDone (declaration ds at name (Some new) u s)
+  pub declaration_tells : IsTrue (is_sound (first_meaning ds name new u).0) → IsDone (judge_declaration ds at name (Some new) u s)
   declaration_tells sound = known_tells sound (find name u.declared) refl
 
 -- the steps from one state of the walk to another
@@ -107,16 +107,16 @@ main_checked_tells env (Some s.Static) at name n = choose (is_main name)
 pub typedef_by : (ds : Definitions) (at : ℕ) (name : List ℕ) (o : Option DeclaredType) (s : JudgementState) (w : UnitWalk) → Tells (IsFound o) s w.1 → (let v = declare ds at name (option_map typedef_of o) w in Tells (Steps ds w v) s v.1)
 typedef_by ds at name None s w h = tells_refused s w.1 _ h
 typedef_by ds at name (Some ty) s w h =
-    let r = declaration ds at name (Some (typedef_of ty)) w.0.names w.1 in
+    let r = judge_declaration ds at name (Some (typedef_of ty)) w.0.names w.1 in
     tells_both s w.1 r.1 (λ x y. DeclaresType name ty y) h (declaration_tells ds at name (typedef_of ty) w.0.names w.1 refl)
 
 -- ---- objects
 
 object_type_tells : (env : Env) (at : ℕ) (ty : CType) (n : Notes) → Tells (IsFound (object_type at ty n).0) (env, n) (env, (object_type at ty n).1)
-object_type_tells env at ty n = choose (is_member n.structs ty)
+object_type_tells env at ty n = choose (is_member_type n.structs ty)
   where
     either : Bool → Option CType × Notes
-    either b = if b then (Some ty, n) else no_object at n
+    either b = if b then (Some ty, n) else no_object_type at n
 
     choose : (b : Bool) → Tells (IsFound (either b).0) (env, n) (env, (either b).1)
     choose true = tells_none (env, n) refl
@@ -146,14 +146,14 @@ object_sound : (ds : Definitions) (name : List ℕ) (ty : CType) (has_value defi
 object_sound ds name ty has_value true u = refl
 object_sound ds name ty has_value false u = refl
 
-object_by : (ds : Definitions) (at : ℕ) (name : List ℕ) (storage : Option Storage) (init : Option Init) (o : Option CType) (s : JudgementState) (w : UnitWalk) → Tells (IsFound o) s w.1 → (let v = object_of ds at name storage init o w in Tells (Steps ds w v) s v.1)
+object_by : (ds : Definitions) (at : ℕ) (name : List ℕ) (storage : Option Storage) (init : Option Init) (o : Option CType) (s : JudgementState) (w : UnitWalk) → Tells (IsFound o) s w.1 → (let v = object_by_type ds at name storage init o w in Tells (Steps ds w v) s v.1)
 object_by ds at name storage init None s w h =
     let mid = declare ds at name None w in
     tells_both s mid.1 (init_judged init mid.1) (λ x y. x) (tells_refused s w.1 mid.1.0 h) (init_judged_tells init mid.1)
 object_by ds at name storage init (Some ty) s w h =
     let n = main_checked storage at name w.1.1 in
     let new = object_declared ty (is_some init) in
-    let r = declaration ds at name (Some new) w.0.names (w.1.0, n) in
+    let r = judge_declaration ds at name (Some new) w.0.names (w.1.0, n) in
     let u = add_object r.1.0 name ty (with_names r.0 w.0) in
     let v = init_filled name ty init (u, r.1) in
     tells_both s r.1 v.1 (λ x y. Follows (DeclaresObject name ty (is_some init) x) y)
@@ -183,11 +183,11 @@ function_sound false ty tys u = refl
 
 -- the declaration of a function without a fault
 pub function_by : (ds : Definitions) (at : ℕ) (name : List ℕ) (storage : Option Storage) (has_body : Bool) (of : CType) (tys : List CType) (s : JudgementState) (w : UnitWalk) → Tells (Unit {0}) s w.1
-    → (let v = function_of ds at name storage has_body (Some (d.Function of tys)) w in Tells (DeclaresName ds name (function_declared has_body (d.Function of tys)) w.0.names w.1.0 v.0.names v.1.0) s v.1)
+    → (let v = function_by_type ds at name storage has_body (Some (d.Function of tys)) w in Tells (DeclaresName ds name (function_declared has_body (d.Function of tys)) w.0.names w.1.0 v.0.names v.1.0) s v.1)
 function_by ds at name storage has_body of tys s w h =
     let n = main_checked storage at name w.1.1 in
     let new = function_declared has_body (d.Function of tys) in
-    let r = declaration ds at name (Some new) w.0.names (w.1.0, n) in
+    let r = judge_declaration ds at name (Some new) w.0.names (w.1.0, n) in
     tells_both s (w.1.0, n) r.1 (λ x y. y) (tells_both s w.1 (w.1.0, n) (λ x y. y) h (main_checked_tells w.1.0 storage at name w.1.1))
     (declaration_tells ds at name new w.0.names (w.1.0, n) (function_sound (is_some (find name ds.functions)) of tys w.0.names))
 

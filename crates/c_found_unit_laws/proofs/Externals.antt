@@ -27,7 +27,7 @@ use Rattle.c_judgements.specs.Leaves.{no_type}
 use Rattle.c_judgements.specs.Types.{JudgementState}
 use Rattle.c_tag_bodies.specs.Bodies.{TagScope, declared_type}
 use Rattle.c_statements.specs.declared.functions.FunctionType.{FunctionType}
-use Rattle.c_statements.specs.Functions.{parameters_of, function}
+use Rattle.c_statements.specs.Functions.{parameters_of, judge_function}
 use Rattle.c_initialisers.specs.Unfit.{judge_init, no_place}
 use Rattle.data_object.specs.declared.DataCell.{DataCell}
 use Rattle.c_arithmetic.specs.declared.integer_type.IntegerType.TheVariants.{Int}
@@ -36,7 +36,7 @@ use Rattle.c_tag_bodies.specs.Enums.{constant_meaning}
 use Rattle.c_checks.specs.declared.meanings.NameMeaning.{NameMeaning}
 use Rattle.c_checks.specs.declared.meanings.NameMeaning.TheVariants as m
 use Rattle.c_checks.specs.Checks.{each}
-use Rattle.c_checks.specs.Scopes.{with_name, stands_here}
+use Rattle.c_checks.specs.Scopes.{with_meaning, stands_here}
 use Rattle.c_type_faults.specs.declared.faults.Kind.{Kind}
 use Rattle.c_judgements.specs.Types.{type_named}
 use Rattle.c_unit_names.specs.declared.names.NameDeclaration.{NameDeclaration}
@@ -45,14 +45,14 @@ use Rattle.std.specs.Bool.{beq}
 use Rattle.c_unit_names.specs.UnitNames.{is_same_declared, may_follow, object_name, function_name, value_name, first_meaning, with_declared, with_value}
 use Rattle.c_scopes.specs.Names.{Entry, find}
 use Rattle.c_declarations.specs.declared.walk.UnitSoFar.{UnitSoFar}
-use Rattle.c_declarations.specs.Walk.{UnitWalk, in_notes, with_notes, with_state, declare, with_names, is_main, add_numbered, next_object, object_at, fill_numbered, function_at, add_function, keep_function, body_kept}
+use Rattle.c_declarations.specs.Walk.{UnitWalk, in_notes, with_notes, with_state, declare, with_names, is_main, add_numbered, next_object, object_number, fill_numbered, function_at, add_function, keep_function, body_kept}
 use Rattle.c_declarations.specs.Objects.{object_declared}
-use Rattle.c_declarations.specs.Functions.{init_refused, refusal_of, function_type, function_declared, function_of, function_with_type, name_judged, name_row, type_where, defined_type, with_main, main_seen, is_start}
-use Rattle.c_units.specs.Externals.{typedef_of, typedef_declared, prototype, refused_behind, value_behind, object_with, main_with, with_main_in, with_definition, type_with, type_of_function, body_judged, definition_with, definition, function_with, end_judged, end_behind, function_typed, behind_type, type_of, tags_declared, external, externals}
+use Rattle.c_declarations.specs.Functions.{init_refused, refusal_of, function_type, function_declared, function_by_type, function_with_type, name_judged, name_row, type_where, defined_type, with_main, main_seen, is_start}
+use Rattle.c_units.specs.Externals.{typedef_of, typedef_declared, prototype, refused_behind, with_init_refused, object_with, main_with, with_main_in, with_definition, type_with, type_of_function, body_judged, definition_with, definition, external_function, end_judged, with_end_judged, function_typed, behind_type, declarator_type, tags_declared, walk_external, externals}
 use Rattle.c_found_laws.specs.Laws.{IsClean, is_sound, are_sound_names, NamesAreSound, Tells, IsFound, YieldsFound}
 use Rattle.c_type_laws.proofs.Truth.{three, either_left}
 use Rattle.c_found_laws.proofs.Forms.{no_true, also, front, back, tells_none, tells_fault, tells_as, tells_then, tells_both, each_tells, type_named_tells}
-use Rattle.c_found_statement_laws.specs.Laws.{are_as_many, fits}
+use Rattle.c_found_statement_laws.specs.Laws.{are_as_many, type_fits}
 use Rattle.c_found_statement_laws.proofs.Functions.{function_tells}
 use Rattle.c_found_unit_laws.specs.Steps.{DeclaresName, First, Again, declared_as, UnitSteps, Stays, Follows, AddsConstant, SeesMain, DeclaresType, DeclaresFunction, DefinesFunction, DeclaresObject, KeepsCells, is_function_type, is_body, is_body_in, has_body}
 use Rattle.c_found_unit_laws.proofs.Names.{function_env}
@@ -118,14 +118,14 @@ meaning_keeps ds q name new u h = choose new.is_typedef
     object true ty = h
     object false ty = h
 
-    function : (b : Bool) (ty : CType) (tys : List CType) → IsTrue (has_body q (function_name b ty tys u).1)
-    function true ty tys = h
-    function false ty tys = h
+    judge_function : (b : Bool) (ty : CType) (tys : List CType) → IsTrue (has_body q (function_name b ty tys u).1)
+    judge_function true ty tys = h
+    judge_function false ty tys = h
 
     value : (ty : DeclaredType) → IsTrue (has_body q (value_name ds name ty u).1)
     value (d.Value ty) = object (is_some (find name ds.objects)) ty
     value (d.Unsized ty) = h
-    value (d.Function ty tys) = function (is_some (find name ds.functions)) ty tys
+    value (d.Function ty tys) = judge_function (is_some (find name ds.functions)) ty tys
 
     choose : (b : Bool) → IsTrue (has_body q (if b then (m.Typedef new.ty, u) else value_name ds name new.ty u).1)
     choose true = h
@@ -180,7 +180,7 @@ module _ (ds : Definitions) (e : Declaration) (storage : Option Storage) (list :
 
   -- the body of a function of this type
   kept_steps : (of : FunctionType) (u : UnitSoFar) (env : Env) (names : UnitNames) (s : JudgementState) (r : Option TypedFn × JudgementState) → DeclaresName ds e.name (function_declared true (declared_as of)) u.names env names s.0
-      → function e (Some of) list s ≡ r → r.1.0 ≡ s.0 → IsFound r.0 → Leaves u env (body_kept e.name (with_names names u) r)
+      → judge_function e (Some of) list s ≡ r → r.1.0 ≡ s.0 → IsFound r.0 → Leaves u env (body_kept e.name (with_names names u) r)
   kept_steps of u env names s (None, later) h body same found = no_true found
   kept_steps of u env names s (Some made, later) h body same found = (
     subst (λ x. UnitSteps ds u env (keep_function x e.name (Some made) (with_names names u)) x) (sym same) (DefinesFunction e of list s.1 made h (ap (λ (p : Option TypedFn × JudgementState). p.0) body)),
@@ -191,13 +191,13 @@ module _ (ds : Definitions) (e : Declaration) (storage : Option Storage) (list :
   body_none : (u : UnitSoFar) (env : Env) (s : JudgementState) (w : UnitWalk) → Tells (IsTrue false) s w.1 → (let v = definition_with ds e storage list (None, w) in Tells (Leaves u env v) s v.1)
   body_none u env s w h =
       let mid = function_with_type ds e.at e.name storage true (None, w) in
-      let r = function e None list mid.1 in
+      let r = judge_function e None list mid.1 in
       tells_both s mid.1 r.1 (λ x y. x) (tells_refused s w.1 mid.1.0 h) (function_tells e None list mid.1)
 
   body_there : (of : FunctionType) (s : JudgementState) (w : UnitWalk) → IsTrue (are_as_many (parameters_of e.ty) of.parameters) → Tells (Unit {0}) s w.1 → (let v = definition_with ds e storage list (Some (declared_as of), w) in Tells (Leaves w.0 w.1.0 v) s v.1)
   body_there of s w fit h =
       let mid = function_with_type ds e.at e.name storage true (Some (declared_as of), w) in
-      let r = function e (Some of) list mid.1 in
+      let r = judge_function e (Some of) list mid.1 in
       tells_both s mid.1 r.1 (λ x y. kept_steps of w.0 w.1.0 mid.0.names mid.1 r x refl (function_env e (Some of) list mid.1) (y fit))
       (function_by ds e.at e.name storage true of.result of.parameters s w h) (function_tells e (Some of) list mid.1)
 
@@ -258,10 +258,10 @@ module _ (ds : Definitions) where
   end_tells : {X : Type 0} (e : Declaration) (end : FunctionEnd) (s u : JudgementState) → Tells X s u → Tells X s (end_judged e end u)
   end_tells e f.Nothing s u h = h
   end_tells e (f.Init init) s u h = tells_both s u (judge_init init u).1 (λ x y. x) h (judge_init_tells init u)
-  end_tells e (f.Body list) s u h = tells_both s u (function e None list u).1 (λ x y. x) h (function_tells e None list u)
+  end_tells e (f.Body list) s u h = tells_both s u (judge_function e None list u).1 (λ x y. x) h (function_tells e None list u)
 
   function_with_tells : (e : Declaration) (storage : Option Storage) (end : FunctionEnd) (ty : DeclaredType) (w : UnitWalk) → ((of : FunctionType) → ty ≡ declared_as of → IsTrue (declares_type e.ty of))
-      → (let v = function_with ds e storage end ty w in Tells (Goes (x.Function e storage end) w.0 w.1 v) w.1 v.1)
+      → (let v = external_function ds e storage end ty w in Tells (Goes (x.Function e storage end) w.0 w.1 v) w.1 v.1)
   function_with_tells e storage f.Nothing ty w fit = let v = prototype ds e.at e.name storage ty w in tells_as w.1 v.1 (λ h. (h, tt)) (prototype_tells ds e.at e.name storage ty w)
   function_with_tells e storage (f.Init init) ty w fit =
       let v = prototype ds e.at e.name storage ty w in
@@ -278,7 +278,7 @@ module _ (ds : Definitions) where
       let mid = declare ds e.at e.name None w in
       end_tells e end s mid.1 (tells_refused s w.1 mid.1.0 h)
   function_after e storage end (Some ty) s w fit h =
-      let v = function_with ds e storage end ty w in
+      let v = external_function ds e storage end ty w in
       tells_both s w.1 v.1 (λ x y. y) h (function_with_tells e storage end ty w (λ of same. fit of (ap Some same)))
 
   object_after : (e : Declaration) (storage : Option Storage) (init : Option Init) (o : Option DeclaredType) (s : JudgementState) (w : UnitWalk) → Tells (IsFound o) s w.1
@@ -322,7 +322,7 @@ free_none : (name : List ℕ) (env : Env) (o : Option (ℕ × NameMeaning)) → 
 free_none name env None e h = refl
 free_none name env (Some r) e h = no_true (free_place r.0 env.outside e h)
 
-constant_step : (ds : Definitions) (u : UnitSoFar) (mid : Env) (name : List ℕ) (value : Option ℕ) → find name mid.names ≡ None → IfSome value (λ word. IsTrue (is_word Int word)) → IsTrue (is_sound (constant_meaning value)) → UnitSteps ds u mid u (with_name name (constant_meaning value) mid)
+constant_step : (ds : Definitions) (u : UnitSoFar) (mid : Env) (name : List ℕ) (value : Option ℕ) → find name mid.names ≡ None → IfSome value (λ word. IsTrue (is_word Int word)) → IsTrue (is_sound (constant_meaning value)) → UnitSteps ds u mid u (with_meaning name (constant_meaning value) mid)
 constant_step ds u mid name None e word sound = no_true sound
 constant_step ds u mid name (Some n) e word sound = AddsConstant name n e word
 
@@ -365,16 +365,16 @@ module _ (ds : Definitions) where
       passes : Goes ds e u mid v → IsTrue (are_sound_names v.1.0.names) → Passes e u s.0 v.0 v.1.0
       passes go sound file = (Follows (enters_steps ds u enters file (steps_before ds go.0 sound)) go.0, go.1)
 
-  pub external_tells : (e : External) (s : UnitSoFar × TagScope) → (let v = external ds e s in Tells (Passes e s.0 s.1.1.0 v.0 v.1.1.0) s.1.1 v.1.1)
+  pub external_tells : (e : External) (s : UnitSoFar × TagScope) → (let v = walk_external ds e s in Tells (Passes e s.0 s.1.1.0 v.0 v.1.1.0) s.1.1 v.1.1)
   external_tells (x.Typedef e) s =
-      let r = type_of e s.1 in
+      let r = declarator_type e s.1 in
       with_constants (x.Typedef e) s.0 s.1.1 r.1.1 (typedef_declared ds e.at e.name r.0 (s.0, r.1.1)) (declared_enters e.at e.ty s.1) (typedef_after ds e r.0 s.1.1 (s.0, r.1.1) (declared_tells e.at e.ty s.1))
   external_tells (x.Object e storage init) s =
-      let r = type_of e s.1 in
+      let r = declarator_type e s.1 in
       with_constants (x.Object e storage init) s.0 s.1.1 r.1.1 (object_with ds e.at e.name storage init r.0 (s.0, r.1.1)) (declared_enters e.at e.ty s.1)
       (object_after ds e storage init r.0 s.1.1 (s.0, r.1.1) (declared_tells e.at e.ty s.1))
   external_tells (x.Function e storage end) s =
-      let r = type_of e s.1 in
+      let r = declarator_type e s.1 in
       with_constants (x.Function e storage end) s.0 s.1.1 r.1.1 (function_typed ds e storage end r.0 (s.0, r.1.1)) (declared_enters e.at e.ty s.1)
       (function_after ds e storage end r.0 s.1.1 (s.0, r.1.1) (λ of same. declared_fits e.at e.ty s.1 of same) (declared_tells e.at e.ty s.1))
   external_tells (x.Tags storage ty) s =
@@ -450,8 +450,8 @@ steps_keep_body ds q (DeclaresFunction name of g) h = declared_keeps ds q name (
 steps_keep_body ds q (DefinesFunction {u = u} {names = names} {later = later} e of list n made g same) h =
     ap (has_body q) (kept_names later e.name made (with_names names u)) ∙ declared_keeps ds q e.name (function_declared true (declared_as of)) g h
 steps_keep_body ds q (DeclaresObject {u = u} {names = names} {later = later} name ty has_value g) h =
-    ap (has_body q) (added_body (object_at later name) name ty (with_names names u)) ∙ declared_keeps ds q name (object_declared ty has_value) g h
-steps_keep_body ds q (KeepsCells {u = u} {env = env} name cells) h = ap (has_body q) (filled_names (object_at env name) cells u) ∙ h
+    ap (has_body q) (added_body (object_number later name) name ty (with_names names u)) ∙ declared_keeps ds q name (object_declared ty has_value) g h
+steps_keep_body ds q (KeepsCells {u = u} {env = env} name cells) h = ap (has_body q) (filled_names (object_number env name) cells u) ∙ h
 
 -- ---- lists of declarations
 
@@ -470,11 +470,11 @@ holds_later ds (x.Tags storage ty) steps h = tt
 pub externals_tell : (ds : Definitions) (es : List External) (s : UnitSoFar × TagScope) → (let v = externals ds es s in Tells (s.1.1.0.outside ≡ 0 → UnitSteps ds s.0 s.1.1.0 v.0 v.1.1.0 × AllHold es v.0.names) s.1.1 v.1.1)
 externals_tell ds [] s = tells_none s.1.1 (λ file. (Stays, tt))
 externals_tell ds (e ∷ es) s =
-    let u = external ds e s in
+    let u = walk_external ds e s in
     let v = externals ds es u in
     tells_both s.1.1 u.1.1 v.1.1 (λ h g file. both (h file) (λ file. g file) file) (external_tells ds e s) (externals_tell ds es u)
   where
-    both : (let u = external ds e s in let v = externals ds es u in UnitSteps ds s.0 s.1.1.0 u.0 u.1.1.0 × Holds e u.0.names → (u.1.1.0.outside ≡ 0 → UnitSteps ds u.0 u.1.1.0 v.0 v.1.1.0 × AllHold es v.0.names) → s.1.1.0.outside ≡ 0
+    both : (let u = walk_external ds e s in let v = externals ds es u in UnitSteps ds s.0 s.1.1.0 u.0 u.1.1.0 × Holds e u.0.names → (u.1.1.0.outside ≡ 0 → UnitSteps ds u.0 u.1.1.0 v.0 v.1.1.0 × AllHold es v.0.names) → s.1.1.0.outside ≡ 0
         → UnitSteps ds s.0 s.1.1.0 v.0 v.1.1.0 × AllHold (e ∷ es) v.0.names)
     both h g file =
         let r = g (steps_outside ds h.0 ∙ file) in

@@ -15,20 +15,20 @@ use Rattle.c_type_rules.specs.Conversions.{decay}
 use Rattle.c_operators.specs.Null.{take_value}
 use Rattle.c_initial_values.specs.declared.parts.ObjectPart.{ObjectPart}
 use Rattle.c_initial_values.specs.declared.values.InitialValue.{InitialValue}
-use Rattle.c_initial_values.specs.Cells.{put, text_cells}
+use Rattle.c_initial_values.specs.Cells.{place_piece, text_cells}
 use Rattle.c_initial_values.specs.Values.{initial_value}
-use Rattle.c_initial_values.specs.Parts.{is_aggregate, is_room_for, room_of, part_of}
+use Rattle.c_initial_values.specs.Parts.{is_aggregate, is_room_for, part_room, part_of}
 use Rattle.c_checks.specs.declared.env.Env.{Env}
 use Rattle.c_checks.specs.declared.notes.Notes.{Notes}
 use Rattle.c_checks.specs.Checks.{and_then, pure, each, note_fault}
 use Rattle.c_checks.specs.Notes.{with_fault}
 use Rattle.c_judgements.specs.Types.{JudgementState}
-use Rattle.c_judgements.specs.Texts.{bytes_of}
+use Rattle.c_judgements.specs.Texts.{spelling_bytes}
 use Rattle.c_expressions.specs.Expressions.{judge}
 use Rattle.c_initialisers.specs.declared.lists.InitialiserItems.{InitialiserItems}
 use Rattle.c_initialisers.specs.declared.lists.InitialiserItems.TheVariants as t
-use Rattle.c_initialisers.specs.Unfit.{place_of, judge_value, list_place, is_whole_with, judge_init, judge_items, no_place, unfit}
-use Rattle.c_initialisers.specs.Values.{Filling, FillingState, beside, with_env, constant_value, is_taken, put_scalar, with_notes, scalar_value, value_of, expression_value, text_in, text_value, value_by, single_value}
+use Rattle.c_initialisers.specs.Unfit.{place_in_text, judge_value, list_place, is_whole_with, judge_init, judge_items, no_place, faulty_init}
+use Rattle.c_initialisers.specs.Values.{Filling, FillingState, cells_beside, with_env, constant_value, is_taken, put_scalar, with_notes, scalar_value, fill_value, expression_value, text_in, text_value, value_or_text, single_value}
 use Rattle.c_initialisers.specs.Initialisers.{with_item, with_surplus, counted_by, if_part, list_of, scalar_list, list_in, initialise, item_row, cells_where, object_cells}
 use Rattle.c_found_laws.specs.Laws.{Tells, IsFound, YieldsFound}
 use Rattle.c_found_laws.proofs.Forms.{no_true, tells_none, tells_fault, tells_as, tells_then, tells_both, tells_never, ruled, map_found, each_tells}
@@ -50,7 +50,7 @@ mutual
   unfolding judge_init
 
   pub judge_init_tells : (x : i.Init) (s : JudgementState) → YieldsFound s (judge_init x s)
-  judge_init_tells (i.Value x) s = tells_as s (judge x s).1 (map_found place_of (judge x s).0) (judge_tells x s)
+  judge_init_tells (i.Value x) s = tells_as s (judge x s).1 (map_found place_in_text (judge x s).0) (judge_tells x s)
   judge_init_tells (i.List' at _ items) s =
       let r = judge_items items true s in
       tells_as s r.1 (place_found r.0 at) (judge_items_tell items true s s (tells_none s refl))
@@ -74,7 +74,7 @@ mutual
       let r = judge_init x s in
       judge_items_leave xs (is_whole_with whole r.0) r.1 ∙ judge_init_leaves x s
 
-pub unfit_tells : (kind : Kind) (x : i.Init) (s : JudgementState) → YieldsFound s (unfit kind x s)
+pub unfit_tells : (kind : Kind) (x : i.Init) (s : JudgementState) → YieldsFound s (faulty_init kind x s)
 unfit_tells kind x s =
     let r = judge_init x s in
     each_tells r.1.0 s r.0 (no_place kind) r.1.1 (judge_init_tells x s) (λ at. tells_fault r.1.0 at kind r.1.1)
@@ -96,11 +96,11 @@ module _ (env : Env) where
       let taken = is_taken ty a v.1 in
       tells_both (env, f.1) (env, v.1) (env, taken.1) (value_put_found ty place a.at v.0 taken.0 f.0) (ruled env (initial_value f.1.structs a) f.1) (ruled env (take_value ty a) v.1)
 
-  value_tells : (ty : CType) (place : ℕ) (a : TypedExpression) (f : Filling) → Gives f (value_of ty place a f)
+  value_tells : (ty : CType) (place : ℕ) (a : TypedExpression) (f : Filling) → Gives f (fill_value ty place a f)
   value_tells ty place a f = choose (is_aggregate ty)
     where
       either : Bool → Option ℕ × Filling
-      either b = if b then beside f.0 (no_place BadInit a.at f.1) else scalar_value ty place (decay a) f
+      either b = if b then cells_beside f.0 (no_place BadInit a.at f.1) else scalar_value ty place (decay a) f
 
       choose : (b : Bool) → Gives f (either b)
       choose true = tells_fault env a.at BadInit f.1
@@ -110,25 +110,25 @@ module _ (env : Env) where
   text_tells place room at bytes f = choose (is_room_for room bytes)
     where
       either : Bool → Option ℕ × Filling
-      either b = if b then (Some at, (put place (text_cells room bytes) f.0, f.1)) else beside f.0 (no_place BadInit at f.1)
+      either b = if b then (Some at, (place_piece place (text_cells room bytes) f.0, f.1)) else cells_beside f.0 (no_place BadInit at f.1)
 
       choose : (b : Bool) → Gives f (either b)
       choose true = tells_none (env, f.1) refl
       choose false = tells_fault env at BadInit f.1
 
-filled_tells : (ty : CType) (place : ℕ) (s : JudgementState) (env : Env) (o : Option TypedExpression) (f : Filling) → Tells (IsFound o) s (env, f.1) → Tells (IsFound (each o (value_of ty place) f).0) s (env, (each o (value_of ty place) f).1.1)
+filled_tells : (ty : CType) (place : ℕ) (s : JudgementState) (env : Env) (o : Option TypedExpression) (f : Filling) → Tells (IsFound o) s (env, f.1) → Tells (IsFound (each o (fill_value ty place) f).0) s (env, (each o (fill_value ty place) f).1.1)
 filled_tells ty place s env None f h = tells_never s (env, f.1) h
-filled_tells ty place s env (Some a) f h = tells_both s (env, f.1) (env, (value_of ty place a f).1.1) (λ x y. y) h (value_tells env ty place a f)
+filled_tells ty place s env (Some a) f h = tells_both s (env, f.1) (env, (fill_value ty place a f).1.1) (λ x y. y) h (value_tells env ty place a f)
 
 abbrev Fills : FillingState → Option ℕ × FillingState → Type 0
 Fills s r = Tells (IsFound r.0) s.1 r.1.1
 
-by_room : (room : Option ℕ) (text : Option (ℕ × List (List ℕ))) (ty : CType) (place : ℕ) (x : Expr) (s : FillingState) → Fills s (value_by room text ty place x s)
+by_room : (room : Option ℕ) (text : Option (ℕ × List (List ℕ))) (ty : CType) (place : ℕ) (x : Expr) (s : FillingState) → Fills s (value_or_text room text ty place x s)
 by_room None text ty place x s = let r = judge x s.1 in filled_tells ty place s.1 r.1.0 r.0 (s.0, r.1.1) (judge_tells x s.1)
 by_room (Some room) None ty place x s = let r = judge x s.1 in filled_tells ty place s.1 r.1.0 r.0 (s.0, r.1.1) (judge_tells x s.1)
-by_room (Some room) (Some spelled) ty place x s = text_tells s.1.0 place room spelled.0 (bytes_of spelled.1) (s.0, s.1.1)
+by_room (Some room) (Some spelled) ty place x s = text_tells s.1.0 place room spelled.0 (spelling_bytes spelled.1) (s.0, s.1.1)
 
-by_room_leaves : (room : Option ℕ) (text : Option (ℕ × List (List ℕ))) (ty : CType) (place : ℕ) (x : Expr) (s : FillingState) → (value_by room text ty place x s).1.1.0 ≡ s.1.0
+by_room_leaves : (room : Option ℕ) (text : Option (ℕ × List (List ℕ))) (ty : CType) (place : ℕ) (x : Expr) (s : FillingState) → (value_or_text room text ty place x s).1.1.0 ≡ s.1.0
 by_room_leaves None text ty place x s = judge_leaves x s.1
 by_room_leaves (Some room) None ty place x s = judge_leaves x s.1
 by_room_leaves (Some room) (Some spelled) ty place x s = refl
@@ -181,7 +181,7 @@ abbrev Counted : InitialiserItems → FillingState → InitialiserItems × Filli
 Counted items s r = Tells (IsTrue (is_whole items) → IsTrue (is_whole r.0)) s.1 r.1.1
 
 part_tells : (o : Option ObjectPart) (place : ℕ) (found : InitialiserItems) (x : i.Init) (s : FillingState) → ((p : ObjectPart) → Fills s (initialise x p.ty (place + p.place) s))
-    → Counted found s (if_part o (counted_by with_surplus found (beside s.0 (judge_init x s.1))) (λ p. counted_by with_item found (initialise x p.ty (place + p.place) s)))
+    → Counted found s (if_part o (counted_by with_surplus found (cells_beside s.0 (judge_init x s.1))) (λ p. counted_by with_item found (initialise x p.ty (place + p.place) s)))
 part_tells None place found x s f = tells_as s.1 (judge_init x s.1).1 (λ g y. surplus_whole found (judge_init x s.1).0 y g) (judge_init_tells x s.1)
 part_tells (Some p) place found x s f =
     let r = initialise x p.ty (place + p.place) s in
@@ -191,7 +191,7 @@ mutual
   unfolding initialise
 
   pub initialise_tells : (x : i.Init) (ty : CType) (place : ℕ) (s : FillingState) → Fills s (initialise x ty place s)
-  initialise_tells (i.Value x) ty place s = by_room (room_of ty) (text_in x) ty place x s
+  initialise_tells (i.Value x) ty place s = by_room (part_room ty) (text_in x) ty place x s
   initialise_tells (i.List' brace _ items) ty place s =
       let u = item_row items ty place 0 t.Fitting s in
       list_tells s.1 u.1.1.0 ty brace u.0 u.1.1.1 (row_tells items ty place 0 t.Fitting s.1 s (tells_none s.1 refl))
@@ -200,12 +200,12 @@ mutual
       → Tells (IsTrue (is_whole (item_row xs ty place k found s).0)) v (item_row xs ty place k found s).1.1
   row_tells i.end_of-Init ty place k found v s h = h
   row_tells (i.more_of-Init x xs) ty place k found v s h =
-      let r = if_part (part_of s.1.1.structs ty k) (counted_by with_surplus found (beside s.0 (judge_init x s.1))) (λ p. counted_by with_item found (initialise x p.ty (place + p.place) s)) in
+      let r = if_part (part_of s.1.1.structs ty k) (counted_by with_surplus found (cells_beside s.0 (judge_init x s.1))) (λ p. counted_by with_item found (initialise x p.ty (place + p.place) s)) in
       row_tells xs ty place (k + 1) r.0 v r.1
       (tells_both v s.1 r.1.1 (λ y f. f y) h (part_tells (part_of s.1.1.structs ty k) place found x s (λ p. initialise_tells x p.ty (place + p.place) s)))
 
 part_leaves : (o : Option ObjectPart) (place : ℕ) (found : InitialiserItems) (x : i.Init) (s : FillingState) → ((p : ObjectPart) → (initialise x p.ty (place + p.place) s).1.1.0 ≡ s.1.0)
-    → (if_part o (counted_by with_surplus found (beside s.0 (judge_init x s.1))) (λ p. counted_by with_item found (initialise x p.ty (place + p.place) s))).1.1.0 ≡ s.1.0
+    → (if_part o (counted_by with_surplus found (cells_beside s.0 (judge_init x s.1))) (λ p. counted_by with_item found (initialise x p.ty (place + p.place) s))).1.1.0 ≡ s.1.0
 part_leaves None place found x s f = judge_init_leaves x s.1
 part_leaves (Some p) place found x s f = f p
 
@@ -213,13 +213,13 @@ mutual
   unfolding initialise
 
   pub initialise_leaves : (x : i.Init) (ty : CType) (place : ℕ) (s : FillingState) → (initialise x ty place s).1.1.0 ≡ s.1.0
-  initialise_leaves (i.Value x) ty place s = by_room_leaves (room_of ty) (text_in x) ty place x s
+  initialise_leaves (i.Value x) ty place s = by_room_leaves (part_room ty) (text_in x) ty place x s
   initialise_leaves (i.List' brace _ items) ty place s = row_leaves items ty place 0 t.Fitting s
 
   row_leaves : {m : _} (xs : i.Row_of-Init m) (ty : CType) (place k : ℕ) (found : InitialiserItems) (s : FillingState) → (item_row xs ty place k found s).1.1.0 ≡ s.1.0
   row_leaves i.end_of-Init ty place k found s = refl
   row_leaves (i.more_of-Init x xs) ty place k found s =
-      let r = if_part (part_of s.1.1.structs ty k) (counted_by with_surplus found (beside s.0 (judge_init x s.1))) (λ p. counted_by with_item found (initialise x p.ty (place + p.place) s)) in
+      let r = if_part (part_of s.1.1.structs ty k) (counted_by with_surplus found (cells_beside s.0 (judge_init x s.1))) (λ p. counted_by with_item found (initialise x p.ty (place + p.place) s)) in
       row_leaves xs ty place (k + 1) r.0 r.1 ∙ part_leaves (part_of s.1.1.structs ty k) place found x s (λ p. initialise_leaves x p.ty (place + p.place) s)
 
 cells_found : (cells : List DataCell) (o : Option ℕ) → IsFound o → IsFound (cells_where cells o)

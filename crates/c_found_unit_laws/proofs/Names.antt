@@ -11,7 +11,7 @@ use Rattle.c_judgements.specs.Types.{JudgementState}
 use Rattle.c_expressions.specs.Expressions.{judge, derive}
 use Rattle.c_statement_laws.proofs.Expressions.{judge_walks, derive_walks}
 use Rattle.c_statements.specs.declared.functions.FunctionType.{FunctionType}
-use Rattle.c_statements.specs.Functions.{function}
+use Rattle.c_statements.specs.Functions.{judge_function}
 use Rattle.c_statement_laws.proofs.Functions.{function_leaves}
 
 -- the names are left whatever the context is
@@ -30,5 +30,5 @@ judge_leaves x s = (judge_walks nowhere nowhere_lawful ⊥ x s (λ v. absurd v) 
 pub derive_leaves : (at : ℕ) (node : TypeNode) (of : Option DeclaredType) (s : JudgementState) → (derive at node of s).1.0 ≡ s.0
 derive_leaves at node of s = (derive_walks nowhere nowhere_lawful ⊥ at node of s (λ v. absurd v) (λ v known. absurd v)).env
 
-pub function_env : (d : Declaration) (of : Option FunctionType) (list : List Stmt) (s : JudgementState) → (function d of list s).1.0 ≡ s.0
+pub function_env : (d : Declaration) (of : Option FunctionType) (list : List Stmt) (s : JudgementState) → (judge_function d of list s).1.0 ≡ s.0
 function_env d of list s = (function_leaves nowhere nowhere_lawful d of list s).env

@@ -19,20 +19,20 @@ use Rattle.c_typed_tree.specs.declared.units.TypedFn.{TypedFn}
 use Rattle.c_checks.specs.declared.env.Env.{Env}
 use Rattle.c_checks.specs.declared.meanings.NameMeaning.{NameMeaning}
 use Rattle.c_checks.specs.declared.meanings.NameMeaning.TheVariants as m
-use Rattle.c_checks.specs.Scopes.{with_name, meaning_of}
+use Rattle.c_checks.specs.Scopes.{with_meaning, meaning_of}
 use Rattle.c_statements.specs.declared.functions.FunctionType.{FunctionType}
 use Rattle.c_unit_names.specs.declared.names.NameDeclaration.{NameDeclaration}
 use Rattle.c_unit_names.specs.declared.names.UnitNames.{UnitNames}
 use Rattle.c_unit_names.specs.UnitNames.{is_same_declared, may_follow, object_name, function_name, value_name, first_meaning, with_declared, with_value}
 use Rattle.c_declarations.specs.declared.walk.UnitFunction.{UnitFunction}
 use Rattle.c_declarations.specs.declared.walk.UnitSoFar.{UnitSoFar}
-use Rattle.c_declarations.specs.Walk.{with_names, add_numbered, next_object, object_at, add_object, fill_numbered, keep_cells, function_called, function_by, function_at, add_function, keep_function}
+use Rattle.c_declarations.specs.Walk.{with_names, add_numbered, next_object, object_number, add_object, fill_numbered, keep_cells, function_called, function_by, function_at, add_function, keep_function}
 use Rattle.c_declarations.specs.Functions.{function_declared}
 use Rattle.c_declarations.specs.Objects.{object_declared}
 use Rattle.c_units.specs.Externals.{typedef_of}
-use Rattle.c_units.specs.Units.{no_names, builtin_declared, builtins, start}
+use Rattle.c_units.specs.Units.{no_names, builtin_declared, builtins, unit_start}
 use Rattle.c_type_laws.proofs.Truth.{no_true, front, back, also, either_left, either_right}
-use Rattle.c_found_unit_laws.specs.Laws.{is_kept}
+use Rattle.c_found_unit_laws.specs.Laws.{is_tree_kept}
 use Rattle.c_found_unit_laws.specs.Steps.{DeclaresName, First, Again, declared_as, UnitSteps, Stays, Follows, AddsConstant, SeesMain, DeclaresType, DeclaresFunction, DefinesFunction, DeclaresObject, KeepsCells, is_function_type, is_body, is_body_in, has_body}
 use Rattle.c_found_unit_laws.proofs.Externals.{same_function, same_kind, added_body, filled_names}
 
@@ -65,7 +65,7 @@ means_function (Some (m.Function callee of tys)) = true
 means_function (Some (m.Typedef ty)) = false
 
 abbrev is_callee_kept : List UnitFunction → Callee → Bool
-is_callee_kept fs (c.Function k) = is_kept fs k
+is_callee_kept fs (c.Function k) = is_tree_kept fs k
 is_callee_kept fs (c.Builtin b) = true
 
 -- the function that the name means was kept
@@ -99,14 +99,14 @@ named_by q name x env b = if b then Some (length env.names, x) else find q env.n
 
 -- of a name that was not there nothing was said
 module _ (test : Option NameMeaning → Bool) (nothing : IsTrue (test None) → IsTrue false) (name : List ℕ) (x : NameMeaning) (env : Env) (free : meaning_of env name ≡ None) where
-  still_says : (q : List ℕ) → IsTrue (test (meaning_of env q)) → IsTrue (test (meaning_of (with_name name x env) q))
+  still_says : (q : List ℕ) → IsTrue (test (meaning_of env q)) → IsTrue (test (meaning_of (with_meaning name x env) q))
   still_says q h = choose (bytes_eq q name) refl
     where
       choose : (b : Bool) → bytes_eq q name ≡ b → IsTrue (test (option_map (λ r. r.1) (named_by q name x env b)))
       choose true e = no_true (nothing (subst (λ o. IsTrue (test o)) (ap (meaning_of env) ((bytes_eq-Decides q name).0 e) ∙ free) h))
       choose false e = h
 
-still_named : (ds : Definitions) (name : List ℕ) (x : NameMeaning) (env : Env) (k : ℕ) → meaning_of env name ≡ None → Named ds env k → Named ds (with_name name x env) k
+still_named : (ds : Definitions) (name : List ℕ) (x : NameMeaning) (env : Env) (k : ℕ) → meaning_of env name ≡ None → Named ds env k → Named ds (with_meaning name x env) k
 still_named ds name x env k free n = record {
   q = n.q;
   of = n.of;
@@ -204,7 +204,7 @@ module _ (ds : Definitions) (name : List ℕ) (new : NameDeclaration) where
       choose true = refl
       choose false = value new.ty
 
-  first_kinds : (u : UnitNames) (env : Env) → MeansWell → meaning_of env name ≡ None → Kinds u env → Kinds (with_declared name new (first_meaning ds name new u).1) (with_name name (first_meaning ds name new u).0 env)
+  first_kinds : (u : UnitNames) (env : Env) → MeansWell → meaning_of env name ≡ None → Kinds u env → Kinds (with_declared name new (first_meaning ds name new u).1) (with_meaning name (first_meaning ds name new u).0 env)
   first_kinds u env well free kinds q h g = choose (bytes_eq q name) refl h
     where
       rest : UnitNames
@@ -267,14 +267,14 @@ module _ (ds : Definitions) (name : List ℕ) (new : NameDeclaration) where
 
   -- what a first declaration makes of the numbers
   abbrev NumbersWell : Type 0
-  NumbersWell = (u : UnitNames) (env : Env) → meaning_of env name ≡ None → Numbers u env → Numbers (first_meaning ds name new u).1 (with_name name (first_meaning ds name new u).0 env)
+  NumbersWell = (u : UnitNames) (env : Env) → meaning_of env name ≡ None → Numbers u env → Numbers (first_meaning ds name new u).1 (with_meaning name (first_meaning ds name new u).0 env)
 
   declared_numbers : {u names : UnitNames} {env later : Env} → NumbersWell → DeclaresName ds name new u env names later → Numbers u env → Numbers names later
   declared_numbers well (First {u = u} {env = env} e free) numbers = well u env free numbers
   declared_numbers well (Again old e may) numbers = numbers
 
 -- the name itself, in front
-own_name : (name : List ℕ) (x : NameMeaning) (env : Env) → meaning_of (with_name name x env) name ≡ Some x
+own_name : (name : List ℕ) (x : NameMeaning) (env : Env) → meaning_of (with_meaning name x env) name ≡ Some x
 own_name name x env = choose (bytes_eq name name) ((bytes_eq-Decides name name).1 refl)
   where
     choose : (b : Bool) → b ≡ true → option_map (λ r. r.1) (named_by name name x env b) ≡ Some x
@@ -287,16 +287,16 @@ typedef_numbers ds name ty u env free numbers k h = still_named ds name (m.Typed
 object_numbers : (ds : Definitions) (name : List ℕ) (ty : CType) (has_value : Bool) → NumbersWell ds name (object_declared ty has_value)
 object_numbers ds name ty has_value u env free numbers k = choose (is_some (find name ds.objects))
   where
-    choose : (b : Bool) → k < (object_name b ty u).1.functions → Named ds (with_name name (object_name b ty u).0 env) k
+    choose : (b : Bool) → k < (object_name b ty u).1.functions → Named ds (with_meaning name (object_name b ty u).0 env) k
     choose true h = still_named ds name (object_name true ty u).0 env k free (numbers k h)
     choose false h = still_named ds name (object_name false ty u).0 env k free (numbers k h)
 
 function_numbers : (ds : Definitions) (name : List ℕ) (has_body : Bool) (of : FunctionType) → NumbersWell ds name (function_declared has_body (declared_as of))
 function_numbers ds name has_body of u env free numbers k = choose (is_some (find name ds.functions)) refl
   where
-    choose : (b : Bool) → is_some (find name ds.functions) ≡ b → k < (function_name b of.result of.parameters u).1.functions → Named ds (with_name name (function_name b of.result of.parameters u).0 env) k
+    choose : (b : Bool) → is_some (find name ds.functions) ≡ b → k < (function_name b of.result of.parameters u).1.functions → Named ds (with_meaning name (function_name b of.result of.parameters u).0 env) k
     choose true e h = below k u.functions h (λ less. still_named ds name (m.Function (c.Function u.functions) of.result of.parameters) env k free (numbers k less))
-        (λ same. subst (λ n. Named ds (with_name name (m.Function (c.Function u.functions) of.result of.parameters) env) n) same (record {
+        (λ same. subst (λ n. Named ds (with_meaning name (m.Function (c.Function u.functions) of.result of.parameters) env) n) same (record {
           q = name;
           of = of.result;
           tys = of.parameters;
@@ -466,20 +466,20 @@ steps_keep_functions ds (DefinesFunction {u = u} {names = names} {later = later}
     defined_functions ds e.name made (with_names names u) later (declared_kinds ds e.name new (function_well ds e.name true of) g h.kinds) (other_trees ds e.name new u.functions g h.trees)
     (declared_numbers ds e.name new (function_numbers ds e.name true of) g h.numbers) (body_is_function ds e.name of g)
 steps_keep_functions ds (DeclaresObject {u = u} {names = names} {later = later} name ty has_value g) h =
-    object_kept ds (object_at later name) name ty (with_names names u) later (record {
+    object_kept ds (object_number later name) name ty (with_names names u) later (record {
       kinds = declared_kinds ds name (object_declared ty has_value) (object_well ds name ty has_value) g h.kinds;
       trees = plain_trees ds name (object_declared ty has_value) (λ a. no_true a) u.functions g h.trees;
       numbers = declared_numbers ds name (object_declared ty has_value) (object_numbers ds name ty has_value) g h.numbers;
     })
-steps_keep_functions ds (KeepsCells {u = u} {env = env} name cells) h = cells_kept ds (object_at env name) cells u env h
+steps_keep_functions ds (KeepsCells {u = u} {env = env} name cells) h = cells_kept ds (object_number env name) cells u env h
 
 -- ---- at the end
 
-kept_here : (fs : List UnitFunction) (k : ℕ) (of : CType) (tys : List CType) (o : Option NameMeaning) → o ≡ Some (m.Function (c.Function k) of tys) → IsTrue (has_tree fs o) → IsTrue (is_kept fs k)
+kept_here : (fs : List UnitFunction) (k : ℕ) (of : CType) (tys : List CType) (o : Option NameMeaning) → o ≡ Some (m.Function (c.Function k) of tys) → IsTrue (has_tree fs o) → IsTrue (is_tree_kept fs k)
 kept_here fs k of tys o e h = subst (λ o. IsTrue (has_tree fs o)) e h
 
 -- where each function that the unit defines has a body, each that has a number was kept
-pub all_kept : (ds : Definitions) (u : UnitSoFar) (env : Env) → HasFunctions ds u env → ((q : List ℕ) → IsTrue (is_some (find q ds.functions)) → IsTrue (has_body q u.names)) → (k : ℕ) → k < u.names.functions → IsTrue (is_kept u.functions k)
+pub all_kept : (ds : Definitions) (u : UnitSoFar) (env : Env) → HasFunctions ds u env → ((q : List ℕ) → IsTrue (is_some (find q ds.functions)) → IsTrue (has_body q u.names)) → (k : ℕ) → k < u.names.functions → IsTrue (is_tree_kept u.functions k)
 all_kept ds u env h bodies k less =
     let n = h.numbers k less in
     kept_here u.functions k n.of n.tys (meaning_of env n.q) n.meaning (h.trees n.q (bodies n.q n.defined) n.defined)
@@ -518,7 +518,7 @@ no_less k h = absurd (none k h)
     none : (k : ℕ) → k < 0 → ⊥
     none k h = omega arith
 
-pub start_functions : (ds : Definitions) → HasFunctions ds (start ds).0 (start ds).1.1.0
+pub start_functions : (ds : Definitions) → HasFunctions ds (unit_start ds).0 (unit_start ds).1.1.0
 start_functions ds = record {
   kinds = λ q g k. all_builtins.kinds q g;
   trees = λ q g k. all_builtins.trees q g;

@@ -10,10 +10,10 @@ use Rattle.c_declared_types.specs.declared.declared.DeclaredType.{DeclaredType}
 use Rattle.c_declared_types.specs.declared.declared.DeclaredType.TheVariants as d
 use Rattle.c_declared_types.specs.Declarators.{function_with, function_of}
 use Rattle.c_checks.specs.declared.notes.Notes.{Notes}
-use Rattle.c_checks.specs.Checks.{both, append_part}
+use Rattle.c_checks.specs.Checks.{both_parts, append_part}
 use Rattle.c_checks.specs.Scopes.{enter, leave}
 use Rattle.c_judgements.specs.Leaves.{leaf}
-use Rattle.c_judgements.specs.Types.{JudgementState, there, function, parameter_declared}
+use Rattle.c_judgements.specs.Types.{JudgementState, required_type, function, parameter_declared}
 use Rattle.c_expressions.specs.Expressions.{derive, parameter_row}
 use Rattle.c_tag_bodies.specs.Bodies.{TagScope, bodies, declared_type}
 use Rattle.c_statements.specs.declared.functions.FunctionType.{FunctionType}
@@ -80,11 +80,11 @@ of_many n (d.Value ty) tys h = with_many n ty tys h
 of_many n (d.Unsized ty) tys h = tt
 of_many n (d.Function of more) tys h = tt
 
-there_many : (n at : ℕ) (o : Option DeclaredType) (notes : Notes) → IfSome o (HasMany n) → IfSome (there at o notes).0 (HasMany n)
+there_many : (n at : ℕ) (o : Option DeclaredType) (notes : Notes) → IfSome o (HasMany n) → IfSome (required_type at o notes).0 (HasMany n)
 there_many n at None notes h = tt
 there_many n at (Some x) notes h = h
 
-both_many : (n at : ℕ) (tys : Option (List CType)) (x : Option DeclaredType) (notes : Notes) → IsLong n tys → IfSome (both tys x (function at) notes).0 (HasMany n)
+both_many : (n at : ℕ) (tys : Option (List CType)) (x : Option DeclaredType) (notes : Notes) → IsLong n tys → IfSome (both_parts tys x (function at) notes).0 (HasMany n)
 both_many n at None x notes h = tt
 both_many n at (Some tys) None notes h = tt
 both_many n at (Some tys) (Some x) notes h = there_many n at (function_of x tys) notes (of_many n x tys h)
@@ -92,7 +92,7 @@ both_many n at (Some tys) (Some x) notes h = there_many n at (function_of x tys)
 -- the parameters of a declarator of a function are those of its row
 derive_fits : (at : ℕ) {m : _} (x : t.TypeNode) (list : k.Row_of-Parameter m) (of : Option DeclaredType) (s : JudgementState) →
     (let row = parameter_row list (Some []) (enter s.0, s.1) in let r = derive at x of (leave s.0.outside row.1.0, row.1.1) in
-    IfSome (both row.0 r.0 (function at) r.1.1).0 (HasMany (length (k.items-the_row-Parameter m list))))
+    IfSome (both_parts row.0 r.0 (function at) r.1.1).0 (HasMany (length (k.items-the_row-Parameter m list))))
 derive_fits at {m} x list of s =
     let row = parameter_row list (Some []) (enter s.0, s.1) in let r = derive at x of (leave s.0.outside row.1.0, row.1.1) in
     both_many (length (k.items-the_row-Parameter m list)) at row.0 r.0 r.1.1 (plain row.0 (row_long list 0 (Some []) (enter s.0, s.1) refl))

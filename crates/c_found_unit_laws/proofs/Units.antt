@@ -13,10 +13,10 @@ use Rattle.c_tree.specs.declared.declarations.Init.{Init}
 use Rattle.c_tree.specs.declared.types.Declaration.{Declaration}
 use Rattle.c_scopes.specs.Names.{Entry, find}
 use Rattle.c_definitions.specs.declared.names.Definitions.{Definitions}
-use Rattle.c_definitions.specs.Definitions.{NameSet, with_name, nothing_defined, with_function_type, with_function, with_object, is_function, typedef_seen, is_definition, object_seen, function_seen, see, defined_behind, definitions}
+use Rattle.c_definitions.specs.Definitions.{NameSet, add_to_names, nothing_defined, with_function_type, with_function, with_object, is_function, typedef_seen, is_definition, object_seen, function_seen, add_external, defined_behind, definitions}
 use Rattle.c_type_faults.specs.declared.faults.Fault.{Fault}
 use Rattle.c_type_faults.specs.declared.faults.Kind.TheVariants.{MissingMain}
-use Rattle.c_type_faults.specs.Faults.{sorted, head}
+use Rattle.c_type_faults.specs.Faults.{sort_faults, head}
 use Rattle.c_typed_tree.specs.declared.units.TypedFn.{TypedFn}
 use Rattle.c_checks.specs.declared.env.Env.{Env}
 use Rattle.c_checks.specs.declared.meanings.Use.{Use}
@@ -28,17 +28,17 @@ use Rattle.c_declarations.specs.declared.walk.UnitFunction.{UnitFunction}
 use Rattle.c_declarations.specs.declared.walk.UnitSoFar.{UnitSoFar}
 use Rattle.c_units.specs.Externals.{externals}
 use Rattle.c_units.specs.Undefined.{use_fault, with_uses, undefined_noted}
-use Rattle.c_units.specs.Units.{start, main_missed, end_notes, whole_unit, faults_of}
+use Rattle.c_units.specs.Units.{unit_start, main_missed, end_notes, whole_unit, faults_of}
 use Rattle.c_type_laws.proofs.Truth.{no_true, front, back, also}
 use Rattle.c_found_laws.specs.Laws.{IsClean}
-use Rattle.c_found_unit_laws.specs.Laws.{is_kept}
+use Rattle.c_found_unit_laws.specs.Laws.{is_tree_kept}
 use Rattle.c_found_unit_laws.specs.Steps.{UnitSteps, has_body}
 use Rattle.c_found_unit_laws.proofs.Externals.{Holds, AllHold, externals_tell}
 use Rattle.c_found_unit_laws.proofs.Numbers.{HasFunctions, steps_keep_functions, all_kept, start_functions}
 
 -- ---- what is defined has a body
 
-defined_here : (q name : List ℕ) (ns : NameSet) (names : UnitNames) → IsTrue (has_body name names) → (IsTrue (is_some (find q ns)) → IsTrue (has_body q names)) → IsTrue (is_some (find q (with_name name ns))) → IsTrue (has_body q names)
+defined_here : (q name : List ℕ) (ns : NameSet) (names : UnitNames) → IsTrue (has_body name names) → (IsTrue (is_some (find q ns)) → IsTrue (has_body q names)) → IsTrue (is_some (find q (add_to_names name ns))) → IsTrue (has_body q names)
 defined_here q name ns names h f = either (is_some (find name ns))
   where
     own : (b : Bool) → bytes_eq q name ≡ b → IsTrue (is_some (if b then Some (length ns, tt {0}) else find q ns)) → IsTrue (has_body q names)
@@ -68,7 +68,7 @@ object_same e storage init d = either (is_function d.function_types e.ty) (is_de
     either false true = refl
     either false false = refl
 
-seen_bodies : (e : External) (d : Definitions) (names : UnitNames) → Holds e names → HasBodies d.functions names → HasBodies (see e d).functions names
+seen_bodies : (e : External) (d : Definitions) (names : UnitNames) → Holds e names → HasBodies d.functions names → HasBodies (add_external e d).functions names
 seen_bodies (x.Typedef e) d names h g = subst (λ ns. HasBodies ns names) (sym (typedef_same e d)) g
 seen_bodies (x.Object e storage init) d names h g = subst (λ ns. HasBodies ns names) (sym (object_same e storage init d)) g
 seen_bodies (x.Function e storage f.Nothing) d names h g = g
@@ -78,7 +78,7 @@ seen_bodies (x.Tags storage ty) d names h g = g
 
 all_bodies : (es : List External) (d : Definitions) (names : UnitNames) → AllHold es names → HasBodies d.functions names → HasBodies (defined_behind es d).functions names
 all_bodies [] d names h g = g
-all_bodies (e ∷ es) d names h g = all_bodies es (see e d) names h.1 (seen_bodies e d names h.0 g)
+all_bodies (e ∷ es) d names h g = all_bodies es (add_external e d) names h.1 (seen_bodies e d names h.0 g)
 
 -- ---- nothing is noted at the end
 
@@ -106,18 +106,18 @@ main_before size false n e = more_is_not n.faults (record { at = size; kind = Mi
 -- ---- the end of a unit
 
 abbrev Ended : TranslationUnit → UnitSoFar × TagScope
-Ended unit = externals (definitions unit.externals) unit.externals (start (definitions unit.externals))
+Ended unit = externals (definitions unit.externals) unit.externals (unit_start (definitions unit.externals))
 
 pub clean_unit : (unit : TranslationUnit) → (whole_unit unit).1.1.1.faults ≡ [] → IsClean (Ended unit).1.1.1
 clean_unit unit e = clean_before (Ended unit).1.1.1 (main_before unit.length (Ended unit).0.has_main (undefined_noted (Ended unit).1.1.1) e)
 
-pub unit_steps : (unit : TranslationUnit) → (whole_unit unit).1.1.1.faults ≡ [] → (let ds = definitions unit.externals in let s = start ds in let v = Ended unit in UnitSteps ds s.0 s.1.1.0 v.0 v.1.1.0 × AllHold unit.externals v.0.names)
+pub unit_steps : (unit : TranslationUnit) → (whole_unit unit).1.1.1.faults ≡ [] → (let ds = definitions unit.externals in let s = unit_start ds in let v = Ended unit in UnitSteps ds s.0 s.1.1.0 v.0 v.1.1.0 × AllHold unit.externals v.0.names)
 unit_steps unit e =
     let ds = definitions unit.externals in
-    (externals_tell ds unit.externals (start ds)).found (clean_unit unit e) (refl, refl) refl
+    (externals_tell ds unit.externals (unit_start ds)).found (clean_unit unit e) (refl, refl) refl
 
 -- each function that has a number was kept
-pub functions_kept : (unit : TranslationUnit) → (whole_unit unit).1.1.1.faults ≡ [] → (k : ℕ) → k < (whole_unit unit).0.names.functions → IsTrue (is_kept (whole_unit unit).0.functions k)
+pub functions_kept : (unit : TranslationUnit) → (whole_unit unit).1.1.1.faults ≡ [] → (k : ℕ) → k < (whole_unit unit).0.names.functions → IsTrue (is_tree_kept (whole_unit unit).0.functions k)
 functions_kept unit e =
     let ds = definitions unit.externals in
     let r = unit_steps unit e in

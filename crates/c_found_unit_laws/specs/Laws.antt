@@ -7,7 +7,7 @@ use Rattle.c_type_faults.specs.Faults.{head}
 use Rattle.c_definitions.specs.Definitions.{definitions}
 use Rattle.c_tag_bodies.specs.Bodies.{TagScope, declared_type}
 use Rattle.c_declarations.specs.declared.walk.UnitFunction.{UnitFunction}
-use Rattle.c_units.specs.Units.{start, whole_unit, faults_of}
+use Rattle.c_units.specs.Units.{unit_start, whole_unit, faults_of}
 use Rattle.c_found_laws.specs.Laws.{Tells, IsFound}
 use Rattle.c_found_unit_laws.specs.Steps.{UnitSteps}
 
@@ -20,15 +20,16 @@ DeclaredTypesAreFound =
 abbrev pub UnitsTakeSteps : Type 0
 UnitsTakeSteps =
     (unit : TranslationUnit) → head (faults_of unit) ≡ None →
-    UnitSteps (definitions unit.externals) (start (definitions unit.externals)).0 (start (definitions unit.externals)).1.1.0
+    UnitSteps (definitions unit.externals) (unit_start (definitions unit.externals)).0
+    (unit_start (definitions unit.externals)).1.1.0
     (whole_unit unit).0 (whole_unit unit).1.1.0
 
 -- the tree of the function with a number was kept
-abbrev pub is_kept : List UnitFunction → ℕ → Bool
-is_kept fs k = list_any (λ (f : UnitFunction). f.number == k) fs
+abbrev pub is_tree_kept : List UnitFunction → ℕ → Bool
+is_tree_kept fs k = list_any (λ (f : UnitFunction). f.number == k) fs
 
 -- each function that has a number has a tree
 abbrev pub FunctionsAreKept : Type 0
 FunctionsAreKept =
     (unit : TranslationUnit) → head (faults_of unit) ≡ None → (k : ℕ) → k < (whole_unit unit).0.names.functions →
-    IsTrue (is_kept (whole_unit unit).0.functions k)
+    IsTrue (is_tree_kept (whole_unit unit).0.functions k)

@@ -13,10 +13,10 @@ use Rattle.c_declared_types.specs.declared.declared.DeclaredType.TheVariants as 
 use Rattle.c_checks.specs.declared.env.Env.{Env}
 use Rattle.c_checks.specs.declared.meanings.NameMeaning.TheVariants as m
 use Rattle.c_checks.specs.declared.notes.Notes.{Notes}
-use Rattle.c_checks.specs.Scopes.{with_name, meaning_of}
+use Rattle.c_checks.specs.Scopes.{with_meaning, meaning_of}
 use Rattle.c_definitions.specs.declared.names.Definitions.{Definitions}
 use Rattle.c_statements.specs.declared.functions.FunctionType.{FunctionType}
-use Rattle.c_statements.specs.Functions.{function}
+use Rattle.c_statements.specs.Functions.{judge_function}
 use Rattle.c_unit_names.specs.declared.names.NameDeclaration.{NameDeclaration}
 use Rattle.c_unit_names.specs.declared.names.UnitNames.{UnitNames}
 use Rattle.c_unit_names.specs.UnitNames.{may_follow, named_first, with_declared, with_value}
@@ -45,7 +45,7 @@ pub data UnitSteps (ds : Definitions) : UnitSoFar → Env → UnitSoFar → Env 
       UnitSteps ds u env v mid → UnitSteps ds v mid w later → UnitSteps ds u env w later
   -- an enumeration constant, whose value is one of the type `int`
   AddsConstant : {u : UnitSoFar} {env : Env} (name : List ℕ) (word : ℕ) → find name env.names ≡ None →
-      IsTrue (is_word Int word) → UnitSteps ds u env u (with_name name (m.Constant word) env)
+      IsTrue (is_word Int word) → UnitSteps ds u env u (with_meaning name (m.Constant word) env)
   SeesMain : {u : UnitSoFar} {env : Env} (is_defined : Bool) → UnitSteps ds u env (with_main is_defined u) env
   DeclaresType : {u : UnitSoFar} {env : Env} {names : UnitNames} {later : Env} (name : List ℕ) (ty : DeclaredType) →
       DeclaresName ds name (typedef_of ty) u.names env names later → UnitSteps ds u env (with_names names u) later
@@ -56,7 +56,7 @@ pub data UnitSteps (ds : Definitions) : UnitSoFar → Env → UnitSoFar → Env 
   DefinesFunction : {u : UnitSoFar} {env : Env} {names : UnitNames} {later : Env} (e : Declaration) (of : FunctionType)
       (list : List Stmt) (n : Notes) (f : TypedFn) →
       DeclaresName ds e.name (function_declared true (declared_as of)) u.names env names later →
-      (function e (Some of) list (later, n)).0 ≡ Some f →
+      (judge_function e (Some of) list (later, n)).0 ≡ Some f →
       UnitSteps ds u env (keep_function later e.name (Some f) (with_names names u)) later
   DeclaresObject : {u : UnitSoFar} {env : Env} {names : UnitNames} {later : Env} (name : List ℕ) (ty : CType)
       (has_value : Bool) → DeclaresName ds name (object_declared ty has_value) u.names env names later →

@@ -29,14 +29,14 @@ use Rattle.c_statements.specs.Statements.{statement}
 use Rattle.c_tag_bodies.specs.Bodies.{TagScope}
 use Rattle.c_initialisers.specs.Initialisers.{object_cells, length_given}
 use Rattle.c_statements.specs.declared.functions.FunctionType.{FunctionType}
-use Rattle.c_statements.specs.Functions.{parameters_of, declared_parameters, result_of, typed_function, function}
+use Rattle.c_statements.specs.Functions.{parameters_of, declared_parameters, result_of, typed_function, judge_function}
 use Rattle.c_declarations.specs.declared.walk.UnitFunction.{UnitFunction}
 use Rattle.c_declarations.specs.declared.walk.UnitSoFar.{UnitSoFar}
-use Rattle.c_declarations.specs.Walk.{UnitWalk, in_notes, with_notes, declare, main_checked, next_object, object_at, add_numbered, with_object, fill_numbered, keep_cells, function_at, add_function, keep_function}
-use Rattle.c_declarations.specs.Objects.{no_object, object_type, array_type, object_declared, init_filled, object_of, array_object}
-use Rattle.c_declarations.specs.Functions.{function_type, function_of, function_with_type}
-use Rattle.c_externals.specs.Externals.{prototype, object_with, main_with, with_main_in, with_definition, type_of_function, definition, function_with, function_typed, type_of, external, externals}
-use Rattle.c_units.specs.Units.{start, whole_unit}
+use Rattle.c_declarations.specs.Walk.{UnitWalk, in_notes, with_notes, declare, main_checked, next_object, object_number, add_numbered, with_unit_object, fill_numbered, keep_cells, function_at, add_function, keep_function}
+use Rattle.c_declarations.specs.Objects.{no_object_type, object_type, array_type, object_declared, init_filled, object_by_type, array_object}
+use Rattle.c_declarations.specs.Functions.{function_type, function_by_type, function_with_type}
+use Rattle.c_externals.specs.Externals.{prototype, object_with, main_with, with_main_in, with_definition, type_of_function, definition, external_function, function_typed, declarator_type, walk_external, externals}
+use Rattle.c_units.specs.Units.{unit_start, whole_unit}
 use Rattle.c_function_name_laws.specs.Laws.{passes}
 
 -- ---- functions are as they were
@@ -55,23 +55,23 @@ filled_same (Some number) cells u = refl
 
 kept_same : (env : Env) (name : List ℕ) (o : Option (List DataCell)) (u : UnitSoFar) → (keep_cells env name o u).functions ≡ u.functions
 kept_same env name None u = refl
-kept_same env name (Some cells) u = filled_same (object_at env name) cells u
+kept_same env name (Some cells) u = filled_same (object_number env name) cells u
 
 init_same : (name : List ℕ) (ty : CType) (init : Option Init) (w : UnitWalk) → (init_filled name ty init w).0.functions ≡ w.0.functions
 init_same name ty None w = refl
 init_same name ty (Some v) w = kept_same (object_cells ty v w.1).1.0 name (object_cells ty v w.1).0 w.0
 
-object_same : (ds : Definitions) (at : ℕ) (name : List ℕ) (storage : Option Storage) (init : Option Init) (o : Option CType) (w : UnitWalk) → (object_of ds at name storage init o w).0.functions ≡ w.0.functions
+object_same : (ds : Definitions) (at : ℕ) (name : List ℕ) (storage : Option Storage) (init : Option Init) (o : Option CType) (w : UnitWalk) → (object_by_type ds at name storage init o w).0.functions ≡ w.0.functions
 object_same ds at name storage init None w = refl
 object_same ds at name storage init (Some ty) w =
     let v = declare ds at name (Some (object_declared ty (is_some init))) (with_notes (main_checked storage at name w.1.1) w) in
-    init_same name ty init (with_object name ty v) ∙ numbered_same (object_at v.1.0 name) name ty v.0
+    init_same name ty init (with_unit_object name ty v) ∙ numbered_same (object_number v.1.0 name) name ty v.0
 
 array_same : (ds : Definitions) (at : ℕ) (name : List ℕ) (storage : Option Storage) (init : Option Init) (element : CType) (w : UnitWalk) → (array_object ds at name storage init element w).0.functions ≡ w.0.functions
-array_same ds at name storage None element w = let r = in_notes w (no_object at w.1.1) in object_same ds at name storage None r.0 r.1
+array_same ds at name storage None element w = let r = in_notes w (no_object_type at w.1.1) in object_same ds at name storage None r.0 r.1
 array_same ds at name storage (Some v) element w = let r = in_notes w (array_type at element (length_given element v) w.1.1) in object_same ds at name storage (Some v) r.0 r.1
 
-declared_same : (ds : Definitions) (at : ℕ) (name : List ℕ) (storage : Option Storage) (has_body : Bool) (o : Option DeclaredType) (w : UnitWalk) → (function_of ds at name storage has_body o w).0.functions ≡ w.0.functions
+declared_same : (ds : Definitions) (at : ℕ) (name : List ℕ) (storage : Option Storage) (has_body : Bool) (o : Option DeclaredType) (w : UnitWalk) → (function_by_type ds at name storage has_body o w).0.functions ≡ w.0.functions
 declared_same ds at name storage has_body None w = refl
 declared_same ds at name storage has_body (Some ty) w = refl
 
@@ -96,7 +96,7 @@ made_name name (Some ty) false params ls found = tt
 made_name name (Some ty) true params ls None = tt
 made_name name (Some ty) true params ls (Some list) = refl
 
-made_function : (d : Declaration) (of : Option FunctionType) (list : List Stmt) (s : JudgementState) → IfSome (function d of list s).0 (λ f. f.name ≡ d.name)
+made_function : (d : Declaration) (of : Option FunctionType) (list : List Stmt) (s : JudgementState) → IfSome (judge_function d of list s).0 (λ f. f.name ≡ d.name)
 made_function d of list s =
     let p = declared_parameters of (parameters_of d.ty) ([], (enter s.0, s.1)) in
     let v = walk (statement (result_of of) no_jumps) list (Some []) p.1 in
@@ -124,11 +124,11 @@ module _ (test : List ℕ → Bool) where
       let r = in_notes w (function_type e.at ty w.1.1) in
       let t = with_definition e.at e.ty (with_main_in e.name r) in
       let v = function_with_type ds e.at e.name storage true t in
-      let made = function e (type_of_function t.0) list v.1 in
+      let made = judge_function e (type_of_function t.0) list v.1 in
       kept_named made.1.0 e.name made.0 v.0 (made_function e (type_of_function t.0) list v.1) g
       (subst AreNamed (sym (declared_same ds e.at e.name storage true t.0 t.1 ∙ main_same e.name r.0 w.0)) h)
 
-  function_named : (ds : Definitions) (e : Declaration) (storage : Option Storage) (end : FunctionEnd) (ty : DeclaredType) (w : UnitWalk) → IsTrue (passes test (x.Function e storage end)) → AreNamed w.0.functions → AreNamed (function_with ds e storage end ty w).0.functions
+  function_named : (ds : Definitions) (e : Declaration) (storage : Option Storage) (end : FunctionEnd) (ty : DeclaredType) (w : UnitWalk) → IsTrue (passes test (x.Function e storage end)) → AreNamed w.0.functions → AreNamed (external_function ds e storage end ty w).0.functions
   function_named ds e storage f.Nothing ty w g h = subst AreNamed (sym (prototype_same ds e.at e.name storage ty w)) h
   function_named ds e storage (f.Init init) ty w g h = subst AreNamed (sym (prototype_same ds e.at e.name storage ty w)) h
   function_named ds e storage (f.Body list) ty w g h = definition_named ds e storage list ty w g h
@@ -137,11 +137,11 @@ module _ (test : List ℕ → Bool) where
   typed_named ds e storage end None w g h = h
   typed_named ds e storage end (Some ty) w g h = function_named ds e storage end ty w g h
 
-  external_named : (ds : Definitions) (e : External) (s : UnitSoFar × TagScope) → IsTrue (passes test e) → AreNamed s.0.functions → AreNamed (external ds e s).0.functions
+  external_named : (ds : Definitions) (e : External) (s : UnitSoFar × TagScope) → IsTrue (passes test e) → AreNamed s.0.functions → AreNamed (walk_external ds e s).0.functions
   external_named ds (x.Typedef e) s g h = h
   external_named ds (x.Object e storage init) s g h =
-      let r = type_of e s.1 in subst AreNamed (sym (typed_same ds e.at e.name storage init r.0 (s.0, r.1.1))) h
-  external_named ds (x.Function e storage end) s g h = let r = type_of e s.1 in typed_named ds e storage end r.0 (s.0, r.1.1) g h
+      let r = declarator_type e s.1 in subst AreNamed (sym (typed_same ds e.at e.name storage init r.0 (s.0, r.1.1))) h
+  external_named ds (x.Function e storage end) s g h = let r = declarator_type e s.1 in typed_named ds e storage end r.0 (s.0, r.1.1) g h
   external_named ds (x.Tags storage ty) s g h = h
 
   abbrev Passes : External → Type 0
@@ -150,9 +150,9 @@ module _ (test : List ℕ → Bool) where
   externals_named : (ds : Definitions) (es : List External) (s : UnitSoFar × TagScope) → All Passes es → AreNamed s.0.functions → AreNamed (externals ds es s).0.functions
   externals_named ds [] s g h = h
   externals_named ds (e ∷ es) s g h =
-      externals_named ds es (external ds e s) (All-tail Passes e es g) (external_named ds e s (All-head Passes e es g) h)
+      externals_named ds es (walk_external ds e s) (All-tail Passes e es g) (external_named ds e s (All-head Passes e es g) h)
 
 pub unit_names : (test : List ℕ → Bool) (tree : TranslationUnit) → All (λ e. IsTrue (passes test e)) tree.externals → All (λ f. IsTrue (test f.function.name)) (whole_unit tree).0.functions
 unit_names test tree h =
     let ds = definitions tree.externals in
-    externals_named test ds tree.externals (start ds) h (All-nil (λ f. IsTrue (test f.function.name)))
+    externals_named test ds tree.externals (unit_start ds) h (All-nil (λ f. IsTrue (test f.function.name)))

@@ -13,11 +13,11 @@ use Rattle.c_typed_tree.specs.declared.types.StructDef.{StructDef}
 use Rattle.c_typed_tree.specs.Types.{PlainType, Void, Int, Pointer, Array, Struct}
 use Rattle.c_typed_tree.specs.Constants.{is_integer}
 use Rattle.c_typed_tree.specs.Layout.{is_complete, is_object, size_of, struct_size}
-use Rattle.c_typed_tree.specs.Typing.{is_type}
+use Rattle.c_typed_tree.specs.Typing.{is_valid_type}
 use Rattle.c_typed_tree.specs.View.{type_view}
 use Rattle.c_typed_tree.specs.Lawful.{IsStruct, IsLawfulStruct}
 use Rattle.c_globals.specs.declared.objects.UnitObject.{UnitObject}
-use Rattle.c_globals.specs.Globals.{object_at, text_at, globals}
+use Rattle.c_globals.specs.Globals.{global_after, text_at, globals}
 use Rattle.c_layout_laws.proofs.Truth.{no_true, back, all_at}
 use Rattle.c_initial_value_laws.specs.Cells.{IsCellIn, AreBytes}
 use Rattle.c_global_laws.specs.Laws.{IsLawfulIn, AreLawfulIn, AreNotedTexts}
@@ -44,7 +44,7 @@ small_integer : (n : ℕ) (s : Bool) → IsTrue (is_integer (Int n s)) → n ≤
 small_integer n true h = pick n 1 _ _ h (λ e. omega arith) (λ h. pick n 2 _ _ h (λ e. omega arith) (λ h. pick n 4 _ _ h (λ e. omega arith) (λ h. pick n 8 _ _ h (λ e. omega arith) (λ h. no_true h))))
 small_integer n false h = pick n 1 _ _ h (λ e. omega arith) (λ h. pick n 2 _ _ h (λ e. omega arith) (λ h. pick n 4 _ _ h (λ e. omega arith) (λ h. pick n 8 _ _ h (λ e. omega arith) (λ h. no_true h))))
 
-pub object_small : (ds : List StructDef) → All (IsLawfulStruct ds) ds → (x : PlainType) → IsTrue (is_type ds x) → IsTrue (is_object ds x) → size_of ds x ≤ MOST_DATA
+pub object_small : (ds : List StructDef) → All (IsLawfulStruct ds) ds → (x : PlainType) → IsTrue (is_valid_type ds x) → IsTrue (is_object ds x) → size_of ds x ≤ MOST_DATA
 object_small ds lawful Void h g = no_true g
 object_small ds lawful (Int n s) h g = le_trans (small_integer n s h) (leb-true 8 MOST_DATA refl)
 object_small ds lawful (Pointer x) h g = leb-true 8 MOST_DATA refl
@@ -58,11 +58,11 @@ cell_lawful : (all : List DataObject) (o : DataObject) (at : ℕ) (c : DataCell)
 cell_lawful all o at (Byte b) e h = h
 cell_lawful all o at (AddressPart global plus part) e h = (e, h.0, h.1)
 
-object_lawful : (ds : List StructDef) (all : List DataObject) (end : ℕ) (o : UnitObject) → All (IsLawfulStruct ds) ds → IsLawfulIn ds all o → IsLawfulObject all (object_at ds end o)
+object_lawful : (ds : List StructDef) (all : List DataObject) (end : ℕ) (o : UnitObject) → All (IsLawfulStruct ds) ds → IsLawfulIn ds all o → IsLawfulObject all (global_after ds end o)
 object_lawful ds all end o lawful h = record {
   size = object_small ds lawful (type_view o.ty) h.type h.object;
   cells = h.cells.within;
-  lawful = λ at c e. cell_lawful all (object_at ds end o) at c refl (h.cells.lawful at c e);
+  lawful = λ at c e. cell_lawful all (global_after ds end o) at c refl (h.cells.lawful at c e);
 }
 
 none_some : {A X : Type 0} {a : A} → None ≡ Some a → X
@@ -100,7 +100,7 @@ texts_lawful all (text ∷ texts) end h =
 objects_lawful : (ds : List StructDef) (all : List DataObject) (os : List UnitObject) (texts : List (List ℕ)) (end : ℕ) → All (IsLawfulStruct ds) ds → AreLawfulIn ds all os → AreNotedTexts texts → All (IsLawfulObject all) (laid ds end os texts)
 objects_lawful ds all [] texts end lawful h g = texts_lawful all texts end g
 objects_lawful ds all (o ∷ os) texts end lawful h g =
-    All-cons (IsLawfulObject all) (object_at ds end o) (laid ds (after (object_at ds end o)) os texts) (object_lawful ds all end o lawful h.0) (objects_lawful ds all os texts (after (object_at ds end o)) lawful h.1 g)
+    All-cons (IsLawfulObject all) (global_after ds end o) (laid ds (after (global_after ds end o)) os texts) (object_lawful ds all end o lawful h.0) (objects_lawful ds all os texts (after (global_after ds end o)) lawful h.1 g)
 
 pub all_lawful : (ds : List StructDef) (os : List UnitObject) (texts : List (List ℕ)) → All (IsLawfulStruct ds) ds → (let all = globals ds os texts in AreLawfulIn ds all os → AreNotedTexts texts → length all < 2 ^ 32 → AreLawful all)
 all_lawful ds os texts lawful h g count = record {

@@ -5,7 +5,7 @@ use Rattle.data_object.specs.Layout.{ObjectsLieFrom}
 use Rattle.c_typed_tree.specs.declared.types.StructDef.{StructDef}
 use Rattle.c_globals.specs.declared.objects.UnitObject.{UnitObject}
 use Rattle.c_globals.specs.declared.globals.GlobalsSoFar.{GlobalsSoFar}
-use Rattle.c_globals.specs.Globals.{object_at, text_at, with_global, with_objects, with_texts, no_globals, globals}
+use Rattle.c_globals.specs.Globals.{global_after, text_at, with_global, with_objects, with_texts, no_globals, globals}
 use Rattle.c_global_laws.specs.Laws.{HasObject, HasTextObject, AreThere}
 
 -- the end of an object
@@ -19,7 +19,7 @@ laid_texts end (text ∷ texts) = text_at end text ∷ laid_texts (after (text_a
 
 abbrev pub laid : List StructDef → (end : ℕ) → List UnitObject → List (List ℕ) → List DataObject
 laid ds end [] texts = laid_texts end texts
-laid ds end (o ∷ os) texts = object_at ds end o ∷ laid ds (after (object_at ds end o)) os texts
+laid ds end (o ∷ os) texts = global_after ds end o ∷ laid ds (after (global_after ds end o)) os texts
 
 append_none : {A : Type 0} (xs : List A) → xs ++ [] ≡ xs
 append_none [] = refl
@@ -34,7 +34,7 @@ texts_laid (text ∷ texts) g =
 objects_laid : (ds : List StructDef) (os : List UnitObject) (texts : List (List ℕ)) (g : GlobalsSoFar) → (with_texts texts (with_objects ds os g)).globals ≡ g.globals ++ laid ds g.end os texts
 objects_laid ds [] texts g = texts_laid texts g
 objects_laid ds (o ∷ os) texts g =
-    let x = object_at ds g.end o in
+    let x = global_after ds g.end o in
     objects_laid ds os texts (with_global x g) ∙ append_assoc g.globals (x ∷ []) (laid ds (after x) os texts)
 
 pub all_laid : (ds : List StructDef) (os : List UnitObject) (texts : List (List ℕ)) → globals ds os texts ≡ laid ds 0 os texts
@@ -57,9 +57,9 @@ text_there (t ∷ texts) end (suc k) text e =
 
 object_there : (ds : List StructDef) (os : List UnitObject) (texts : List (List ℕ)) (end k : ℕ) (o : UnitObject) → slice_get os k ≡ Some o → HasObject ds (laid ds end os texts) k o
 object_there ds [] texts end k o e = none_some e
-object_there ds (x ∷ os) texts end zero o e = record { end = end; there = ap (λ y. Some (object_at ds end y)) (same e) }
+object_there ds (x ∷ os) texts end zero o e = record { end = end; there = ap (λ y. Some (global_after ds end y)) (same e) }
 object_there ds (x ∷ os) texts end (suc k) o e =
-    let rest = object_there ds os texts (after (object_at ds end x)) k o e in
+    let rest = object_there ds os texts (after (global_after ds end x)) k o e in
     record { end = rest.end; there = rest.there }
 
 string_there : (ds : List StructDef) (os : List UnitObject) (texts : List (List ℕ)) (end k : ℕ) (text : List ℕ) → slice_get texts k ≡ Some text → HasTextObject (laid ds end os texts) (length os + k) text
@@ -68,7 +68,7 @@ string_there ds [] texts end k text e = subst (λ n. HasTextObject (laid_texts e
     none_more : (k : ℕ) → k ≡ 0 + k
     none_more k = omega arith
 string_there ds (x ∷ os) texts end k text e =
-    let rest = string_there ds os texts (after (object_at ds end x)) k text e in
+    let rest = string_there ds os texts (after (global_after ds end x)) k text e in
     subst (λ n. HasTextObject (laid ds end (x ∷ os) texts) n text) (one_more (length os) k) (record { end = rest.end; there = rest.there })
   where
     one_more : (n k : ℕ) → suc (n + k) ≡ suc n + k
@@ -88,4 +88,4 @@ texts_lie (text ∷ texts) end = (refl, texts_lie texts (after (text_at end text
 
 pub all_lie : (ds : List StructDef) (os : List UnitObject) (texts : List (List ℕ)) (end : ℕ) → ObjectsLieFrom end (laid ds end os texts)
 all_lie ds [] texts end = texts_lie texts end
-all_lie ds (o ∷ os) texts end = (refl, all_lie ds os texts (after (object_at ds end o)))
+all_lie ds (o ∷ os) texts end = (refl, all_lie ds os texts (after (global_after ds end o)))

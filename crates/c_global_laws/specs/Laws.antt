@@ -5,17 +5,17 @@ use Rattle.data_object.specs.declared.DataObject.{DataObject}
 use Rattle.data_object.specs.Globals.{AreLawful}
 use Rattle.c_typed_tree.specs.declared.types.StructDef.{StructDef}
 use Rattle.c_typed_tree.specs.Layout.{is_object, size_of}
-use Rattle.c_typed_tree.specs.Typing.{is_type}
+use Rattle.c_typed_tree.specs.Typing.{is_valid_type}
 use Rattle.c_typed_tree.specs.View.{type_view}
 use Rattle.c_typed_tree.specs.Lawful.{IsLawfulStruct}
 use Rattle.c_globals.specs.declared.objects.UnitObject.{UnitObject}
-use Rattle.c_globals.specs.Globals.{object_at, text_at, globals}
+use Rattle.c_globals.specs.Globals.{global_after, text_at, globals}
 use Rattle.c_initial_value_laws.specs.Cells.{AreInitialCells, AreBytes}
 
 -- an object with a name stands at its number, and a text behind all of them, each somewhere
 pub record HasObject (structs : List StructDef) (all : List DataObject) (k : ℕ) (o : UnitObject) : Type 0 where
   pub end : ℕ
-  pub there : slice_get all k ≡ Some (object_at structs end o)
+  pub there : slice_get all k ≡ Some (global_after structs end o)
 
 pub record HasTextObject (all : List DataObject) (k : ℕ) (text : List ℕ) : Type 0 where
   pub end : ℕ
@@ -32,7 +32,7 @@ GlobalsAreThere =
 
 -- an object of a type, whose cells are lawful
 pub record IsLawfulIn (structs : List StructDef) (all : List DataObject) (o : UnitObject) : Type 0 where
-  pub type : IsTrue (is_type structs (type_view o.ty))
+  pub type : IsTrue (is_valid_type structs (type_view o.ty))
   pub object : IsTrue (is_object structs (type_view o.ty))
   pub cells : AreInitialCells all (size_of structs (type_view o.ty)) o.cells
 

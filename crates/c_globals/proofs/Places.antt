@@ -5,7 +5,7 @@ use Rattle.data_object.specs.Layout.{place_after, ObjectsLieFrom}
 use Rattle.c_typed_tree.specs.declared.types.StructDef.{StructDef}
 use Rattle.c_globals.specs.declared.objects.UnitObject.{UnitObject}
 use Rattle.c_globals.specs.declared.globals.GlobalsSoFar.{GlobalsSoFar}
-use Rattle.c_globals.specs.Globals.{object_at, text_at, with_global, with_objects, with_texts, no_globals, globals}
+use Rattle.c_globals.specs.Globals.{global_after, text_at, with_global, with_objects, with_texts, no_globals, globals}
 
 -- from a begin on, up to an end
 abbrev pub LieUpTo : (begin : ℕ) → List DataObject → (end : ℕ) → Type 0
@@ -25,7 +25,7 @@ pub objects_lie : (ds : List StructDef) (os : List UnitObject) (g : GlobalsSoFar
     → LieUpTo 0 g.globals g.end → LieUpTo 0 (with_objects ds os g).globals (with_objects ds os g).end
 objects_lie ds [] g lies = lies
 objects_lie ds (o ∷ os) g lies =
-    objects_lie ds os (with_global (object_at ds g.end o) g) (one_more 0 g.end g.globals (object_at ds g.end o) lies refl)
+    objects_lie ds os (with_global (global_after ds g.end o) g) (one_more 0 g.end g.globals (global_after ds g.end o) lies refl)
 
 pub texts_lie : (texts : List (List ℕ)) (g : GlobalsSoFar)
     → LieUpTo 0 g.globals g.end → LieUpTo 0 (with_texts texts g).globals (with_texts texts g).end

@@ -26,8 +26,8 @@ set_cells number cells os = replace_cells number cells (slice_get os number) os
 -- ---- where they lie
 
 -- an object with a name, behind an end
-abbrev pub object_at : List StructDef → (end : ℕ) → UnitObject → DataObject
-object_at ds end o = record {
+abbrev pub global_after : List StructDef → (end : ℕ) → UnitObject → DataObject
+global_after ds end o = record {
   name = o.name;
   size = size_of ds (type_view o.ty);
   align = align_of ds (type_view o.ty);
@@ -52,7 +52,7 @@ with_global o g = record { globals = g.globals ++ o ∷ []; end = o.offset + o.s
 
 abbrev pub with_objects : List StructDef → List UnitObject → GlobalsSoFar → GlobalsSoFar
 with_objects ds [] g = g
-with_objects ds (o ∷ os) g = with_objects ds os (with_global (object_at ds g.end o) g)
+with_objects ds (o ∷ os) g = with_objects ds os (with_global (global_after ds g.end o) g)
 
 abbrev pub with_texts : (texts : List (List ℕ)) → GlobalsSoFar → GlobalsSoFar
 with_texts [] g = g

@@ -76,7 +76,7 @@ fn add_object(
     object: UnitObject,
 ) -> Result<(), AllocError>
     ensures { OnOk result
-        (so_far.new ≡ spec.with_global (spec.object_at structs.now so_far.old.end object) so_far.old) }
+        (so_far.new ≡ spec.with_global (spec.global_after structs.now so_far.old.end object) so_far.old) }
 {
     let UnitObject { name, ty, cells } = object;
     let global = DataObject {

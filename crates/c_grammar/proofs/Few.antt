@@ -16,7 +16,7 @@ use Rattle.c_grammar.specs.declared.shapes.Shape.TheVariants as sh
 use Rattle.c_grammar.specs.declared.shapes.DeclaredName.{DeclaredName}
 use Rattle.c_grammar.specs.declared.shapes.Naming.{Naming}
 use Rattle.c_grammar.specs.declared.shapes.Declarator.{Declarator}
-use Rattle.c_grammar.specs.Tokens.{TypeNames, place}
+use Rattle.c_grammar.specs.Tokens.{TypeNames, token_place}
 use Rattle.c_grammar.specs.Types.{with_shapes, with_one_shape, parameter_by, lone_void, without_void, comma_of}
 use Rattle.c_grammar.specs.Grammar.{IsPlain, IsExpr, IsWhole, AreAssignments, AreArguments, IsTypeName, IsDeclarator, AreParameters, AreSomeParameters, IsParameter}
 use Rattle.c_grammar.proofs.First.{texts_first}
@@ -91,24 +91,24 @@ module _ (s : TypeNames) where
     expr_few (IsExpr.name t low kind listed) = let e = n.count-Name t.at t.spelling in omega arith
     expr_few (IsExpr.number t low kind) = let e = n.count-Number t.at t.spelling in omega arith
     expr_few (IsExpr.character t low kind) = let e = n.count-Character t.at t.spelling in omega arith
-    expr_few (IsExpr.texts a xs low h) = let e = n.count-Text (place a) xs in let f = (texts_first s h).0 in omega arith
+    expr_few (IsExpr.texts a xs low h) = let e = n.count-Text (token_place a) xs in let f = (texts_first s h).0 in omega arith
     expr_few (IsExpr.brackets l a r v low lk h rk) = let i = whole_few h in omega (arith, length-append a (r ∷ []))
     expr_few (IsExpr.call t l a r xs low kind listed lk h rk) = let i = arguments_few h in let e = n.count-Call t.at t.spelling xs in omega (arith, length-append a (r ∷ []))
-    expr_few (IsExpr.index a l b r v z low h lk g rk) = let i = expr_few h in let j = whole_few g in let e = n.count-Index (place a) v z in omega (arith, length-append a (l ∷ b ++ r ∷ []), length-append b (r ∷ []))
-    expr_few (IsExpr.field a t u v low h tk uk) = let i = expr_few h in let e = n.count-Field (place a) v u.spelling in omega (arith, length-append a (t ∷ u ∷ []))
-    expr_few (IsExpr.arrow a t u v low h tk uk) = let i = expr_few h in let e = n.count-Arrow (place a) v u.spelling in omega (arith, length-append a (t ∷ u ∷ []))
-    expr_few (IsExpr.postfix a t op v low h kind) = let i = expr_few h in let e = n.count-Postfix (place a) op v in omega (arith, length-append a (t ∷ []))
+    expr_few (IsExpr.index a l b r v z low h lk g rk) = let i = expr_few h in let j = whole_few g in let e = n.count-Index (token_place a) v z in omega (arith, length-append a (l ∷ b ++ r ∷ []), length-append b (r ∷ []))
+    expr_few (IsExpr.field a t u v low h tk uk) = let i = expr_few h in let e = n.count-Field (token_place a) v u.spelling in omega (arith, length-append a (t ∷ u ∷ []))
+    expr_few (IsExpr.arrow a t u v low h tk uk) = let i = expr_few h in let e = n.count-Arrow (token_place a) v u.spelling in omega (arith, length-append a (t ∷ u ∷ []))
+    expr_few (IsExpr.postfix a t op v low h kind) = let i = expr_few h in let e = n.count-Postfix (token_place a) op v in omega (arith, length-append a (t ∷ []))
     expr_few (IsExpr.prefix_step t a op v low kind h) = let i = expr_few h in let e = n.count-Unary t.at op v in omega arith
     expr_few (IsExpr.unary t a op v low kind h) = let i = expr_few h in let e = n.count-Unary t.at op v in omega arith
     expr_few (IsExpr.size_of t a v low kind h) = let i = expr_few h in let e = n.count-SizeOfValue t.at v in omega arith
     expr_few (IsExpr.size_of_type t l a r ty low kind lk h rk) = let i = type_few h in let e = n.count-SizeOfType t.at ty in omega (arith, length-append a (r ∷ []))
     expr_few (IsExpr.cast l a r b ty v low lk h rk g) = let i = type_few h in let j = expr_few g in let e = n.count-Cast l.at ty v in omega (arith, length-append a (r ∷ b))
-    expr_few (IsExpr.binary a t b op v z low kind h g) = let i = expr_few h in let j = expr_few g in let e = n.count-Binary (place a) op v z in omega (arith, length-append a (t ∷ b))
-    expr_few (IsExpr.conditional a t b r d u v z low h tk g rk o) = let i = expr_few h in let j = whole_few g in let k = expr_few o in let e = n.count-Conditional (place a) u v z in omega (arith, length-append a (t ∷ b ++ r ∷ d), length-append b (r ∷ d))
-    expr_few (IsExpr.assignment a t b op v z low h kind g) = let i = expr_few h in let j = expr_few g in let e = n.count-Assign (place a) op v z in omega (arith, length-append a (t ∷ b))
+    expr_few (IsExpr.binary a t b op v z low kind h g) = let i = expr_few h in let j = expr_few g in let e = n.count-Binary (token_place a) op v z in omega (arith, length-append a (t ∷ b))
+    expr_few (IsExpr.conditional a t b r d u v z low h tk g rk o) = let i = expr_few h in let j = whole_few g in let k = expr_few o in let e = n.count-Conditional (token_place a) u v z in omega (arith, length-append a (t ∷ b ++ r ∷ d), length-append b (r ∷ d))
+    expr_few (IsExpr.assignment a t b op v z low h kind g) = let i = expr_few h in let j = expr_few g in let e = n.count-Assign (token_place a) op v z in omega (arith, length-append a (t ∷ b))
 
     pub whole_few : {a : List Lexeme} {v : Expr} → IsWhole s a v → expr_count v ≤ 2 * length a
-    whole_few (IsWhole.commas a vs h) = let i = list_few h in let c = comma_count (place a) vs (list_some h) in omega arith
+    whole_few (IsWhole.commas a vs h) = let i = list_few h in let c = comma_count (token_place a) vs (list_some h) in omega arith
 
     list_few : {a : List Lexeme} {vs : List Expr} → AreAssignments s a vs → list_count expr_node vs + 2 * length vs ≤ 2 * length a + 2
     list_few (AreAssignments.one a v h) = let i = expr_few h in omega arith
@@ -139,4 +139,4 @@ module _ (s : TypeNames) where
     parameters_listed_few (AreSomeParameters.more_parameters a t b x xs h kind g) = let i = parameter_few h in let j = parameters_listed_few g in omega (arith, length-append a (t ∷ b))
 
     parameter_few : {a : List Lexeme} {x : Parameter} → IsParameter s a x → node_count (parameter_node x) ≤ 2 * length a
-    parameter_few (IsParameter.parameter a b ty d h g) = let i = declarator_few g in let c = shapes_round_count d.shapes ty in let o = plain_count s h in let f = (plain_begins s h).0 in let e = parameter_count (place a) (with_shapes d.shapes ty) d.name in omega (arith, length-append a b)
+    parameter_few (IsParameter.parameter a b ty d h g) = let i = declarator_few g in let c = shapes_round_count d.shapes ty in let o = plain_count s h in let f = (plain_begins s h).0 in let e = parameter_count (token_place a) (with_shapes d.shapes ty) d.name in omega (arith, length-append a b)

@@ -21,7 +21,7 @@ use Rattle.c_tree.proofs.Counts as n
 use Rattle.c_tree.proofs.Counts.{expr_count, type_count, stmt_count, init_count, list_count, nodes_count-append_nodes, list_count-append}
 use Rattle.c_grammar.specs.declared.shapes.Naming.{Naming}
 use Rattle.c_grammar.specs.Tokens.{TypeNames}
-use Rattle.c_grammar.specs.Types.{bare, declaration_of}
+use Rattle.c_grammar.specs.Types.{without_body, declaration_of}
 use Rattle.c_grammar.specs.Grammar.{IsPlain}
 use Rattle.c_grammar.specs.Specifiers.{IsDeclared, AreDeclared, IsConstant, AreConstants, IsSpecifier, AreMembers, IsMember}
 use Rattle.c_grammar.specs.Statements.{IsLocalDeclarator, AreLocals, IsLine, IsOptional, IsFirst, IsLabel, locals_of, IsStmt, AreItems, AreSections, AreStmts}
@@ -31,15 +31,15 @@ use Rattle.c_grammar.proofs.Few.{shapes_round_count, plain_count, expr_few, whol
 
 -- ---- specifiers
 
-bare_again : (ty : TypeNode) → bare (bare ty) ≡ bare ty
+bare_again : (ty : TypeNode) → without_body (without_body ty) ≡ without_body ty
 bare_again (y.Enum' at tag constants) = refl
 bare_again (y.Struct' at tag members) = refl
 bare_again _ = refl
 
 abbrev Lone : TypeNode → Type 0
-Lone ty = type_count (bare ty) ≡ 1
+Lone ty = type_count (without_body ty) ≡ 1
 
-bare_lone : (ty : TypeNode) → Lone ty → Lone (bare ty)
+bare_lone : (ty : TypeNode) → Lone ty → Lone (without_body ty)
 bare_lone ty h = ap type_count (bare_again ty) ∙ h
 
 plain_lone : (s : TypeNames) {a : List Lexeme} {ty : TypeNode} → IsPlain s a ty → Lone ty

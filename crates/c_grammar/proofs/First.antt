@@ -9,7 +9,7 @@ use Rattle.c_tree.specs.declared.expressions.Expr.{Expr}
 use Rattle.c_grammar.specs.declared.classes.Prefix.{Prefix}
 use Rattle.c_grammar.specs.declared.classes.Prefix.TheVariants as f
 use Rattle.c_grammar.specs.Classes.{prefix_of}
-use Rattle.c_grammar.specs.Tokens.{TypeNames, is_type, is_mark, kind_at, behind, is_type_at, begins_type}
+use Rattle.c_grammar.specs.Tokens.{TypeNames, is_type, is_mark, kind_at, token_tail, is_type_at, begins_type}
 use Rattle.c_grammar.specs.model.Begins.{begins, begins_by}
 use Rattle.c_grammar.specs.Grammar.{AreTexts, IsExpr, IsWhole, AreAssignments}
 use Rattle.c_grammar.proofs.Outcomes.{no_true, mark_is}
@@ -63,7 +63,7 @@ first_whole s (IsWhole.commas a xs h) = first_listed s h
 
 -- a bracket before a unary expression holds no type
 abbrev pub NoCast : TypeNames → List Lexeme → Type 0
-NoCast s ts = is_mark p.LeftParen (kind_at ts) ≡ true → begins_type s (behind ts) ≡ false
+NoCast s ts = is_mark p.LeftParen (kind_at ts) ≡ true → begins_type s (token_tail ts) ≡ false
 
 other : (s : TypeNames) (ts : List Lexeme) (kind : TokenKind) → kind_at ts ≡ kind → is_mark p.LeftParen kind ≡ false → NoCast s ts
 other s ts kind e h q = no_true (sym h ∙ ap (is_mark p.LeftParen) (sym e) ∙ q)

@@ -30,8 +30,8 @@ use Rattle.c_grammar.specs.declared.shapes.SpecifierStart.TheVariants as ss
 use Rattle.c_grammar.specs.Classes.{infix_of, prefix_of, specifier_of}
 use Rattle.c_grammar.specs.Levels.{level_of, result_level}
 use Rattle.c_grammar.specs.WordSets.{no_words, basic_of}
-use Rattle.c_grammar.specs.Tokens.{TypeNames, is_mark, is_word, is_name, is_text, kind_at, spelling_at, place, behind, is_type_name, begins_type}
-use Rattle.c_grammar.specs.Types.{bare, takes_name, may_be_nameless, nameless, with_shape, with_shapes, parameter_of, without_void, comma_of}
+use Rattle.c_grammar.specs.Tokens.{TypeNames, is_mark, is_keyword, is_name_token, is_text, kind_at, spelling_at, token_place, token_tail, is_type_name, begins_type}
+use Rattle.c_grammar.specs.Types.{without_body, takes_name, may_be_nameless, nameless, with_shape, with_shapes, parameter_of, without_void, comma_of}
 use Rattle.c_grammar.specs.Parser.{ParseOutcome, Parser, and_then, pure, expect, expect_word, consts}
 use Rattle.c_grammar.specs.ParseExpr.{extend, start_of, word_or_end, words_from, named_type, tag_type, tag, specifier_behind, specifier_from, plain, texts_from, list_from, member, no_name, core_name, whole, type_name, parameter, arguments, parameters, behind_name, cast_behind, brackets_behind, bracket_operand, size_of_type, size_of_value, size_of, operand_by, operand, step_by, climb, tight, length_of, suffixes, pointer_declarator, group_behind, core_bracket, core, shaping, expr, declarator}
 use Rattle.c_grammar.specs.Specifiers.{IsSpecifier}
@@ -89,8 +89,8 @@ module _ (t : Lexeme) (left right : List Lexeme) where
   pub same_kind : {k : Mode} {b c : ℕ} {u v : List Lexeme} → State k b c u v → kind_at u ≡ kind_at v
   same_kind h = same_head kind_at (λ x u v. refl) h
 
-  pub same_place : {k : Mode} {b c : ℕ} {u v : List Lexeme} → State k b c u v → place u ≡ place v
-  same_place h = same_head place (λ x u v. refl) h
+  pub same_place : {k : Mode} {b c : ℕ} {u v : List Lexeme} → State k b c u v → token_place u ≡ token_place v
+  same_place h = same_head token_place (λ x u v. refl) h
 
   pub same_spelling : {k : Mode} {b c : ℕ} {u v : List Lexeme} → State k b c u v → spelling_at u ≡ spelling_at v
   same_spelling h = same_head spelling_at (λ x u v. refl) h
@@ -158,13 +158,13 @@ module _ (t : Lexeme) (left right : List Lexeme) where
 
   -- a token is taken
   pub take_local : {A : Type 0} {k : Mode} {b c : ℕ} {u v : List Lexeme} (p q : Parser A) → State k b c u v → ((k : Mode) (u v : List Lexeme) → State k (b - 1) (c - 1) u v → Agrees k (b - 1) (c - 1) (p u) (q v))
-      → Agrees k b c (p (behind u)) (q (behind v))
+      → Agrees k b c (p (token_tail u)) (q (token_tail v))
   take_local p q (State.near Same.here lb lc) g = forget (omega arith) (g Mode.past left left (State.past (omega arith) (omega arith)))
   take_local p q (State.near (Same.there x {u} {v} h) lb lc) g = more (omega arith) (omega arith) (g Mode.near u v (State.near h (omega arith) (omega arith)))
   take_local p q (State.past {u = []} l lb) g = more (omega arith) (omega arith) (g Mode.past [] [] (State.past (omega arith) (omega arith)))
   take_local p q (State.past {u = x ∷ u} l lb) g = more (omega arith) (omega arith) (g Mode.past u u (State.past (omega arith) (omega arith)))
 
-  pub taken_local : {A : Type 0} (x y : A) {k : Mode} {b c : ℕ} {u v : List Lexeme} → State k b c u v → x ≡ y → Agrees k b c (Ok (x, behind u)) (Ok (y, behind v))
+  pub taken_local : {A : Type 0} (x y : A) {k : Mode} {b c : ℕ} {u v : List Lexeme} → State k b c u v → x ≡ y → Agrees k b c (Ok (x, token_tail u)) (Ok (y, token_tail v))
   taken_local x y h e = take_local (λ ts. Ok (x, ts)) (λ ts. Ok (y, ts)) h (λ k u v g. ok_local x y g e)
 
   -- as many turns as there are tokens: the bounds are those of the lists
@@ -206,24 +206,24 @@ module _ (t : Lexeme) (left right : List Lexeme) where
 
   pub expect_word_local : (n m : ℕ) (word : Keyword) → Alike n m (expect_word word) (expect_word word)
   unfolding expect_word
-  expect_word_local n m word k b c u v h bn cm = test_local (ap (is_word word) (same_kind h)) (taken_local tt tt h refl) (err_local h)
+  expect_word_local n m word k b c u v h bn cm = test_local (ap (is_keyword word) (same_kind h)) (taken_local tt tt h refl) (err_local h)
 
   consts_loop : (n m j i : ℕ) (x : Unit {0}) → Loop n m (λ j x. consts j) (λ j x. consts j) j i x
   unfolding consts
   consts_loop n m = loop_local n m (λ j x. consts j) (λ j x. consts j) (λ x k b c u v h. ok_local tt tt h refl)
-      (λ j i more x k b c u v h bn cm bj ci. test_local (ap (is_word w.Const) (same_kind h))
+      (λ j i more x k b c u v h bn cm bj ci. test_local (ap (is_keyword w.Const) (same_kind h))
       (take_local (consts j) (consts i) h (λ k u v g. more x k (b - 1) (c - 1) u v g (omega arith) (omega arith) (omega arith) (omega arith))) (ok_local tt tt h refl))
 
   pub consts_local : (n m : ℕ) → Alike n m (λ ts. consts (length ts) ts) (λ ts. consts (length ts) ts)
   consts_local n m = turns_local n m (λ j x. consts j) (λ j x. consts j) (consts_loop n m) tt
 
-  pub behind_local : {A : Type 0} {n m : ℕ} {k : Mode} {b c : ℕ} {u v : List Lexeme} (p q : Parser A) → Alike n m p q → State k b c u v → b ≤ suc n → c ≤ suc m → Agrees k b c (p (behind u)) (q (behind v))
+  pub behind_local : {A : Type 0} {n m : ℕ} {k : Mode} {b c : ℕ} {u v : List Lexeme} (p q : Parser A) → Alike n m p q → State k b c u v → b ≤ suc n → c ≤ suc m → Agrees k b c (p (token_tail u)) (q (token_tail v))
   behind_local {b = b} {c} p q h st bn cm = take_local p q st (λ k u v g. h k (b - 1) (c - 1) u v g (omega arith) (omega arith))
 
   pub less_local : {A : Type 0} {n m n' m' : ℕ} (p q : Parser A) → n' ≤ n → m' ≤ m → Alike n m p q → Alike n' m' p q
   less_local p q le le' h k b c u v st bn cm = h k b c u v st (omega arith) (omega arith)
 
-  consts_behind : {k : Mode} {b c : ℕ} {u v : List Lexeme} → State k b c u v → Agrees k b c (consts (length (behind u)) (behind u)) (consts (length (behind v)) (behind v))
+  consts_behind : {k : Mode} {b c : ℕ} {u v : List Lexeme} → State k b c u v → Agrees k b c (consts (length (token_tail u)) (token_tail u)) (consts (length (token_tail v)) (token_tail v))
   consts_behind {b = b} {c} h = behind_local (λ ts. consts (length ts) ts) (λ ts. consts (length ts) ts) (consts_local b c) h (omega arith) (omega arith)
 
   pub then_expect : {A : Type 0} {k : Mode} {b c : ℕ} {u v : List Lexeme} (mark : Punct) (f f' : Unit {0} → Parser A) → State k b c u v
@@ -238,8 +238,8 @@ module _ (t : Lexeme) (left right : List Lexeme) where
 
   tag_local : (class : Specifier) (n m : ℕ) → Alike n m (tag class) (tag class)
   unfolding tag
-  tag_local class n m k b c u v h bn cm = test_local (ap is_name (same_kind h))
-      (bind_local _ _ _ _ (consts_behind h) (λ x k u' v' g. ok_local _ _ g (ap (λ at. tag_type class at (spelling_at u)) (same_place h) ∙ ap (tag_type class (place v)) (same_spelling h)))) (err_local h)
+  tag_local class n m k b c u v h bn cm = test_local (ap is_name_token (same_kind h))
+      (bind_local _ _ _ _ (consts_behind h) (λ x k u' v' g. ok_local _ _ g (ap (λ at. tag_type class at (spelling_at u)) (same_place h) ∙ ap (tag_type class (token_place v)) (same_spelling h)))) (err_local h)
 
   module _ (s : TypeNames) where
     named_type_local : (n m : ℕ) → Alike n m (named_type s) (named_type s)
@@ -250,8 +250,8 @@ module _ (t : Lexeme) (left right : List Lexeme) where
     module _ (n m : ℕ) (on on' : Specifier → ℕ → Parser TypeNode) (on_local : (class : Specifier) (at : ℕ) → Alike n m (on class at) (on' class at)) where
       start_local : (start : SpecifierStart) → Alike (suc n) (suc m) (specifier_behind s on start) (specifier_behind s on' start)
       start_local (ss.Basic q) k b c u v h bn cm = ok_local (y.Basic q) (y.Basic q) h refl
-      start_local (ss.Other cs.Struct) k b c u v h bn cm = rw (same_place h) (behind_local (on cs.Struct (place v)) (on' cs.Struct (place v)) (on_local cs.Struct (place v)) h bn cm)
-      start_local (ss.Other cs.Enum) k b c u v h bn cm = rw (same_place h) (behind_local (on cs.Enum (place v)) (on' cs.Enum (place v)) (on_local cs.Enum (place v)) h bn cm)
+      start_local (ss.Other cs.Struct) k b c u v h bn cm = rw (same_place h) (behind_local (on cs.Struct (token_place v)) (on' cs.Struct (token_place v)) (on_local cs.Struct (token_place v)) h bn cm)
+      start_local (ss.Other cs.Enum) k b c u v h bn cm = rw (same_place h) (behind_local (on cs.Enum (token_place v)) (on' cs.Enum (token_place v)) (on_local cs.Enum (token_place v)) h bn cm)
       start_local (ss.Other cs.Name) k b c u v h bn cm = named_type_local (suc n) (suc m) k b c u v h bn cm
       start_local (ss.Other _) k b c u v h bn cm = err_local h
 
@@ -261,11 +261,11 @@ module _ (t : Lexeme) (left right : List Lexeme) where
 
       module _ (j i : ℕ) (next : (x : WordSet) → Loop (suc n) (suc m) (specifier_from s on) (specifier_from s on') j i x) where
         word_local : (x : WordSet) {k : Mode} {b c : ℕ} {u v : List Lexeme} → State k b c u v → b ≤ suc n → c ≤ suc m → b ≤ suc j → c ≤ suc i
-            → Agrees k b c (specifier_from s on j x (behind u)) (specifier_from s on' i x (behind v))
+            → Agrees k b c (specifier_from s on j x (token_tail u)) (specifier_from s on' i x (token_tail v))
         word_local x {b = b} {c} h bn cm bj ci = take_local (specifier_from s on j x) (specifier_from s on' i x) h (λ k u v g. next x k (b - 1) (c - 1) u v g (omega arith) (omega arith) (omega arith) (omega arith))
 
         set_local : (x : WordSet) (class : Specifier) (o : Option WordSet) {k : Mode} {b c : ℕ} {u v : List Lexeme} → State k b c u v → b ≤ suc n → c ≤ suc m → b ≤ suc j → c ≤ suc i
-            → Agrees k b c (behind_words s on (word_or_end o (λ z. words_from j z (behind u)) (start_of (basic_of x) class, u))) (behind_words s on' (word_or_end o (λ z. words_from i z (behind v)) (start_of (basic_of x) class, v)))
+            → Agrees k b c (behind_words s on (word_or_end o (λ z. words_from j z (token_tail u)) (start_of (basic_of x) class, u))) (behind_words s on' (word_or_end o (λ z. words_from i z (token_tail v)) (start_of (basic_of x) class, v)))
         unfolding specifier_from
         set_local x class (Some z) h bn cm bj ci = word_local z h bn cm bj ci
         set_local x class None {k} {b} {c} {u} {v} h bn cm bj ci = start_local (start_of (basic_of x) class) k b c u v h bn cm
@@ -309,7 +309,7 @@ module _ (t : Lexeme) (left right : List Lexeme) where
 
   member_local : (n m : ℕ) → Alike n m member member
   unfolding member
-  member_local n m k b c u v h bn cm = test_local (ap is_name (same_kind h)) (taken_local (spelling_at u) (spelling_at v) h (same_spelling h)) (err_local h)
+  member_local n m k b c u v h bn cm = test_local (ap is_name_token (same_kind h)) (taken_local (spelling_at u) (spelling_at v) h (same_spelling h)) (err_local h)
 
   module _ (s : TypeNames) (n m : ℕ) (rec rec' : ℕ → Parser Expr) (dec dec' : Naming → Parser Declarator) (rec_local : (least : ℕ) → Alike n m (rec least) (rec' least)) (dec_local : (naming : Naming) → Alike n m (dec naming) (dec' naming))
       (takes : (l : Lexeme) (u : List Lexeme) → l.kind ≡ kd.Mark p.LeftParen → length (l ∷ u) ≤ n → length u ≤ length left → Agrees Mode.past (length u) 0 (rec 17 (l ∷ u)) (rec 17 (l ∷ u))) where
@@ -320,7 +320,7 @@ module _ (t : Lexeme) (left right : List Lexeme) where
     type_local : Alike n m (type_name s rec dec) (type_name s rec' dec')
     unfolding type_name
     type_local k b c u v h bn cm = bind_local _ _ _ _ (plain_local s n m k b c u v h bn cm) (λ ty k u' v' g. bind_local _ _ _ _ (dec_local nm.Refused k b c u' v' g bn cm) (λ d k u2 v2 g2.
-        let made : ℕ → TypeName = λ at. record { at = at; ty = with_shapes d.shapes ty } in ok_local (made (place u)) (made (place v)) g2 (ap made (same_place h))))
+        let made : ℕ → TypeName = λ at. record { at = at; ty = with_shapes d.shapes ty } in ok_local (made (token_place u)) (made (token_place v)) g2 (ap made (same_place h))))
 
     parameter_local : Alike n m (parameter s rec dec) (parameter s rec' dec')
     unfolding parameter
@@ -392,14 +392,14 @@ module _ (t : Lexeme) (left right : List Lexeme) where
 
     operand_by_local : (least : ℕ) (class : Prefix) → Alike (suc n) (suc m) (operand_by s rec dec least class) (operand_by s rec' dec' least class)
     operand_by_local least px.Name k b c u v h bn cm = test_local (ap (is_type_name s) (same_spelling h)) (err_local h)
-        (rw (same_place h, same_spelling h) (behind_local (behind_name s rec dec (place v) (spelling_at v)) (behind_name s rec' dec' (place v) (spelling_at v)) (name_local (place v) (spelling_at v)) h bn cm))
+        (rw (same_place h, same_spelling h) (behind_local (behind_name s rec dec (token_place v) (spelling_at v)) (behind_name s rec' dec' (token_place v) (spelling_at v)) (name_local (token_place v) (spelling_at v)) h bn cm))
     operand_by_local least px.Number k b c u v h bn cm = rw (same_place h, same_spelling h) (taken_local _ _ h refl)
     operand_by_local least px.Character k b c u v h bn cm = rw (same_place h, same_spelling h) (taken_local _ _ h refl)
     operand_by_local least px.Text k b c u v h bn cm = rw (same_place h) (bind_local _ _ _ _ (texts_local (suc n) (suc m) k b c u v h bn cm) (λ xs k u v g. ok_local _ _ g refl))
-    operand_by_local least px.Bracket k b c u v h bn cm = rw (same_place h) (behind_local (bracket_operand s rec dec least (place v)) (bracket_operand s rec' dec' least (place v)) (bracket_local least (place v)) h bn cm)
+    operand_by_local least px.Bracket k b c u v h bn cm = rw (same_place h) (behind_local (bracket_operand s rec dec least (token_place v)) (bracket_operand s rec' dec' least (token_place v)) (bracket_local least (token_place v)) h bn cm)
     operand_by_local least (px.Step op) k b c u v h bn cm = rw (same_place h) (bind_local _ _ _ _ (behind_local (rec 17) (rec' 17) (rec_local 17) h bn cm) (λ x k u v g. ok_local _ _ g refl))
     operand_by_local least (px.Unary op) k b c u v h bn cm = rw (same_place h) (bind_local _ _ _ _ (behind_local (rec 16) (rec' 16) (rec_local 16) h bn cm) (λ x k u v g. ok_local _ _ g refl))
-    operand_by_local least px.SizeOf k b c u v h bn cm = rw (same_place h) (behind_local (size_of s rec dec (place v)) (size_of s rec' dec' (place v)) (size_local (place v)) h bn cm)
+    operand_by_local least px.SizeOf k b c u v h bn cm = rw (same_place h) (behind_local (size_of s rec dec (token_place v)) (size_of s rec' dec' (token_place v)) (size_local (token_place v)) h bn cm)
     operand_by_local least px.Nothing k b c u v h bn cm = err_local h
 
     operand_local : (least : ℕ) → Alike (suc n) (suc m) (operand s rec dec least) (operand s rec' dec' least)
@@ -434,7 +434,7 @@ module _ (t : Lexeme) (left right : List Lexeme) where
     climb_local at least q = turns_local (suc n) (suc m) (climbing rec dec at least) (climbing rec' dec' at least) (climb_loop at least) q
 
     pub tight_local : (least : ℕ) → Alike (suc n) (suc m) (tight s rec dec least) (tight s rec' dec' least)
-    tight_local least k b c u v h bn cm = rw (same_place h) (bind_local _ _ _ _ (operand_local least k b c u v h bn cm) (λ q k u' v' g. climb_local (place v) least (q.1, q.0) k b c u' v' g bn cm))
+    tight_local least k b c u v h bn cm = rw (same_place h) (bind_local _ _ _ _ (operand_local least k b c u v h bn cm) (λ q k u' v' g. climb_local (token_place v) least (q.1, q.0) k b c u' v' g bn cm))
 
     -- a bracket is taken
     pub tight_takes : (l : Lexeme) (u : List Lexeme) → l.kind ≡ kd.Mark p.LeftParen → length (l ∷ u) ≤ suc n → length u ≤ length left → Agrees Mode.past (length u) 0 (tight s rec dec 17 (l ∷ u)) (tight s rec' dec' 17 (l ∷ u))
@@ -480,9 +480,9 @@ module _ (t : Lexeme) (left right : List Lexeme) where
     core_name_local : (naming : Naming) (n m : ℕ) → Alike n m (core_name s naming) (core_name s naming)
     core_name_local naming n m k b c u v h bn cm =
         let made : ℕ → List ℕ → Declarator = λ at name. record { name = Some (record { at = at; name = name }); shapes = [] } in
-        test_local (ap (λ name. takes_name naming (is_type_name s name)) (same_spelling h)) (taken_local (made (place u) (spelling_at u)) (made (place v) (spelling_at v)) h (ap (λ at. made at (spelling_at u)) (same_place h) ∙ ap (made (place v)) (same_spelling h))) (no_name_local naming n m k b c u v h bn cm)
+        test_local (ap (λ name. takes_name naming (is_type_name s name)) (same_spelling h)) (taken_local (made (token_place u) (spelling_at u)) (made (token_place v) (spelling_at v)) h (ap (λ at. made at (spelling_at u)) (same_place h) ∙ ap (made (token_place v)) (same_spelling h))) (no_name_local naming n m k b c u v h bn cm)
 
-    behind_past : (u : List Lexeme) → length (behind u) ≤ length u
+    behind_past : (u : List Lexeme) → length (token_tail u) ≤ length u
     behind_past [] = omega arith
     behind_past (x ∷ u) = omega arith
 
@@ -490,19 +490,19 @@ module _ (t : Lexeme) (left right : List Lexeme) where
     with_suffixes rec dec d ts = suffixes s rec dec (length ts) d ts
 
     -- at a bracket, with the same token behind it
-    core_bracket_local : (naming : Naming) {k : Mode} {b c : ℕ} {u v : List Lexeme} → State k b c u v → State k b c (behind u) (behind v) → b ≤ suc n → c ≤ suc m → Agrees k b c (core_bracket s rec dec naming u) (core_bracket s rec' dec' naming v)
+    core_bracket_local : (naming : Naming) {k : Mode} {b c : ℕ} {u v : List Lexeme} → State k b c u v → State k b c (token_tail u) (token_tail v) → b ≤ suc n → c ≤ suc m → Agrees k b c (core_bracket s rec dec naming u) (core_bracket s rec' dec' naming v)
     core_bracket_local naming h g bn cm = test_local (ap (is_mark p.Star) (same_kind g)) (behind_local (group_behind s rec dec naming) (group_behind s rec' dec' naming) (group_local naming) g bn cm)
         (test_local refl (ok_local nameless nameless h refl) (err_local g))
 
-    core_local : (naming : Naming) {k : Mode} {b c : ℕ} {u v : List Lexeme} → State k b c u v → State k b c (behind u) (behind v) → b ≤ suc n → c ≤ suc m → Agrees k b c (core s rec dec naming u) (core s rec' dec' naming v)
+    core_local : (naming : Naming) {k : Mode} {b c : ℕ} {u v : List Lexeme} → State k b c u v → State k b c (token_tail u) (token_tail v) → b ≤ suc n → c ≤ suc m → Agrees k b c (core s rec dec naming u) (core s rec' dec' naming v)
     unfolding core
-    core_local naming {k} {b} {c} {u} {v} h g bn cm = test_local (ap is_name (same_kind h)) (core_name_local naming (suc n) (suc m) k b c u v h bn cm)
+    core_local naming {k} {b} {c} {u} {v} h g bn cm = test_local (ap is_name_token (same_kind h)) (core_name_local naming (suc n) (suc m) k b c u v h bn cm)
         (test_local (ap (is_mark p.LeftParen) (same_kind h)) (core_bracket_local naming h g bn cm) (no_name_local naming (suc n) (suc m) k b c u v h bn cm))
 
     -- at the bracket that is the last of the same tokens, what is read takes it
     bracket_lost : (naming : Naming) (x y : Bool) → t.kind ≡ kd.Mark p.LeftParen → length left ≤ n
-        → Agrees Mode.past (length left) 0 (and_then (cond x (group_behind s rec dec naming (behind left)) (cond y (Ok (nameless, t ∷ left)) (Err left))) (with_suffixes rec dec))
-        (and_then (cond x (group_behind s rec' dec' naming (behind left)) (cond y (Ok (nameless, t ∷ left)) (Err left))) (with_suffixes rec' dec'))
+        → Agrees Mode.past (length left) 0 (and_then (cond x (group_behind s rec dec naming (token_tail left)) (cond y (Ok (nameless, t ∷ left)) (Err left))) (with_suffixes rec dec))
+        (and_then (cond x (group_behind s rec' dec' naming (token_tail left)) (cond y (Ok (nameless, t ∷ left)) (Err left))) (with_suffixes rec' dec'))
     unfolding suffixes
     bracket_lost naming true y kind len =
         let st : State Mode.past (length left) 0 left left = State.past (omega arith) (omega arith) in
@@ -524,7 +524,7 @@ module _ (t : Lexeme) (left right : List Lexeme) where
 
     shape_local : (naming : Naming) → Alike (suc n) (suc m) (λ ts. and_then (core s rec dec naming ts) (with_suffixes rec dec)) (λ ts. and_then (core s rec' dec' naming ts) (with_suffixes rec' dec'))
     unfolding core
-    shape_local naming k b c u v (State.near Same.here lb lc) bn cm = shape_here naming b c (is_name t.kind) (is_mark p.LeftParen t.kind) refl (State.near Same.here lb lc) bn cm
+    shape_local naming k b c u v (State.near Same.here lb lc) bn cm = shape_here naming b c (is_name_token t.kind) (is_mark p.LeftParen t.kind) refl (State.near Same.here lb lc) bn cm
     shape_local naming k b c u v (State.near (Same.there x {u = u2} {v = v2} h) lb lc) bn cm =
         bind_local _ _ _ _ (core_local naming {u = x ∷ u2} {v = x ∷ v2} (State.near (Same.there x h) lb lc) (State.near h (omega arith) (omega arith)) bn cm) (λ d k u v g. suffixes_local d k b c u v g bn cm)
     shape_local naming k b c u v (State.past l lb) bn cm =
@@ -617,8 +617,8 @@ module _ (t : Lexeme) (left right : List Lexeme) where
 
     constant_local : Alike n m (constant s n) (constant s m)
     unfolding constant
-    constant_local k b c u v h bn cm = test_local (ap is_name (same_kind h)) (test_local (ap (is_type_name s) (same_spelling h)) (err_local h)
-        (rw (same_place h, same_spelling h) (behind_local (constant_value s n (place v) (spelling_at v)) (constant_value s m (place v) (spelling_at v)) (value_local (place v) (spelling_at v)) h (omega arith) (omega arith)))) (err_local h)
+    constant_local k b c u v h bn cm = test_local (ap is_name_token (same_kind h)) (test_local (ap (is_type_name s) (same_spelling h)) (err_local h)
+        (rw (same_place h, same_spelling h) (behind_local (constant_value s n (token_place v) (spelling_at v)) (constant_value s m (token_place v) (spelling_at v)) (value_local (token_place v) (spelling_at v)) h (omega arith) (omega arith)))) (err_local h)
 
     abbrev declarators : ℕ → ℕ → TypeNode × List Declaration → Parser (List Declaration)
     declarators n j q = declarators_from s n j q.0 q.1
@@ -627,7 +627,7 @@ module _ (t : Lexeme) (left right : List Lexeme) where
     unfolding declarators_from
     declarators_loop = loop_local n m (declarators n) (declarators m) (λ q k b c u v h. err_local h)
         (λ j i next q k b c u v h bn cm bj ci. bind_local _ _ _ _ (declaration_local nm.Member q.0 k b c u v h bn cm) (λ d k u v g. test_local (ap (is_mark p.Comma) (same_kind g))
-        (take_local (declarators_from s n j (bare q.0) (q.1 ++ d ∷ [])) (declarators_from s m i (bare q.0) (q.1 ++ d ∷ [])) g (λ k u v g. next (bare q.0, q.1 ++ d ∷ []) k (b - 1) (c - 1) u v g (omega arith) (omega arith) (omega arith) (omega arith)))
+        (take_local (declarators_from s n j (without_body q.0) (q.1 ++ d ∷ [])) (declarators_from s m i (without_body q.0) (q.1 ++ d ∷ [])) g (λ k u v g. next (without_body q.0, q.1 ++ d ∷ []) k (b - 1) (c - 1) u v g (omega arith) (omega arith) (omega arith) (omega arith)))
         (ok_local _ _ g refl)))
 
     declarators_local : (ty : TypeNode) → Alike n m (λ ts. declarators_from s n (length ts) ty [] ts) (λ ts. declarators_from s m (length ts) ty [] ts)
@@ -665,8 +665,8 @@ module _ (t : Lexeme) (left right : List Lexeme) where
 
       pub tag_or_body_local : (class : Specifier) (at : ℕ) → Alike n m (tag_or_body s n spec class at) (tag_or_body s m spec' class at)
       unfolding tag_or_body
-      tag_or_body_local class at k b c u v h bn cm = test_local (ap is_name (same_kind h))
-          (rw (same_place h, same_spelling h) (behind_local (behind_tag s n spec class (place v) (spelling_at v)) (behind_tag s m spec' class (place v) (spelling_at v)) (behind_tag_local class (place v) (spelling_at v)) h (omega arith) (omega arith)))
+      tag_or_body_local class at k b c u v h bn cm = test_local (ap is_name_token (same_kind h))
+          (rw (same_place h, same_spelling h) (behind_local (behind_tag s n spec class (token_place v) (spelling_at v)) (behind_tag s m spec' class (token_place v) (spelling_at v)) (behind_tag_local class (token_place v) (spelling_at v)) h (omega arith) (omega arith)))
           (braces_local class at None k b c u v h bn cm)
 
   pub specifier_of_local : (s : TypeNames) (n m : ℕ) → Alike n m (specifier s n) (specifier s m)

@@ -25,8 +25,8 @@ use Rattle.c_grammar.specs.declared.shapes.Declarator.{Declarator}
 use Rattle.c_grammar.specs.declared.shapes.DeclaredName.{DeclaredName}
 use Rattle.c_grammar.specs.declared.shapes.Naming.TheVariants as nm
 use Rattle.c_grammar.specs.Classes.{head_of, opening_of}
-use Rattle.c_grammar.specs.Tokens.{TypeNames, is_mark, is_word, kind_at, place}
-use Rattle.c_grammar.specs.Types.{bare, declaration_of}
+use Rattle.c_grammar.specs.Tokens.{TypeNames, is_mark, is_keyword, kind_at, token_place}
+use Rattle.c_grammar.specs.Types.{without_body, declaration_of}
 use Rattle.c_grammar.specs.Statements.{locals_of}
 use Rattle.c_grammar.specs.Units.{with_type}
 use Rattle.c_grammar.specs.Parser.{Parser, and_then, pure, expect}
@@ -81,7 +81,7 @@ module _ (t : Lexeme) (left right : List Lexeme) where
 
     label_local : Alike t left right n m (label s n) (label s m)
     unfolding label
-    label_local k b c u v h bn cm = rw (same_place t left right h) (test_local t left right (ap (is_word w.Case) (same_kind t left right h)) (behind_local t left right (case_label s n (place v)) (case_label s m (place v)) (case_local (place v)) h (omega arith) (omega arith))
+    label_local k b c u v h bn cm = rw (same_place t left right h) (test_local t left right (ap (is_keyword w.Case) (same_kind t left right h)) (behind_local t left right (case_label s n (token_place v)) (case_label s m (token_place v)) (case_local (token_place v)) h (omega arith) (omega arith))
         (bind_local t left right _ _ _ _ (expect_word_local t left right n m w.Default k b c u v h bn cm) (λ x k u v g. end_local t left right p.Colon _ _ g refl)))
 
     return_local : (at : ℕ) → Alike t left right n m (return s n at) (return s m at)
@@ -136,7 +136,7 @@ module _ (t : Lexeme) (left right : List Lexeme) where
 
       alternative_local : (x : Expr) (y : Stmt) → Alike t left right n2 m2 (alternative s n rec x y) (alternative s m rec' x y)
       unfolding alternative
-      alternative_local x y k b c u v h bn cm = test_local t left right (ap (is_word w.Else) (same_kind t left right h)) (bind_local t left right _ _ _ _ (behind_local t left right rec rec' rec_local h (omega arith) (omega arith)) (λ z k u v g. ok_local t left right _ _ g refl)) (ok_local t left right _ _ h refl)
+      alternative_local x y k b c u v h bn cm = test_local t left right (ap (is_keyword w.Else) (same_kind t left right h)) (bind_local t left right _ _ _ _ (behind_local t left right rec rec' rec_local h (omega arith) (omega arith)) (λ z k u v g. ok_local t left right _ _ g refl)) (ok_local t left right _ _ h refl)
 
       if_else_local : Alike t left right n2 m2 (if_else s n rec) (if_else s m rec')
       unfolding if_else
@@ -173,9 +173,9 @@ module _ (t : Lexeme) (left right : List Lexeme) where
       stmt_by_local ln lm hd.Do k b c u v h bn cm = behind_local t left right (do_while s n rec) (do_while s m rec') do_while_local h bn cm
       stmt_by_local ln lm hd.For k b c u v h bn cm = behind_local t left right (for s n rec) (for s m rec') for_local h bn cm
       stmt_by_local ln lm hd.Switch k b c u v h bn cm = behind_local t left right (switch s n rec) (switch s m rec') switch_local h bn cm
-      stmt_by_local ln lm hd.Break k b c u v h bn cm = rw (same_place t left right h) (behind_local t left right (λ ts. and_then (expect p.Semicolon ts) (λ _. pure (st.Break (place v)))) (λ ts. and_then (expect p.Semicolon ts) (λ _. pure (st.Break (place v)))) (last_local (st.Break (place v))) h bn cm)
-      stmt_by_local ln lm hd.Continue k b c u v h bn cm = rw (same_place t left right h) (behind_local t left right (λ ts. and_then (expect p.Semicolon ts) (λ _. pure (st.Continue (place v)))) (λ ts. and_then (expect p.Semicolon ts) (λ _. pure (st.Continue (place v)))) (last_local (st.Continue (place v))) h bn cm)
-      stmt_by_local ln lm hd.Return k b c u v h bn cm = rw (same_place t left right h) (behind_local t left right (return s n (place v)) (return s m (place v)) (return_local (place v)) h (omega arith) (omega arith))
+      stmt_by_local ln lm hd.Break k b c u v h bn cm = rw (same_place t left right h) (behind_local t left right (λ ts. and_then (expect p.Semicolon ts) (λ _. pure (st.Break (token_place v)))) (λ ts. and_then (expect p.Semicolon ts) (λ _. pure (st.Break (token_place v)))) (last_local (st.Break (token_place v))) h bn cm)
+      stmt_by_local ln lm hd.Continue k b c u v h bn cm = rw (same_place t left right h) (behind_local t left right (λ ts. and_then (expect p.Semicolon ts) (λ _. pure (st.Continue (token_place v)))) (λ ts. and_then (expect p.Semicolon ts) (λ _. pure (st.Continue (token_place v)))) (last_local (st.Continue (token_place v))) h bn cm)
+      stmt_by_local ln lm hd.Return k b c u v h bn cm = rw (same_place t left right h) (behind_local t left right (return s n (token_place v)) (return s m (token_place v)) (return_local (token_place v)) h (omega arith) (omega arith))
       stmt_by_local ln lm hd.Other k b c u v h bn cm = value_local k b c u v h (omega arith) (omega arith)
 
   stmt_local : (s : TypeNames) (n m : ℕ) → Alike t left right n m (stmt s n) (stmt s m)
@@ -197,7 +197,7 @@ module _ (t : Lexeme) (left right : List Lexeme) where
 
     init_by_local : Alike t left right (suc n2) (suc m2) (init_by s n rec) (init_by s m rec')
     unfolding init_value
-    init_by_local k b c u v h bn cm = test_local t left right (ap (is_mark p.LeftBrace) (same_kind t left right h)) (rw (same_place t left right h) (behind_local t left right (init_list s n rec (place v)) (init_list s m rec' (place v)) (init_list_local (place v)) h bn cm))
+    init_by_local k b c u v h bn cm = test_local t left right (ap (is_mark p.LeftBrace) (same_kind t left right h)) (rw (same_place t left right h) (behind_local t left right (init_list s n rec (token_place v)) (init_list s m rec' (token_place v)) (init_list_local (token_place v)) h bn cm))
         (bind_local t left right _ _ _ _ (expr_local t left right s n m 2 k b c u v h (omega arith) (omega arith)) (λ x k u v g. ok_local t left right _ _ g refl))
 
   init_local : (s : TypeNames) (n m : ℕ) → Alike t left right n m (init s n) (init s m)
@@ -217,8 +217,8 @@ module _ (t : Lexeme) (left right : List Lexeme) where
   unfolding typedefs_from
   typedefs_loop n m = loop_local t left right n m (typedefs_by n) (typedefs_by m) (λ q k b c u v h. err_local t left right h)
       (λ j i next q k b c u v h bn cm bj ci. bind_local t left right _ _ _ _ (declaration_local t left right q.0 n m nm.Required q.1 k b c u v h bn cm) (λ d k u v g. test_local t left right (ap (is_mark p.Comma) (same_kind t left right g))
-      (take_local t left right (typedefs_from (with_type q.0 d.name) n j (bare q.1) (q.2 ++ ex.Typedef d ∷ [])) (typedefs_from (with_type q.0 d.name) m i (bare q.1) (q.2 ++ ex.Typedef d ∷ [])) g
-      (λ k u v g. next (with_type q.0 d.name, bare q.1, q.2 ++ ex.Typedef d ∷ []) k (b - 1) (c - 1) u v g (omega arith) (omega arith) (omega arith) (omega arith))) (ok_local t left right _ _ g refl)))
+      (take_local t left right (typedefs_from (with_type q.0 d.name) n j (without_body q.1) (q.2 ++ ex.Typedef d ∷ [])) (typedefs_from (with_type q.0 d.name) m i (without_body q.1) (q.2 ++ ex.Typedef d ∷ [])) g
+      (λ k u v g. next (with_type q.0 d.name, without_body q.1, q.2 ++ ex.Typedef d ∷ []) k (b - 1) (c - 1) u v g (omega arith) (omega arith) (omega arith) (omega arith))) (ok_local t left right _ _ g refl)))
 
   module _ (s : TypeNames) (n m : ℕ) where
     typedefs_local : Alike t left right n m (typedefs s n) (typedefs s m)
@@ -243,13 +243,13 @@ module _ (t : Lexeme) (left right : List Lexeme) where
       objects_loop = loop_local t left right n m (objects n) (objects m) (λ q k b c u v h. err_local t left right h)
           (λ j i next q k b c u v h bn cm bj ci. bind_local t left right _ _ _ _ (declarator_local t left right s n m nm.Required k b c u v h bn cm) (λ d k u v g. bind_local t left right _ _ _ _ (object_named_local q.0 d.name d.shapes k b c u v g bn cm) (λ x k u v g.
           test_local t left right (ap (is_mark p.Comma) (same_kind t left right g))
-          (take_local t left right (objects_from s n storage j (bare q.0) (q.1 ++ x ∷ [])) (objects_from s m storage i (bare q.0) (q.1 ++ x ∷ [])) g (λ k u v g. next (bare q.0, q.1 ++ x ∷ []) k (b - 1) (c - 1) u v g (omega arith) (omega arith) (omega arith) (omega arith)))
+          (take_local t left right (objects_from s n storage j (without_body q.0) (q.1 ++ x ∷ [])) (objects_from s m storage i (without_body q.0) (q.1 ++ x ∷ [])) g (λ k u v g. next (without_body q.0, q.1 ++ x ∷ []) k (b - 1) (c - 1) u v g (omega arith) (omega arith) (omega arith) (omega arith)))
           (ok_local t left right _ _ g refl))))
 
       objects_behind_local : (ty : TypeNode) (w' : DeclaredName) (shapes : List Shape) → Alike t left right n m (objects_behind s n storage ty w' shapes) (objects_behind s m storage ty w' shapes)
       unfolding objects_behind
       objects_behind_local ty w' shapes k b c u v h bn cm = bind_local t left right _ _ _ _ (object_local ty w' shapes k b c u v h bn cm) (λ x k u v g. test_local t left right (ap (is_mark p.Comma) (same_kind t left right g))
-          (behind_local t left right (λ ts. objects n (length ts) (bare ty, x ∷ []) ts) (λ ts. objects m (length ts) (bare ty, x ∷ []) ts) (turns_local t left right n m (objects n) (objects m) objects_loop (bare ty, x ∷ [])) g (omega arith) (omega arith)) (ok_local t left right _ _ g refl))
+          (behind_local t left right (λ ts. objects n (length ts) (without_body ty, x ∷ []) ts) (λ ts. objects m (length ts) (without_body ty, x ∷ []) ts) (turns_local t left right n m (objects n) (objects m) objects_loop (without_body ty, x ∷ [])) g (omega arith) (omega arith)) (ok_local t left right _ _ g refl))
 
       body_behind_local : (d : Declaration) → Alike t left right n m (body_behind s n storage d) (body_behind s m storage d)
       unfolding body_behind

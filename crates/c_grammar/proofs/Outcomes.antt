@@ -9,7 +9,7 @@ use Rattle.c_lexer.specs.declared.token.TokenKind.TheVariants as k
 use Rattle.c_lexer.specs.declared.token.Keyword.{Keyword}
 use Rattle.c_lexer.specs.declared.token.Punct.{Punct}
 use Rattle.c_lexer.specs.Pieces.{Lexeme}
-use Rattle.c_grammar.specs.Tokens.{is_mark, is_word, is_name, is_text}
+use Rattle.c_grammar.specs.Tokens.{is_mark, is_keyword, is_name_token, is_text}
 use Rattle.c_grammar.specs.Parser.{ParseOutcome, Parser, and_then, expect, expect_word}
 
 IsErr : {A : Type 0} → ParseOutcome A → Type 0
@@ -53,14 +53,14 @@ mark_is m _ e = no_true e
 pub is_mark_of : (m : Punct) (kind : TokenKind) → kind ≡ k.Mark m → is_mark m kind ≡ true
 is_mark_of m kind e = ap (is_mark m) e ∙ true_same punct.the_type m m refl
 
-pub word_is : (w : Keyword) (kind : TokenKind) → is_word w kind ≡ true → kind ≡ k.Word w
+pub word_is : (w : Keyword) (kind : TokenKind) → is_keyword w kind ≡ true → kind ≡ k.Word w
 word_is w (k.Word v) e = ap k.Word (same_true keyword.the_type tt v w e)
 word_is w _ e = no_true e
 
-pub is_word_of : (w : Keyword) (kind : TokenKind) → kind ≡ k.Word w → is_word w kind ≡ true
-is_word_of w kind e = ap (is_word w) e ∙ true_same keyword.the_type w w refl
+pub is_word_of : (w : Keyword) (kind : TokenKind) → kind ≡ k.Word w → is_keyword w kind ≡ true
+is_word_of w kind e = ap (is_keyword w) e ∙ true_same keyword.the_type w w refl
 
-pub name_is : (kind : TokenKind) → is_name kind ≡ true → kind ≡ k.Name
+pub name_is : (kind : TokenKind) → is_name_token kind ≡ true → kind ≡ k.Name
 name_is k.Name e = refl
 name_is _ e = no_true e
 

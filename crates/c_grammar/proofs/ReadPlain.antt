@@ -11,7 +11,7 @@ use Rattle.c_grammar.specs.declared.classes.Specifier.TheVariants as c
 use Rattle.c_grammar.specs.declared.word_set.WordSet.{WordSet}
 use Rattle.c_grammar.specs.Classes.{specifier_of, begins_type_by}
 use Rattle.c_grammar.specs.WordSets.{no_words, basic_of}
-use Rattle.c_grammar.specs.Tokens.{TypeNames, is_type, is_word, kind_at, begins_type}
+use Rattle.c_grammar.specs.Tokens.{TypeNames, is_type, is_keyword, kind_at, begins_type}
 use Rattle.c_grammar.specs.Grammar.{AreConsts, AreTypeWords, IsPlain}
 use Rattle.c_grammar.specs.Parser.{Parser, consts}
 use Rattle.c_grammar.specs.ParseExpr.{start_of, word_or_end, words_from, named_type, tag_type, tag, specifier_behind, specifier_from, plain}
@@ -27,10 +27,10 @@ ends_by _ = false
 abbrev pub Stops : List Lexeme → Type 0
 Stops r = ends_by (specifier_of (kind_at r)) ≡ true
 
-pub no_const : (r : List Lexeme) → Stops r → is_word w.Const (kind_at r) ≡ false
-no_const r h = fails (is_word w.Const (kind_at r)) (λ e. no_true (ap (λ x. ends_by (specifier_of x)) (sym (word_is w.Const (kind_at r) e)) ∙ h))
+pub no_const : (r : List Lexeme) → Stops r → is_keyword w.Const (kind_at r) ≡ false
+no_const r h = fails (is_keyword w.Const (kind_at r)) (λ e. no_true (ap (λ x. ends_by (specifier_of x)) (sym (word_is w.Const (kind_at r) e)) ∙ h))
 
-pub consts_read : {a : List Lexeme} → AreConsts a → (j : ℕ) (r : List Lexeme) → length a ≤ j → is_word w.Const (kind_at r) ≡ false → consts j (a ++ r) ≡ Ok (tt, r)
+pub consts_read : {a : List Lexeme} → AreConsts a → (j : ℕ) (r : List Lexeme) → length a ≤ j → is_keyword w.Const (kind_at r) ≡ false → consts j (a ++ r) ≡ Ok (tt, r)
 unfolding consts
 consts_read AreConsts.none zero r le h = refl
 consts_read AreConsts.none (suc j) r le h = rw h refl
@@ -38,7 +38,7 @@ consts_read (AreConsts.more t a e g) zero r le h = absurd (omega arith)
 consts_read (AreConsts.more t a e g) (suc j) r le h = let q = is_word_of w.Const t.kind e in rw q (consts_read g j r (omega arith) h)
 
 -- all of the tokens are looked through for `const`
-pub consts_all : {a : List Lexeme} → AreConsts a → (r : List Lexeme) → is_word w.Const (kind_at r) ≡ false → consts (length (a ++ r)) (a ++ r) ≡ Ok (tt, r)
+pub consts_all : {a : List Lexeme} → AreConsts a → (r : List Lexeme) → is_keyword w.Const (kind_at r) ≡ false → consts (length (a ++ r)) (a ++ r) ≡ Ok (tt, r)
 consts_all {a} h r e = consts_read h (length (a ++ r)) r (omega (arith, length-append a r)) e
 
 no_some : {X : Type 0} {b : BasicType} → ◌≡◌ {A = Option BasicType} None (Some b) → X
@@ -91,7 +91,7 @@ module _ (s : TypeNames) (on : Specifier → ℕ → Parser TypeNode) where
       let l = lead no_words h j t (b ++ r) (subst (λ z. length z ≤ j) q le) in
       (l.0, ap (specifier_from s on j no_words) q ∙ l.1 ∙ ap (λ cl. turn s on l.0 no_words cl (t ∷ b ++ r)) kind)
 
-pub tag_read : (class : Specifier) (u : Lexeme) (b r : List Lexeme) → u.kind ≡ k.Name → AreConsts b → is_word w.Const (kind_at r) ≡ false → tag class (u ∷ b ++ r) ≡ Ok (tag_type class u.at u.spelling, r)
+pub tag_read : (class : Specifier) (u : Lexeme) (b r : List Lexeme) → u.kind ≡ k.Name → AreConsts b → is_keyword w.Const (kind_at r) ≡ false → tag class (u ∷ b ++ r) ≡ Ok (tag_type class u.at u.spelling, r)
 unfolding tag
 tag_read class u b r kind h next = let e = consts_all h r next in rw (kind, e) refl
 

@@ -16,7 +16,7 @@ use Rattle.c_grammar.specs.declared.shapes.Naming.{Naming}
 use Rattle.c_grammar.specs.Classes.{specifier_of, begins_type_by}
 use Rattle.c_grammar.specs.Levels.{binding_level}
 use Rattle.c_grammar.specs.WordSets.{no_words}
-use Rattle.c_grammar.specs.Tokens.{TypeNames, is_type, is_mark, is_name, kind_at, begins_type}
+use Rattle.c_grammar.specs.Tokens.{TypeNames, is_type, is_mark, is_name_token, kind_at, begins_type}
 use Rattle.c_grammar.specs.Types.{may_be_nameless}
 use Rattle.c_grammar.specs.Grammar.{AreConsts, IsPlain, IsDeclarator}
 use Rattle.c_grammar.specs.Specifiers.{IsTag, IsDeclared, AreDeclared, IsConstant, AreConstants, IsSpecifier, AreMembers, IsMember}
@@ -104,9 +104,9 @@ constant_name s (IsConstant.with_value t u a x kind listed uk h) = (omega arith,
 
 constant_read : (s : TypeNames) {a : List Lexeme} {x : Constant} → IsConstant s a x → (n : ℕ) (r : List Lexeme) → length (a ++ r) ≤ n → binding_level (infix_at r) < 2 → is_mark p.Assign (kind_at r) ≡ false → constant s n (a ++ r) ≡ Ok (x, r)
 unfolding constant
-constant_read s (IsConstant.plain t kind listed) n r len under other = let nk = ap is_name kind in rw (nk, listed, other) refl
+constant_read s (IsConstant.plain t kind listed) n r len under other = let nk = ap is_name_token kind in rw (nk, listed, other) refl
 constant_read s (IsConstant.with_value t u a x kind listed uk h) n r len under other =
-    let nk = ap is_name kind in
+    let nk = ap is_name_token kind in
     let v = is_mark_of p.Assign u.kind uk in
     let g = read_expr s (omega arith) h n r (omega arith) (omega arith) in
     rw (nk, listed, v, g) refl
@@ -185,7 +185,7 @@ module _ (s : TypeNames) where
   tag_alone n class at v b r kind h next =
       let e = consts_all h r (no_const r next.stops) in
       let o = consts_no_brace h r next.no_brace in
-      let nk = ap is_name kind in
+      let nk = ap is_name_token kind in
       rw (nk, o, e) refl
 
   plain_spec : {a : List Lexeme} {ty : TypeNode} → IsPlain s a ty → ReadsSpec s a ty
@@ -207,8 +207,8 @@ module _ (s : TypeNames) where
   tag_braces : (n : ℕ) (class : Specifier) (t : Lexeme) {b : List Lexeme} {at : ℕ} {name : Option (List ℕ)} → IsTag t b at name → (l : Lexeme) (r : List Lexeme) → l.kind ≡ k.Mark p.LeftBrace
       → tag_or_body s n (specifier s n) class t.at (b ++ l ∷ r) ≡ body s n (specifier s n) class at name r
   unfolding tag_or_body braces
-  tag_braces n class t IsTag.none l r lk = let nk = ap is_name lk in let o = expect_at l r p.LeftBrace lk in rw (nk, o) refl
-  tag_braces n class t (IsTag.some u uk) l r lk = let nk = ap is_name uk in let lb = is_mark_of p.LeftBrace l.kind lk in let o = expect_at l r p.LeftBrace lk in rw (nk, lb, o) refl
+  tag_braces n class t IsTag.none l r lk = let nk = ap is_name_token lk in let o = expect_at l r p.LeftBrace lk in rw (nk, o) refl
+  tag_braces n class t (IsTag.some u uk) l r lk = let nk = ap is_name_token uk in let lb = is_mark_of p.LeftBrace l.kind lk in let o = expect_at l r p.LeftBrace lk in rw (nk, lb, o) refl
 
   struct_body : (n at : ℕ) (name : Option (List ℕ)) (a : List Lexeme) (r : Lexeme) (b u : List Lexeme) (ds : List Declaration) → ReadsMembers s a ds → r.kind ≡ k.Mark p.RightBrace → AreConsts b → length (a ++ (r ∷ b ++ u)) < n → Follows u
       → body s n (specifier s n) c.Struct at name (a ++ (r ∷ b ++ u)) ≡ Ok (y.Struct at name (Some ds), u)

@@ -17,7 +17,7 @@ use Rattle.c_tree.specs.declared.statements.ForFirst.{ForFirst}
 use Rattle.c_grammar.specs.declared.classes.Head.TheVariants as h
 use Rattle.c_grammar.specs.Classes.{infix_of, prefix_of, specifier_of, head_of, begins_type_by}
 use Rattle.c_grammar.specs.Levels.{binding_level}
-use Rattle.c_grammar.specs.Tokens.{TypeNames, is_mark, is_word, kind_at, is_type_at, begins_type}
+use Rattle.c_grammar.specs.Tokens.{TypeNames, is_mark, is_keyword, kind_at, is_type_at, begins_type}
 use Rattle.c_grammar.specs.model.Begins.{begins, begins_by}
 use Rattle.c_grammar.specs.Grammar.{IsWhole}
 use Rattle.c_grammar.specs.Statements.{IsLocalDeclarator, AreLocals, IsLine, IsOptional, IsFirst, IsLabel, IsStmt}
@@ -33,13 +33,13 @@ use Rattle.c_grammar.proofs.ReadSpecifiers.{Fronts, declared_fronts, wider, mark
 
 -- ---- words that do not stand here
 
-not_word : (v : Keyword) (kind : TokenKind) → (kind ≡ k.Word v → ⊥) → is_word v kind ≡ false
-not_word v kind f = fails (is_word v kind) (λ e. f (word_is v kind e))
+not_word : (v : Keyword) (kind : TokenKind) → (kind ≡ k.Word v → ⊥) → is_keyword v kind ≡ false
+not_word v kind f = fails (is_keyword v kind) (λ e. f (word_is v kind e))
 
-begins_no_word : (s : TypeNames) (ts : List Lexeme) (v : Keyword) → begins_by (prefix_of (k.Word v)) (is_type_at s ts) ≡ false → begins s ts ≡ true → is_word v (kind_at ts) ≡ false
+begins_no_word : (s : TypeNames) (ts : List Lexeme) (v : Keyword) → begins_by (prefix_of (k.Word v)) (is_type_at s ts) ≡ false → begins s ts ≡ true → is_keyword v (kind_at ts) ≡ false
 begins_no_word s ts v h e = not_word v (kind_at ts) (λ q. no_true (sym h ∙ ap (λ kd. begins_by (prefix_of kd) (is_type_at s ts)) (sym q) ∙ e))
 
-pub type_no_word : (s : TypeNames) (ts : List Lexeme) (v : Keyword) → begins_type_by (specifier_of (k.Word v)) (is_type_at s ts) ≡ false → begins_type s ts ≡ true → is_word v (kind_at ts) ≡ false
+pub type_no_word : (s : TypeNames) (ts : List Lexeme) (v : Keyword) → begins_type_by (specifier_of (k.Word v)) (is_type_at s ts) ≡ false → begins_type s ts ≡ true → is_keyword v (kind_at ts) ≡ false
 type_no_word s ts v h e = not_word v (kind_at ts) (λ q. no_true (sym h ∙ ap (λ kd. begins_type_by (specifier_of kd) (is_type_at s ts)) (sym q) ∙ e))
 
 pub other_head : (kind : TokenKind) (listed : Bool) → begins_by (prefix_of kind) listed ≡ true → head_of kind ≡ h.Other
@@ -58,9 +58,9 @@ other_head k.End listed e = no_true e
 pub record Front (s : TypeNames) (ts : List Lexeme) : Type 0 where
   pub no_brace : is_mark p.RightBrace (kind_at ts) ≡ false
   pub no_type : begins_type s ts ≡ false
-  pub no_else : is_word w.Else (kind_at ts) ≡ false
-  pub no_case : is_word w.Case (kind_at ts) ≡ false
-  pub no_default : is_word w.Default (kind_at ts) ≡ false
+  pub no_else : is_keyword w.Else (kind_at ts) ≡ false
+  pub no_case : is_keyword w.Case (kind_at ts) ≡ false
+  pub no_default : is_keyword w.Default (kind_at ts) ≡ false
 
 value_front : (s : TypeNames) (ts : List Lexeme) → begins s ts ≡ true → Front s ts
 value_front s ts e = record {
@@ -75,9 +75,9 @@ value_front s ts e = record {
 pub record FrontKind (kind : TokenKind) : Type 0 where
   pub brace : is_mark p.RightBrace kind ≡ false
   pub type : (listed : Bool) → begins_type_by (specifier_of kind) listed ≡ false
-  pub else : is_word w.Else kind ≡ false
-  pub case : is_word w.Case kind ≡ false
-  pub default : is_word w.Default kind ≡ false
+  pub else : is_keyword w.Else kind ≡ false
+  pub case : is_keyword w.Case kind ≡ false
+  pub default : is_keyword w.Default kind ≡ false
 
 kind_front : (s : TypeNames) (t : Lexeme) (r : List Lexeme) (kind : TokenKind) → t.kind ≡ kind → FrontKind kind → Front s (t ∷ r)
 kind_front s t r kind e g =
@@ -90,7 +90,7 @@ StartsStmt s a = (0 < length a) × ((r : List Lexeme) → Front s (a ++ r))
 word_starts : (s : TypeNames) (t : Lexeme) (a : List Lexeme) (kind : TokenKind) → t.kind ≡ kind → FrontKind kind → StartsStmt s (t ∷ a)
 word_starts s t a kind e g = (omega arith, λ r. kind_front s t (a ++ r) kind e g)
 
-plain_kind : (kind : TokenKind) → is_mark p.RightBrace kind ≡ false → ((listed : Bool) → begins_type_by (specifier_of kind) listed ≡ false) → is_word w.Else kind ≡ false → is_word w.Case kind ≡ false → is_word w.Default kind ≡ false → FrontKind kind
+plain_kind : (kind : TokenKind) → is_mark p.RightBrace kind ≡ false → ((listed : Bool) → begins_type_by (specifier_of kind) listed ≡ false) → is_keyword w.Else kind ≡ false → is_keyword w.Case kind ≡ false → is_keyword w.Default kind ≡ false → FrontKind kind
 plain_kind kind a b c d e = record { brace = a; type = b; else = c; case = d; default = e }
 
 pub stmt_starts : (s : TypeNames) {m : ℕ} {a : List Lexeme} {v : Stmt} → IsStmt s m a v → StartsStmt s a
@@ -206,11 +206,11 @@ module _ (s : TypeNames) where
       let d = expect_at r z p.Colon rk in
       rw (o, q, e, d) refl
   label_read (IsLabel.«default» t r kind rk) n z len =
-      let o = ap (is_word w.Case) kind in
+      let o = ap (is_keyword w.Case) kind in
       let e = expect_word_at t (r ∷ z) w.Default kind in
       let d = expect_at r z p.Colon rk in
       rw (o, e, d) refl
 
-  pub label_word : {a : List Lexeme} {v : Label} → IsLabel s a v → (0 < length a) × ((r : List Lexeme) → (is_mark p.RightBrace (kind_at (a ++ r)) ≡ false) × (ends_section (a ++ r) ≡ true) × (is_word w.Else (kind_at (a ++ r)) ≡ false))
-  label_word (IsLabel.«case» t a r v kind h rk) = (omega arith, λ z. (ap (is_mark p.RightBrace) kind, ap (λ kd. is_mark p.RightBrace kd || (is_word w.Case kd || is_word w.Default kd)) kind, ap (is_word w.Else) kind))
-  label_word (IsLabel.«default» t r kind rk) = (omega arith, λ z. (ap (is_mark p.RightBrace) kind, ap (λ kd. is_mark p.RightBrace kd || (is_word w.Case kd || is_word w.Default kd)) kind, ap (is_word w.Else) kind))
+  pub label_word : {a : List Lexeme} {v : Label} → IsLabel s a v → (0 < length a) × ((r : List Lexeme) → (is_mark p.RightBrace (kind_at (a ++ r)) ≡ false) × (ends_section (a ++ r) ≡ true) × (is_keyword w.Else (kind_at (a ++ r)) ≡ false))
+  label_word (IsLabel.«case» t a r v kind h rk) = (omega arith, λ z. (ap (is_mark p.RightBrace) kind, ap (λ kd. is_mark p.RightBrace kd || (is_keyword w.Case kd || is_keyword w.Default kd)) kind, ap (is_keyword w.Else) kind))
+  label_word (IsLabel.«default» t r kind rk) = (omega arith, λ z. (ap (is_mark p.RightBrace) kind, ap (λ kd. is_mark p.RightBrace kd || (is_keyword w.Case kd || is_keyword w.Default kd)) kind, ap (is_keyword w.Else) kind))

@@ -12,7 +12,7 @@ use Rattle.c_grammar.specs.declared.shapes.Shape.TheVariants as sh
 use Rattle.c_grammar.specs.declared.shapes.Declarator.{Declarator}
 use Rattle.c_grammar.specs.declared.shapes.Naming.{Naming}
 use Rattle.c_grammar.specs.declared.shapes.Naming.TheVariants as nm
-use Rattle.c_grammar.specs.Tokens.{TypeNames, is_type, place, is_mark, is_name, kind_at, behind}
+use Rattle.c_grammar.specs.Tokens.{TypeNames, is_type, token_place, is_mark, is_name_token, kind_at, token_tail}
 use Rattle.c_grammar.specs.Types.{takes_name, may_be_nameless, nameless, with_shape, with_shapes, parameter_of, without_void}
 use Rattle.c_grammar.specs.Grammar.{AreConsts, IsPlain}
 use Rattle.c_grammar.specs.Parser.{ParseOutcome, and_then}
@@ -27,8 +27,8 @@ use Rattle.c_grammar.proofs.RulesExpr.{EndsKind, ReadsType, paren_ends, list_las
 -- what may stand behind a missing name
 pub record Opens (r : List Lexeme) : Type 0 where
   pub no_star : is_mark p.Star (kind_at r) ≡ false
-  pub no_name : is_name (kind_at r) ≡ false
-  pub no_group : is_mark p.LeftParen (kind_at r) ≡ true → is_mark p.Star (kind_at (behind r)) ≡ false
+  pub no_name : is_name_token (kind_at r) ≡ false
+  pub no_group : is_mark p.LeftParen (kind_at r) ≡ true → is_mark p.Star (kind_at (token_tail r)) ≡ false
 
 pub record ReachedD (s : TypeNames) (n : ℕ) (naming : Naming) (ts r : List Lexeme) (d : Declarator) : Type 0 where
   pub turns : ℕ
@@ -57,10 +57,10 @@ ends_open : (r : List Lexeme) → EndsKind (kind_at r) → Opens r
 ends_open r h = record { no_star = h.no_star; no_name = h.no_name; no_group = λ e. no_true (sym h.no_paren ∙ e) }
 
 bracket_opens : (l : Lexeme) (r : List Lexeme) → l.kind ≡ k.Mark p.LeftBracket → Opens (l ∷ r)
-bracket_opens l r e = record { no_star = ap (is_mark p.Star) e; no_name = ap is_name e; no_group = λ q. no_true (sym (ap (is_mark p.LeftParen) e) ∙ q) }
+bracket_opens l r e = record { no_star = ap (is_mark p.Star) e; no_name = ap is_name_token e; no_group = λ q. no_true (sym (ap (is_mark p.LeftParen) e) ∙ q) }
 
 paren_opens : (l : Lexeme) (r : List Lexeme) → l.kind ≡ k.Mark p.LeftParen → is_mark p.Star (kind_at r) ≡ false → Opens (l ∷ r)
-paren_opens l r e h = record { no_star = ap (is_mark p.Star) e; no_name = ap is_name e; no_group = λ q. h }
+paren_opens l r e h = record { no_star = ap (is_mark p.Star) e; no_name = ap is_name_token e; no_group = λ q. h }
 
 type_name_of : ℕ → TypeNode → List Lexeme → ParseOutcome TypeName
 type_name_of at ty r = Ok (record { at = at; ty = ty }, r)
@@ -98,7 +98,7 @@ module _ (s : TypeNames) where
     enough = omega arith;
     gives =
         let no = ap (is_mark p.Star) kind in
-        let yes = ap is_name kind in
+        let yes = ap is_name_token kind in
         rw (no, yes, takes) refl;
   }
 
@@ -130,7 +130,7 @@ module _ (s : TypeNames) where
     gives =
         let q = append_assoc a (r ∷ []) u in
         let no = ap (is_mark p.Star) lk in
-        let nn = ap is_name lk in
+        let nn = ap is_name_token lk in
         let lp = is_mark_of p.LeftParen l.kind lk in
         let star = is_mark_of p.Star t.kind tk in
         let g = starred_read naming n t (a ++ r ∷ u) (r ∷ u) d tk (h (suc n) (r ∷ u) (subst (λ z. length (t ∷ z) < suc n) q (omega arith)) (paren_ends r.kind rk)) in
@@ -218,7 +218,7 @@ module _ (s : TypeNames) where
       ap (list_from (parameter s (expr s n) (declarator s n)) (suc j) found) q ∙ list_more (parameter s (expr s n) (declarator s n)) j found (a ++ (t ∷ b ++ r)) t (b ++ r) x o kind
       ∙ g n j (found ++ x ∷ []) r (omega arith) (omega arith) ends nc ∙ ap (λ z. Ok (z, r)) (append_assoc found (x ∷ []) xs)
 
-  pub parameter_rule : (a b : List Lexeme) (ty : TypeNode) (d : Declarator) → IsPlain s a ty → ((r : List Lexeme) → Stops r → Stops (b ++ r)) → ReadsD s nm.Optional b d → ReadsP s (a ++ b) (parameter_of (place a) ty d)
+  pub parameter_rule : (a b : List Lexeme) (ty : TypeNode) (d : Declarator) → IsPlain s a ty → ((r : List Lexeme) → Stops r → Stops (b ++ r)) → ReadsD s nm.Optional b d → ReadsP s (a ++ b) (parameter_of (token_place a) ty d)
   unfolding parameter
   parameter_rule a b ty d h stops g n r len ends =
       let q = append_assoc a b r in
@@ -228,7 +228,7 @@ module _ (s : TypeNames) where
       let c = g n r (omega (arith, length-append a (b ++ r))) ends in
       rw (q, o, c) (ap (λ at. Ok (parameter_of at ty d, r)) (place-append a (b ++ r) some))
 
-  pub type_rule : (a b : List Lexeme) (ty : TypeNode) (d : Declarator) → IsPlain s a ty → ((r : List Lexeme) → Stops r → Stops (b ++ r)) → ReadsD s nm.Refused b d → ReadsType s (a ++ b) (record { at = place a; ty = with_shapes d.shapes ty })
+  pub type_rule : (a b : List Lexeme) (ty : TypeNode) (d : Declarator) → IsPlain s a ty → ((r : List Lexeme) → Stops r → Stops (b ++ r)) → ReadsD s nm.Refused b d → ReadsType s (a ++ b) (record { at = token_place a; ty = with_shapes d.shapes ty })
   unfolding type_name type_name_of
   type_rule a b ty d h stops g n r len ends =
       let q = append_assoc a b r in

@@ -16,7 +16,7 @@ use Rattle.c_grammar.specs.declared.classes.Infix.TheVariants as i
 use Rattle.c_grammar.specs.declared.classes.Prefix.TheVariants as f
 use Rattle.c_grammar.specs.Classes.{infix_of, prefix_of, specifier_of}
 use Rattle.c_grammar.specs.Levels.{level_of, binding_level}
-use Rattle.c_grammar.specs.Tokens.{TypeNames, is_type, place, is_mark, is_name, is_text, kind_at, behind}
+use Rattle.c_grammar.specs.Tokens.{TypeNames, is_type, token_place, is_mark, is_name_token, is_text, kind_at, token_tail}
 use Rattle.c_grammar.specs.Types.{comma_of}
 use Rattle.c_grammar.specs.Grammar.{AreTexts}
 use Rattle.c_grammar.specs.Parser.{Parser}
@@ -38,7 +38,7 @@ pub record EndsKind (kind : TokenKind) : Type 0 where
   pub no_star : is_mark p.Star kind ≡ false
   pub no_paren : is_mark p.LeftParen kind ≡ false
   pub no_bracket : is_mark p.LeftBracket kind ≡ false
-  pub no_name : is_name kind ≡ false
+  pub no_name : is_name_token kind ≡ false
   pub stops : ends_by (specifier_of kind) ≡ true
 
 abbrev pub ReadsType : TypeNames → List Lexeme → TypeName → Type 0
@@ -98,11 +98,11 @@ module _ (s : TypeNames) where
   unfolding operand
   character_rule m t low kind = start s m 19 (t ∷ []) (e.Character t.at t.spelling) low (omega arith) (λ n least r len under next. ap (λ kd. operand_by s (expr s n) (declarator s n) least (prefix_of kd) (t ∷ r)) kind)
 
-  pub texts_rule : (m : ℕ) (a : List Lexeme) (xs : List (List ℕ)) → m ≤ 19 → AreTexts a xs → Reaches s m a (e.Text (place a) xs)
+  pub texts_rule : (m : ℕ) (a : List Lexeme) (xs : List (List ℕ)) → m ≤ 19 → AreTexts a xs → Reaches s m a (e.Text (token_place a) xs)
   unfolding operand
   texts_rule m a xs low h =
       let g = texts_first s h in
-      start s m 19 a (e.Text (place a) xs) low g.0 (λ n least r len under next.
+      start s m 19 a (e.Text (token_place a) xs) low g.0 (λ n least r len under next.
       let q = texts_read s h (length (a ++ r)) [] r (omega arith) (no_tight (kind_at r) (omega arith)).1 in
       ap (λ kd. operand_by s (expr s n) (declarator s n) least (prefix_of kd) (a ++ r)) (g.1 r) ∙ rw q (ap (λ at. Ok ((e.Text at xs, 19), r)) (place-append a r g.0)))
 
@@ -146,7 +146,7 @@ module _ (s : TypeNames) where
   size_rule m t a x low kind c h = start s m 17 (t ∷ a) (e.SizeOfValue t.at x) low (omega arith) (λ n least r len under next.
       let g = h n r (omega arith) (let l = gap (infix_at r) (omega arith) in omega arith) in
       ap (λ kd. operand_by s (expr s n) (declarator s n) least (prefix_of kd) (t ∷ a ++ r)) kind
-      ∙ either (is_mark p.LeftParen (kind_at (a ++ r))) _ (size_of_value s (expr s n) (declarator s n) t.at (a ++ r)) (λ yes. ap (λ b. cond b (size_of_type s (expr s n) (declarator s n) t.at (behind (a ++ r))) (size_of_value s (expr s n) (declarator s n) t.at (a ++ r))) (c r yes))
+      ∙ either (is_mark p.LeftParen (kind_at (a ++ r))) _ (size_of_value s (expr s n) (declarator s n) t.at (a ++ r)) (λ yes. ap (λ b. cond b (size_of_type s (expr s n) (declarator s n) t.at (token_tail (a ++ r))) (size_of_value s (expr s n) (declarator s n) t.at (a ++ r))) (c r yes))
       ∙ rw g refl)
 
   pub size_type_rule : (m : ℕ) (t l : Lexeme) (a : List Lexeme) (r : Lexeme) (ty : TypeName) → m ≤ 17 → t.kind ≡ k.Word w.Sizeof → l.kind ≡ k.Mark p.LeftParen → BeginsType s a → ReadsType s a ty → r.kind ≡ k.Mark p.RightParen
@@ -180,38 +180,38 @@ module _ (s : TypeNames) where
       ap (λ kd. operand_by s (expr s n) (declarator s n) least (prefix_of kd) ((t ∷ l ∷ a ++ r ∷ []) ++ u)) kind ∙ rw (listed, v, q, o, g, d) refl)
 
   pub index_rule : (m : ℕ) (a : List Lexeme) (l : Lexeme) (b : List Lexeme) (r : Lexeme) (x z : Expr) → m ≤ 18 → 0 < length a → Reaches s 18 a x → l.kind ≡ k.Mark p.LeftBracket
-      → ReadsWhole s b z → r.kind ≡ k.Mark p.RightBracket → Reaches s m (a ++ (l ∷ b ++ r ∷ [])) (e.Index (place a) x z)
+      → ReadsWhole s b z → r.kind ≡ k.Mark p.RightBracket → Reaches s m (a ++ (l ∷ b ++ r ∷ [])) (e.Index (token_place a) x z)
   index_rule m a l b r x z low some h lk g rk =
-      advance_by s m 18 i.Index l a (b ++ r ∷ []) x (e.Index (place a) x z) (ap infix_of lk) (record { low = low; under = omega arith; high = omega arith; demand = omega arith }) some h (λ n u len next.
+      advance_by s m 18 i.Index l a (b ++ r ∷ []) x (e.Index (token_place a) x z) (ap infix_of lk) (record { low = low; under = omega arith; high = omega arith; demand = omega arith }) some h (λ n u len next.
       let q = append_assoc b (r ∷ []) u in
       let o = g n (r ∷ u) (subst (λ c. length c ≤ n) q len) (weak r u p.RightBracket 1 rk (omega arith)) in
       let d = expect_at r u p.RightBracket rk in
       rw (q, o, d) refl)
 
-  pub field_rule : (m : ℕ) (a : List Lexeme) (t n : Lexeme) (x : Expr) → m ≤ 18 → 0 < length a → Reaches s 18 a x → t.kind ≡ k.Mark p.Dot → n.kind ≡ k.Name → Reaches s m (a ++ t ∷ n ∷ []) (e.Field (place a) x n.spelling)
+  pub field_rule : (m : ℕ) (a : List Lexeme) (t n : Lexeme) (x : Expr) → m ≤ 18 → 0 < length a → Reaches s 18 a x → t.kind ≡ k.Mark p.Dot → n.kind ≡ k.Name → Reaches s m (a ++ t ∷ n ∷ []) (e.Field (token_place a) x n.spelling)
   unfolding member
   field_rule m a t n x low some h tk nk =
-      advance_by s m 18 i.Field t a (n ∷ []) x (e.Field (place a) x n.spelling) (ap infix_of tk) (record { low = low; under = omega arith; high = omega arith; demand = omega arith }) some h (λ d u len next. rw nk refl)
+      advance_by s m 18 i.Field t a (n ∷ []) x (e.Field (token_place a) x n.spelling) (ap infix_of tk) (record { low = low; under = omega arith; high = omega arith; demand = omega arith }) some h (λ d u len next. rw nk refl)
 
-  pub arrow_rule : (m : ℕ) (a : List Lexeme) (t n : Lexeme) (x : Expr) → m ≤ 18 → 0 < length a → Reaches s 18 a x → t.kind ≡ k.Mark p.Arrow → n.kind ≡ k.Name → Reaches s m (a ++ t ∷ n ∷ []) (e.Arrow (place a) x n.spelling)
+  pub arrow_rule : (m : ℕ) (a : List Lexeme) (t n : Lexeme) (x : Expr) → m ≤ 18 → 0 < length a → Reaches s 18 a x → t.kind ≡ k.Mark p.Arrow → n.kind ≡ k.Name → Reaches s m (a ++ t ∷ n ∷ []) (e.Arrow (token_place a) x n.spelling)
   unfolding member
   arrow_rule m a t n x low some h tk nk =
-      advance_by s m 18 i.Arrow t a (n ∷ []) x (e.Arrow (place a) x n.spelling) (ap infix_of tk) (record { low = low; under = omega arith; high = omega arith; demand = omega arith }) some h (λ d u len next. rw nk refl)
+      advance_by s m 18 i.Arrow t a (n ∷ []) x (e.Arrow (token_place a) x n.spelling) (ap infix_of tk) (record { low = low; under = omega arith; high = omega arith; demand = omega arith }) some h (λ d u len next. rw nk refl)
 
-  pub after_rule : (m : ℕ) (a : List Lexeme) (t : Lexeme) (op : StepOp) (x : Expr) → m ≤ 18 → 0 < length a → Reaches s 18 a x → infix_of t.kind ≡ i.Step op → Reaches s m (a ++ t ∷ []) (e.Postfix (place a) op x)
+  pub after_rule : (m : ℕ) (a : List Lexeme) (t : Lexeme) (op : StepOp) (x : Expr) → m ≤ 18 → 0 < length a → Reaches s 18 a x → infix_of t.kind ≡ i.Step op → Reaches s m (a ++ t ∷ []) (e.Postfix (token_place a) op x)
   after_rule m a t op x low some h kind =
-      advance_by s m 18 (i.Step op) t a [] x (e.Postfix (place a) op x) kind (record { low = low; under = omega arith; high = omega arith; demand = omega arith }) some h (λ n u len next. refl)
+      advance_by s m 18 (i.Step op) t a [] x (e.Postfix (token_place a) op x) kind (record { low = low; under = omega arith; high = omega arith; demand = omega arith }) some h (λ n u len next. refl)
 
   pub binary_rule : (m : ℕ) (a : List Lexeme) (t : Lexeme) (b : List Lexeme) (op : BinaryOp) (x z : Expr) → m ≤ level_of op → infix_of t.kind ≡ i.Binary op → 0 < length a
-      → Reaches s (level_of op) a x → Reads s (suc (level_of op)) b z → Reaches s m (a ++ t ∷ b) (e.Binary (place a) op x z)
+      → Reaches s (level_of op) a x → Reads s (suc (level_of op)) b z → Reaches s m (a ++ t ∷ b) (e.Binary (token_place a) op x z)
   binary_rule m a t b op x z low kind some h g =
-      advance_by s m (level_of op) (i.Binary op) t a b x (e.Binary (place a) op x z) kind (record { low = low; under = omega arith; high = omega arith; demand = omega arith }) some h (λ n u len next.
+      advance_by s m (level_of op) (i.Binary op) t a b x (e.Binary (token_place a) op x z) kind (record { low = low; under = omega arith; high = omega arith; demand = omega arith }) some h (λ n u len next.
       let o = g n u len (omega arith) in rw o refl)
 
   pub choose_rule : (m : ℕ) (a : List Lexeme) (t : Lexeme) (b : List Lexeme) (r : Lexeme) (d : List Lexeme) (x v z : Expr) → m ≤ 4 → 0 < length a → Reaches s 6 a x → t.kind ≡ k.Mark p.Question → ReadsWhole s b v → r.kind ≡ k.Mark p.Colon
-      → Reads s 4 d z → Reaches s m (a ++ (t ∷ b ++ r ∷ d)) (e.Conditional (place a) x v z)
+      → Reads s 4 d z → Reaches s m (a ++ (t ∷ b ++ r ∷ d)) (e.Conditional (token_place a) x v z)
   choose_rule m a t b r d x v z low some h tk g rk o =
-      advance_by s m 6 i.Conditional t a (b ++ r ∷ d) x (e.Conditional (place a) x v z) (ap infix_of tk) (record { low = low; under = omega arith; high = omega arith; demand = omega arith }) some h (λ n u len next.
+      advance_by s m 6 i.Conditional t a (b ++ r ∷ d) x (e.Conditional (token_place a) x v z) (ap infix_of tk) (record { low = low; under = omega arith; high = omega arith; demand = omega arith }) some h (λ n u len next.
       let q = append_assoc b (r ∷ d) u in
       let all : length (b ++ (r ∷ d ++ u)) ≤ n = subst (λ c. length c ≤ n) q len in
       let c = g n (r ∷ d ++ u) all (weak r (d ++ u) p.Colon 1 rk (omega arith)) in
@@ -220,9 +220,9 @@ module _ (s : TypeNames) where
       rw (q, c, y, j) refl)
 
   pub assign_rule : (m : ℕ) (a : List Lexeme) (t : Lexeme) (b : List Lexeme) (op : AssignOp) (x z : Expr) → m ≤ 2 → 0 < length a → Reaches s 17 a x → infix_of t.kind ≡ i.Assign op → Reads s 2 b z
-      → Reaches s m (a ++ t ∷ b) (e.Assign (place a) op x z)
+      → Reaches s m (a ++ t ∷ b) (e.Assign (token_place a) op x z)
   assign_rule m a t b op x z low some h kind g =
-      advance_by s m 17 (i.Assign op) t a b x (e.Assign (place a) op x z) kind (record { low = low; under = omega arith; high = omega arith; demand = omega arith }) some h (λ n u len next.
+      advance_by s m 17 (i.Assign op) t a b x (e.Assign (token_place a) op x z) kind (record { low = low; under = omega arith; high = omega arith; demand = omega arith }) some h (λ n u len next.
       let o = g n u len (no_two (infix_at u) (omega arith)) in rw o refl)
 
   pub one_rule : (a : List Lexeme) (x : Expr) → 0 < length a → Reads s 2 a x → ReadsListed s a (x ∷ [])
@@ -240,7 +240,7 @@ module _ (s : TypeNames) where
       ap (list_from (expr s n 2) (suc j) found) q ∙ list_more (expr s n 2) j found (a ++ (t ∷ b ++ r)) t (b ++ r) x o kind ∙ g n j (found ++ x ∷ []) r (omega arith) (omega arith) next
       ∙ ap (λ z. Ok (z, r)) (append_assoc found (x ∷ []) xs)
 
-  pub whole_rule : (a : List Lexeme) (xs : List Expr) → 0 < length a → ReadsListed s a xs → ReadsWhole s a (comma_of (place a) xs)
+  pub whole_rule : (a : List Lexeme) (xs : List Expr) → 0 < length a → ReadsListed s a xs → ReadsWhole s a (comma_of (token_place a) xs)
   unfolding whole
   whole_rule a xs some h n r len next =
       let g = h n (length (a ++ r)) [] r len (omega arith) next in

@@ -13,7 +13,7 @@ use Rattle.c_tree.specs.declared.statements.Section.{Section}
 use Rattle.c_tree.specs.declared.statements.Label.{Label}
 use Rattle.c_tree.specs.declared.statements.ForFirst.{ForFirst}
 use Rattle.c_grammar.specs.Classes.{head_of}
-use Rattle.c_grammar.specs.Tokens.{TypeNames, is_mark, is_word, kind_at, is_type_at}
+use Rattle.c_grammar.specs.Tokens.{TypeNames, is_mark, is_keyword, kind_at, is_type_at}
 use Rattle.c_grammar.specs.Grammar.{IsWhole}
 use Rattle.c_grammar.specs.Statements.{IsLine, IsOptional, IsFirst, IsLabel, locals_of, IsStmt, AreItems, AreSections, AreStmts}
 use Rattle.c_grammar.specs.ParseStatements.{items_from, ends_section, stmts_from, section, sections_from, alternative, if_else, while, do_while, for, switch, return, value, stmt_by, stmt}
@@ -25,7 +25,7 @@ use Rattle.c_grammar.proofs.ReadStatements.{Front, StartsStmt, stmt_starts, othe
 
 -- at level 0 no `else` follows
 abbrev pub NoElse : ℕ → List Lexeme → Type 0
-NoElse m r = m ≤ 0 → is_word w.Else (kind_at r) ≡ false
+NoElse m r = m ≤ 0 → is_keyword w.Else (kind_at r) ≡ false
 
 abbrev pub ReadsStmt : TypeNames → ℕ → List Lexeme → Stmt → Type 0
 ReadsStmt s m a v = (n : ℕ) (r : List Lexeme) → length (a ++ r) ≤ n → NoElse m r → stmt s n (a ++ r) ≡ Ok (v, r)
@@ -40,7 +40,7 @@ ReadsSections s a vs = (d n j : ℕ) (found : List Section) (r : Lexeme) (u : Li
 
 -- the statements under a label, up to the next label or the brace
 abbrev ReadsStmts : TypeNames → List Lexeme → List Stmt → Type 0
-ReadsStmts s a vs = (d n j : ℕ) (found : List Stmt) (r : List Lexeme) → length (a ++ r) ≤ n → length (a ++ r) ≤ j → ends_section r ≡ true → is_word w.Else (kind_at r) ≡ false
+ReadsStmts s a vs = (d n j : ℕ) (found : List Stmt) (r : List Lexeme) → length (a ++ r) ≤ n → length (a ++ r) ≤ j → ends_section r ≡ true → is_keyword w.Else (kind_at r) ≡ false
     → stmts_from s d (stmt s n) j found (a ++ r) ≡ Ok (found ++ vs, r)
 
 module _ (s : TypeNames) where
@@ -115,7 +115,7 @@ module _ (s : TypeNames) where
       let q : (a ++ (o ∷ l ∷ b ++ r ∷ e ∷ [])) ++ y ≡ a ++ (o ∷ l ∷ (b ++ (r ∷ e ∷ y))) = append_assoc a (o ∷ l ∷ b ++ r ∷ e ∷ []) y ∙ ap (λ z. a ++ (o ∷ l ∷ z)) (append_assoc b (r ∷ e ∷ []) y) in
       let all : length (a ++ (o ∷ l ∷ (b ++ (r ∷ e ∷ y)))) ≤ n = subst (λ z. length z ≤ n) q (omega arith) in
       let sizes = length-append a (o ∷ l ∷ (b ++ (r ∷ e ∷ y))) in
-      let d = h n (o ∷ l ∷ (b ++ (r ∷ e ∷ y))) all (λ le. ap (is_word w.Else) ok) in
+      let d = h n (o ∷ l ∷ (b ++ (r ∷ e ∷ y))) all (λ le. ap (is_keyword w.Else) ok) in
       let i = expect_word_at o (l ∷ (b ++ (r ∷ e ∷ y))) w.While ok in
       let c = condition_read s g (suc n) l r (e ∷ y) lk rk (omega arith) in
       let f = expect_at e y p.Semicolon ek in
@@ -195,7 +195,7 @@ module _ (s : TypeNames) where
       let e = line_read s h d (b ++ r ∷ y) fd in
       rw (q, o, c, e) (g d n j (found ++ locals_of vs) r y rk (omega arith) (omega arith) (omega arith) ∙ ap (λ z. Ok (z, y)) (append_assoc found (locals_of vs) ys))
 
-  statement_rule : (a b : List Lexeme) (v : Stmt) (ys : List Stmt) → StartsStmt s a → ReadsStmt s 0 a v → ((r : Lexeme) (u : List Lexeme) → r.kind ≡ k.Mark p.RightBrace → is_word w.Else (kind_at (b ++ r ∷ u)) ≡ false) → ReadsItems s b ys → ReadsItems s (a ++ b) (v ∷ ys)
+  statement_rule : (a b : List Lexeme) (v : Stmt) (ys : List Stmt) → StartsStmt s a → ReadsStmt s 0 a v → ((r : Lexeme) (u : List Lexeme) → r.kind ≡ k.Mark p.RightBrace → is_keyword w.Else (kind_at (b ++ r ∷ u)) ≡ false) → ReadsItems s b ys → ReadsItems s (a ++ b) (v ∷ ys)
   unfolding items_from
   statement_rule a b v ys f h c g d n zero found r y rk ld ln lj = absurd (omega (arith, length-append (a ++ b) (r ∷ y)))
   statement_rule a b v ys f h c g d n (suc j) found r y rk ld ln lj =
@@ -210,13 +210,13 @@ module _ (s : TypeNames) where
       rw (q, front.no_brace, front.no_type, e) (g d n j (found ++ v ∷ []) r y rk (omega arith) (omega arith) (omega arith) ∙ ap (λ z. Ok (z, y)) (append_assoc found (v ∷ []) ys))
 
   -- no `else` in front of items
-  brace_no_else : (r : Lexeme) (y : List Lexeme) → r.kind ≡ k.Mark p.RightBrace → is_word w.Else (kind_at (r ∷ y)) ≡ false
-  brace_no_else r y e = ap (is_word w.Else) e
+  brace_no_else : (r : Lexeme) (y : List Lexeme) → r.kind ≡ k.Mark p.RightBrace → is_keyword w.Else (kind_at (r ∷ y)) ≡ false
+  brace_no_else r y e = ap (is_keyword w.Else) e
 
-  items_no_else : {a : List Lexeme} {vs : List Stmt} → AreItems s a vs → (r : Lexeme) (y : List Lexeme) → r.kind ≡ k.Mark p.RightBrace → is_word w.Else (kind_at (a ++ r ∷ y)) ≡ false
+  items_no_else : {a : List Lexeme} {vs : List Stmt} → AreItems s a vs → (r : Lexeme) (y : List Lexeme) → r.kind ≡ k.Mark p.RightBrace → is_keyword w.Else (kind_at (a ++ r ∷ y)) ≡ false
   items_no_else AreItems.nothing r y e = brace_no_else r y e
-  items_no_else (AreItems.line a b vs ys h g) r y e = ap (λ z. is_word w.Else (kind_at z)) (append_assoc a b (r ∷ y)) ∙ type_no_word s (a ++ (b ++ r ∷ y)) w.Else refl ((line_begins s h).1 (b ++ r ∷ y))
-  items_no_else (AreItems.statement a b v ys h g) r y e = ap (λ z. is_word w.Else (kind_at z)) (append_assoc a b (r ∷ y)) ∙ ((stmt_starts s h).1 (b ++ r ∷ y)).no_else
+  items_no_else (AreItems.line a b vs ys h g) r y e = ap (λ z. is_keyword w.Else (kind_at z)) (append_assoc a b (r ∷ y)) ∙ type_no_word s (a ++ (b ++ r ∷ y)) w.Else refl ((line_begins s h).1 (b ++ r ∷ y))
+  items_no_else (AreItems.statement a b v ys h g) r y e = ap (λ z. is_keyword w.Else (kind_at z)) (append_assoc a b (r ∷ y)) ∙ ((stmt_starts s h).1 (b ++ r ∷ y)).no_else
 
   ends_some : (r : List Lexeme) → ends_section r ≡ true → 0 < length r
   ends_some [] e = no_true e
@@ -230,7 +230,7 @@ module _ (s : TypeNames) where
   continues : (ts : List Lexeme) → Front s ts → ends_section ts ≡ false
   continues ts h = rw (h.no_brace, h.no_case, h.no_default) refl
 
-  statements_rule : (a b : List Lexeme) (v : Stmt) (ys : List Stmt) → StartsStmt s a → ReadsStmt s 0 a v → ((r : List Lexeme) → is_word w.Else (kind_at r) ≡ false → is_word w.Else (kind_at (b ++ r)) ≡ false) → ReadsStmts s b ys → ReadsStmts s (a ++ b) (v ∷ ys)
+  statements_rule : (a b : List Lexeme) (v : Stmt) (ys : List Stmt) → StartsStmt s a → ReadsStmt s 0 a v → ((r : List Lexeme) → is_keyword w.Else (kind_at r) ≡ false → is_keyword w.Else (kind_at (b ++ r)) ≡ false) → ReadsStmts s b ys → ReadsStmts s (a ++ b) (v ∷ ys)
   unfolding stmts_from
   statements_rule a b v ys f h c g d n zero found r ln lj ends other = let o = ends_some r ends in absurd (omega (arith, length-append (a ++ b) r))
   statements_rule a b v ys f h c g d n (suc j) found r ln lj ends other =
@@ -243,17 +243,17 @@ module _ (s : TypeNames) where
       let e = h n (b ++ r) fn (λ le. c r other) in
       rw (q, front, e) (g d n j (found ++ v ∷ []) r (omega arith) (omega arith) ends other ∙ ap (λ z. Ok (z, r)) (append_assoc found (v ∷ []) ys))
 
-  stmts_no_else : {a : List Lexeme} {vs : List Stmt} → AreStmts s a vs → (r : List Lexeme) → is_word w.Else (kind_at r) ≡ false → is_word w.Else (kind_at (a ++ r)) ≡ false
+  stmts_no_else : {a : List Lexeme} {vs : List Stmt} → AreStmts s a vs → (r : List Lexeme) → is_keyword w.Else (kind_at r) ≡ false → is_keyword w.Else (kind_at (a ++ r)) ≡ false
   stmts_no_else AreStmts.no_statement r e = e
-  stmts_no_else (AreStmts.statements a b v ys h g) r e = ap (λ z. is_word w.Else (kind_at z)) (append_assoc a b r) ∙ ((stmt_starts s h).1 (b ++ r)).no_else
+  stmts_no_else (AreStmts.statements a b v ys h g) r e = ap (λ z. is_keyword w.Else (kind_at z)) (append_assoc a b r) ∙ ((stmt_starts s h).1 (b ++ r)).no_else
 
   -- what stands behind the statements of a section
   record Ends (ts : List Lexeme) : Type 0 where
     ends : ends_section ts ≡ true
-    no_else : is_word w.Else (kind_at ts) ≡ false
+    no_else : is_keyword w.Else (kind_at ts) ≡ false
 
   sections_end : {a : List Lexeme} {vs : List Section} → AreSections s a vs → (r : Lexeme) (y : List Lexeme) → r.kind ≡ k.Mark p.RightBrace → Ends (a ++ r ∷ y)
-  sections_end AreSections.no_section r y e = record { ends = ap (λ kd. is_mark p.RightBrace kd || (is_word w.Case kd || is_word w.Default kd)) e; no_else = ap (is_word w.Else) e }
+  sections_end AreSections.no_section r y e = record { ends = ap (λ kd. is_mark p.RightBrace kd || (is_keyword w.Case kd || is_keyword w.Default kd)) e; no_else = ap (is_keyword w.Else) e }
   sections_end (AreSections.section a b c v ys zs h g o) r y e = subst Ends (sym (append_assoc a (b ++ c) (r ∷ y))) (let q = (label_word s h).1 ((b ++ c) ++ r ∷ y) in record { ends = q.1; no_else = q.2 })
 
   no_section_rule : ReadsSections s [] []

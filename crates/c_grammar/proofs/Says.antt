@@ -7,7 +7,7 @@ use Rattle.c_lexer.specs.declared.token.Keyword.TheVariants as w
 use Rattle.c_lexer.specs.declared.token.Punct.{Punct}
 use Rattle.c_lexer.specs.declared.token.Punct.TheVariants as p
 use Rattle.c_lexer.specs.Pieces.{Lexeme}
-use Rattle.c_grammar.specs.Tokens.{is_mark, is_word, kind_at, behind}
+use Rattle.c_grammar.specs.Tokens.{is_mark, is_keyword, kind_at, token_tail}
 use Rattle.c_grammar.specs.Grammar.{AreConsts}
 use Rattle.c_grammar.specs.Parser.{ParseOutcome, Parser, and_then, expect, expect_word, consts}
 use Rattle.c_grammar.specs.ParseExpr.{list_from}
@@ -109,13 +109,13 @@ pub expect_word_says : {B : Type 0} (m : Keyword) (f : Unit {0} → Parser B) (t
     → ((t : Lexeme) (r : List Lexeme) → t.kind ≡ k.Word m → Says (f tt r) r (λ b z. T (t ∷ b) z)) → Says (and_then (expect_word m ts) f) ts T
 unfolding expect_word
 expect_word_says m f [] T g = refused_says [] T (with_token (lexeme_of (k.Word m)) (f tt []) T (g (lexeme_of (k.Word m)) [] refl))
-expect_word_says m f (t ∷ r) T g = token_step (is_word m t.kind) f t r T (λ yes. g t r (word_is m t.kind yes)) (with_token (lexeme_of (k.Word m)) (f tt []) T (g (lexeme_of (k.Word m)) [] refl))
+expect_word_says m f (t ∷ r) T g = token_step (is_keyword m t.kind) f t r T (λ yes. g t r (word_is m t.kind yes)) (with_token (lexeme_of (k.Word m)) (f tt []) T (g (lexeme_of (k.Word m)) [] refl))
 
 -- the word is the first token
 pub expect_word_first : {B : Type 0} (m : Keyword) (f : Unit {0} → Parser B) (t : Lexeme) (r : List Lexeme) (T : List Lexeme → B → Type 0)
     → (t.kind ≡ k.Word m → Says (f tt r) r (λ b z. T (t ∷ b) z)) → Instance T → Says (and_then (expect_word m (t ∷ r)) f) (t ∷ r) T
 unfolding expect_word
-expect_word_first m f t r T g c = token_step (is_word m t.kind) f t r T (λ yes. g (word_is m t.kind yes)) c
+expect_word_first m f t r T g c = token_step (is_keyword m t.kind) f t r T (λ yes. g (word_is m t.kind yes)) c
 
 -- a weaker relation
 pub weaker : {A : Type 0} (o : ParseOutcome A) (ts : List Lexeme) (R T : List Lexeme → A → Type 0) → ((a : List Lexeme) (x : A) → R a x → T a x) → Says o ts R → Says o ts T
@@ -128,7 +128,7 @@ pub consts_says : (j : ℕ) (ts : List Lexeme) → Says (consts j ts) ts (λ a x
 unfolding consts
 consts_says zero ts = ok_says tt ts _ AreConsts.none
 consts_says (suc j) [] = ok_says tt [] _ AreConsts.none
-consts_says (suc j) (t ∷ r) = if_says (is_word w.Const t.kind) (consts j r) (Ok (tt, t ∷ r)) (t ∷ r) _
+consts_says (suc j) (t ∷ r) = if_says (is_keyword w.Const t.kind) (consts j r) (Ok (tt, t ∷ r)) (t ∷ r) _
     (λ yes. token_says (consts j r) t r _ (weaker (consts j r) r _ _ (λ a x h. AreConsts.more t a (word_is w.Const t.kind yes) h) (consts_says j r)))
     (λ other. ok_says tt (t ∷ r) _ AreConsts.none)
 
@@ -139,7 +139,7 @@ done_says x a ts T h = ok_says x ts (λ b z. T (a ++ b) z) (subst (λ c. T c x) 
 -- behind an element: a comma and more, or the end
 pub after_says : {A : Type 0} (L : List Lexeme → List A → Type 0) (go : Parser (List A)) (found : List A) (x : A) (a r : List Lexeme) → L a (x ∷ [])
     → ((t : Lexeme) (u : List Lexeme) → t.kind ≡ k.Mark p.Comma → Says (go u) u (λ b ys. (xs : List A) × (ys ≡ (found ++ x ∷ []) ++ xs) × L (a ++ t ∷ b) (x ∷ xs)))
-    → Says (cond (is_mark p.Comma (kind_at r)) (go (behind r)) (Ok (found ++ x ∷ [], r))) r (λ b ys. (xs : List A) × (ys ≡ found ++ xs) × L (a ++ b) xs)
+    → Says (cond (is_mark p.Comma (kind_at r)) (go (token_tail r)) (Ok (found ++ x ∷ [], r))) r (λ b ys. (xs : List A) × (ys ≡ found ++ xs) × L (a ++ b) xs)
 after_says L go found x a [] one more = done_says (found ++ x ∷ []) a [] (λ a ys. (xs : List _) × (ys ≡ found ++ xs) × L a xs) (x ∷ [], refl, one)
 after_says L go found x a (t ∷ r) one more = if_says (is_mark p.Comma t.kind) (go r) (Ok (found ++ x ∷ [], t ∷ r)) (t ∷ r) _
     (λ yes. token_says (go r) t r _ (weaker (go r) r _ _ (λ b ys q. (x ∷ q.0, q.1 ∙ append_assoc found (x ∷ []) q.0, q.2)) (more t r (mark_is p.Comma t.kind yes))))

@@ -4,7 +4,7 @@ use Rattle.c_lexer.specs.declared.token.TokenKind.TheVariants as k
 use Rattle.c_lexer.specs.declared.token.Keyword.{Keyword}
 use Rattle.c_lexer.specs.declared.token.Punct.{Punct}
 use Rattle.c_lexer.specs.Pieces.{Lexeme}
-use Rattle.c_grammar.specs.Tokens.{is_mark, is_word}
+use Rattle.c_grammar.specs.Tokens.{is_mark, is_keyword}
 use Rattle.c_grammar.specs.Parser.{ParseOutcome, Parser, and_then, expect, expect_word}
 use Rattle.c_grammar.proofs.Outcomes.{no_ok, no_err, same_ok, same_err, mark_is, word_is}
 use Rattle.c_grammar.proofs.Says.{Instance, Viable, Says, lexeme_of}
@@ -103,4 +103,4 @@ pub expect_word_r : {B : Type 0} (m : Keyword) (f : Unit {0} → Parser B) (ts :
     → ((t : Lexeme) (r : List Lexeme) → t.kind ≡ k.Word m → SaysR (f tt r) r (λ b z u. T (t ∷ b) z u)) → SaysR (and_then (expect_word m ts) f) ts T
 unfolding expect_word
 expect_word_r m f [] T g = refused_r [] T (with_token (lexeme_of (k.Word m)) (f tt []) T (g (lexeme_of (k.Word m)) [] refl))
-expect_word_r m f (t ∷ r) T g = token_step (is_word m t.kind) f t r T (λ yes. g t r (word_is m t.kind yes)) (with_token (lexeme_of (k.Word m)) (f tt []) T (g (lexeme_of (k.Word m)) [] refl))
+expect_word_r m f (t ∷ r) T g = token_step (is_keyword m t.kind) f t r T (λ yes. g t r (word_is m t.kind yes)) (with_token (lexeme_of (k.Word m)) (f tt []) T (g (lexeme_of (k.Word m)) [] refl))

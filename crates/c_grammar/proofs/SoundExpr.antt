@@ -18,7 +18,7 @@ use Rattle.c_grammar.specs.declared.shapes.Naming.{Naming}
 use Rattle.c_grammar.specs.declared.shapes.Naming.TheVariants as nm
 use Rattle.c_grammar.specs.Classes.{infix_of, prefix_of}
 use Rattle.c_grammar.specs.Levels.{level_of, binding_level, operand_level, result_level}
-use Rattle.c_grammar.specs.Tokens.{TypeNames, is_type, place, is_mark, is_name, is_text, begins_type}
+use Rattle.c_grammar.specs.Tokens.{TypeNames, is_type, token_place, is_mark, is_name_token, is_text, begins_type}
 use Rattle.c_grammar.specs.Types.{takes_name, may_be_nameless, nameless, with_shape, with_shapes, parameter_of, without_void, comma_of}
 use Rattle.c_grammar.specs.Grammar.{AreConsts, IsPlain, AreTexts, IsExpr, IsWhole, AreAssignments, AreArguments, IsTypeName, IsDeclarator, AreParameters, AreSomeParameters, IsParameter}
 use Rattle.c_grammar.specs.Parser.{Parser, and_then, pure, consts}
@@ -204,8 +204,8 @@ module _ (s : TypeNames) where
     pub whole_says : (ts : List Lexeme) → Says (whole s rec dec ts) ts (λ a x. IsWhole s a x)
     unfolding whole
     whole_says ts = bind_says_at (list_from (rec 2) (length ts) [] ts) _ ts (λ a xs. AreAssignments s a xs) _ (list_of (length ts) ts) (λ a xs r e h.
-        done_says (comma_of (place ts) xs) a r (λ a x. IsWhole s a x) (subst (λ at. IsWhole s a (comma_of at xs)) (sym (ap place e ∙ place-append a r (first_listed s h).0)) (IsWhole.commas a xs h)))
-        (λ a xs h. ([], comma_of (place a) xs, subst (λ c. IsWhole s c (comma_of (place a) xs)) (sym (append-nil a)) (IsWhole.commas a xs h)))
+        done_says (comma_of (token_place ts) xs) a r (λ a x. IsWhole s a x) (subst (λ at. IsWhole s a (comma_of at xs)) (sym (ap token_place e ∙ place-append a r (first_listed s h).0)) (IsWhole.commas a xs h)))
+        (λ a xs h. ([], comma_of (token_place a) xs, subst (λ c. IsWhole s c (comma_of (token_place a) xs)) (sym (append-nil a)) (IsWhole.commas a xs h)))
 
     arguments_says : (ts : List Lexeme) → Says (arguments s rec dec ts) ts (λ a xs. (b : List Lexeme) × (r : Lexeme) × (a ≡ b ++ r ∷ []) × AreArguments s b xs × (r.kind ≡ k.Mark p.RightParen))
     unfolding arguments
@@ -218,15 +218,15 @@ module _ (s : TypeNames) where
     unfolding type_name
     type_says ts = bind_says_at (plain s ts) _ ts (λ a ty. IsPlain s a ty) _ (plain_says s ts) (λ a ty r e h.
         bind_says (dec nm.Refused r) _ r (λ b d. IsDeclarator s nm.Refused 0 b d) _ (sound_d nm.Refused r) (λ b d u g.
-        done_says (record { at = place ts; ty = with_shapes d.shapes ty }) b u (λ c z. IsTypeName s (a ++ c) z) (subst (λ at. IsTypeName s (a ++ b) (record { at = at; ty = with_shapes d.shapes ty })) (sym (ap place e ∙ place-append a r (plain_begins s h).0)) (IsTypeName.type_name a b ty d h g))))
-        (λ a ty h. ([], record { at = place a; ty = ty }, IsTypeName.type_name a [] ty nameless h (IsDeclarator.no_name refl)))
+        done_says (record { at = token_place ts; ty = with_shapes d.shapes ty }) b u (λ c z. IsTypeName s (a ++ c) z) (subst (λ at. IsTypeName s (a ++ b) (record { at = at; ty = with_shapes d.shapes ty })) (sym (ap token_place e ∙ place-append a r (plain_begins s h).0)) (IsTypeName.type_name a b ty d h g))))
+        (λ a ty h. ([], record { at = token_place a; ty = ty }, IsTypeName.type_name a [] ty nameless h (IsDeclarator.no_name refl)))
 
     parameter_says : (ts : List Lexeme) → Says (parameter s rec dec ts) ts (λ a x. IsParameter s a x)
     unfolding parameter
     parameter_says ts = bind_says_at (plain s ts) _ ts (λ a ty. IsPlain s a ty) _ (plain_says s ts) (λ a ty r e h.
         bind_says (dec nm.Optional r) _ r (λ b d. IsDeclarator s nm.Optional 0 b d) _ (sound_d nm.Optional r) (λ b d u g.
-        done_says (parameter_of (place ts) ty d) b u (λ c z. IsParameter s (a ++ c) z) (subst (λ at. IsParameter s (a ++ b) (parameter_of at ty d)) (sym (ap place e ∙ place-append a r (plain_begins s h).0)) (IsParameter.parameter a b ty d h g))))
-        (λ a ty h. ([], parameter_of (place a) ty nameless, IsParameter.parameter a [] ty nameless h (IsDeclarator.no_name refl)))
+        done_says (parameter_of (token_place ts) ty d) b u (λ c z. IsParameter s (a ++ c) z) (subst (λ at. IsParameter s (a ++ b) (parameter_of at ty d)) (sym (ap token_place e ∙ place-append a r (plain_begins s h).0)) (IsParameter.parameter a b ty d h g))))
+        (λ a ty h. ([], parameter_of (token_place a) ty nameless, IsParameter.parameter a [] ty nameless h (IsDeclarator.no_name refl)))
 
     parameters_of : (j : ℕ) (ts : List Lexeme) → Says (list_from (parameter s rec dec) j [] ts) ts (λ a xs. AreSomeParameters s a xs)
     parameters_of j ts = weaker (list_from (parameter s rec dec) j [] ts) ts _ _ (λ a ys q. subst (λ z. AreSomeParameters s a z) (sym q.1) q.2)
@@ -340,34 +340,34 @@ module _ (s : TypeNames) where
     unfolding member
     member_says make [] T h = refused_says [] T (lexeme_of k.Name ∷ [], make [], h (lexeme_of k.Name) refl)
     member_says make (n ∷ r) T h = bind_says (member (n ∷ r)) _ (n ∷ r) (λ a name. T a (make name)) T
-        (if_says (is_name n.kind) _ _ (n ∷ r) _ (λ yes. token_says _ n r _ (ok_says n.spelling r _ (h n (name_is n.kind yes)))) (λ other. refused_says (n ∷ r) _ (lexeme_of k.Name ∷ [], [], h (lexeme_of k.Name) refl))) (λ a name u g. done_says (make name) a u T g)
+        (if_says (is_name_token n.kind) _ _ (n ∷ r) _ (λ yes. token_says _ n r _ (ok_says n.spelling r _ (h n (name_is n.kind yes)))) (λ other. refused_says (n ∷ r) _ (lexeme_of k.Name ∷ [], [], h (lexeme_of k.Name) refl))) (λ a name u g. done_says (make name) a u T g)
 
     step_says : (class : Infix) (t : Lexeme) (level : ℕ) (done : List Lexeme) (x : Expr) (ts : List Lexeme) → infix_of t.kind ≡ class → 2 ≤ binding_level class → operand_level class ≤ level → IsExpr s level done x
-        → Says (step_by s rec dec class (place done) x ts) ts (λ b z. IsExpr s (result_level class) (done ++ t ∷ b) z)
+        → Says (step_by s rec dec class (token_place done) x ts) ts (λ b z. IsExpr s (result_level class) (done ++ t ∷ b) z)
     step_says i.Index t level done x ts kind two le h = bind_says (whole s rec dec ts) _ ts (λ a z. IsWhole s a z) _ (whole_says ts) (λ a z u g. expect_says p.RightBracket _ u _ (λ r v rk.
-        ok_says (e.Index (place done) x z) v _ (IsExpr.index {m = 18} done t a r x z (omega arith) (weaken h 18 le) (index_is t.kind kind) g rk)))
-    step_says i.Field t level done x ts kind two le h = member_says (e.Field (place done) x) ts _ (λ n nk. IsExpr.field {m = 18} done t n x (omega arith) (weaken h 18 le) (field_is t.kind kind) nk)
-    step_says i.Arrow t level done x ts kind two le h = member_says (e.Arrow (place done) x) ts _ (λ n nk. IsExpr.arrow {m = 18} done t n x (omega arith) (weaken h 18 le) (arrow_is t.kind kind) nk)
-    step_says (i.Step op) t level done x ts kind two le h = ok_says (e.Postfix (place done) op x) ts _ (IsExpr.postfix {m = 18} done t op x (omega arith) (weaken h 18 le) kind)
+        ok_says (e.Index (token_place done) x z) v _ (IsExpr.index {m = 18} done t a r x z (omega arith) (weaken h 18 le) (index_is t.kind kind) g rk)))
+    step_says i.Field t level done x ts kind two le h = member_says (e.Field (token_place done) x) ts _ (λ n nk. IsExpr.field {m = 18} done t n x (omega arith) (weaken h 18 le) (field_is t.kind kind) nk)
+    step_says i.Arrow t level done x ts kind two le h = member_says (e.Arrow (token_place done) x) ts _ (λ n nk. IsExpr.arrow {m = 18} done t n x (omega arith) (weaken h 18 le) (arrow_is t.kind kind) nk)
+    step_says (i.Step op) t level done x ts kind two le h = ok_says (e.Postfix (token_place done) op x) ts _ (IsExpr.postfix {m = 18} done t op x (omega arith) (weaken h 18 le) kind)
     step_says (i.Binary op) t level done x ts kind two le h = bind_says (rec (suc (level_of op)) ts) _ ts (λ b z. IsExpr s (suc (level_of op)) b z) _ (sound (suc (level_of op)) ts (above_wanted op)) (λ b z u g.
-        done_says (e.Binary (place done) op x z) b u (λ c y. IsExpr s (level_of op) (done ++ t ∷ c) y) (IsExpr.binary {m = level_of op} done t b op x z (omega arith) kind (weaken h (level_of op) le) g))
+        done_says (e.Binary (token_place done) op x z) b u (λ c y. IsExpr s (level_of op) (done ++ t ∷ c) y) (IsExpr.binary {m = level_of op} done t b op x z (omega arith) kind (weaken h (level_of op) le) g))
     step_says i.Conditional t level done x ts kind two le h = bind_says (whole s rec dec ts) _ ts (λ a z. IsWhole s a z) _ (whole_says ts) (λ b v u g. expect_says p.Colon _ u _ (λ r u' rk.
         bind_says (rec 4 u') _ u' (λ c z. IsExpr s 4 c z) _ (sound 4 u' four_wanted) (λ c z w' o.
-        done_says (e.Conditional (place done) x v z) c w' (λ c y. IsExpr s 4 (done ++ t ∷ (b ++ (r ∷ c))) y) (IsExpr.conditional {m = 4} done t b r c x v z (omega arith) (weaken h 6 le) (choose_is t.kind kind) g rk o))))
+        done_says (e.Conditional (token_place done) x v z) c w' (λ c y. IsExpr s 4 (done ++ t ∷ (b ++ (r ∷ c))) y) (IsExpr.conditional {m = 4} done t b r c x v z (omega arith) (weaken h 6 le) (choose_is t.kind kind) g rk o))))
     step_says (i.Assign op) t level done x ts kind two le h = bind_says (rec 2 ts) _ ts (λ b z. IsExpr s 2 b z) _ (sound 2 ts two_wanted) (λ b z u g.
-        done_says (e.Assign (place done) op x z) b u (λ c y. IsExpr s 2 (done ++ t ∷ c) y) (IsExpr.assignment {m = 2} done t b op x z (omega arith) (weaken h 17 le) kind g))
+        done_says (e.Assign (token_place done) op x z) b u (λ c y. IsExpr s 2 (done ++ t ∷ c) y) (IsExpr.assignment {m = 2} done t b op x z (omega arith) (weaken h 17 le) kind g))
     step_says i.Comma t level done x ts kind two le h = absurd (let cap = level_cap h in omega arith)
     step_says i.Tight t level done x ts kind two le h = absurd (let cap = level_cap h in omega arith)
     step_says i.Nothing t level done x ts kind two le h = absurd (let cap = level_cap h in omega arith)
 
-    climb_says : (least j level : ℕ) (x : Expr) (done ts : List Lexeme) → Wanted least → least ≤ level → IsExpr s level done x → Says (climb s rec dec (place done) least j level x ts) ts (λ a z. IsExpr s least (done ++ a) z)
+    climb_says : (least j level : ℕ) (x : Expr) (done ts : List Lexeme) → Wanted least → least ≤ level → IsExpr s level done x → Says (climb s rec dec (token_place done) least j level x ts) ts (λ a z. IsExpr s least (done ++ a) z)
     unfolding climb
     climb_says least zero level x done ts w' low h = done_says x done ts (λ a z. IsExpr s least a z) (weaken h least low)
     climb_says least (suc j) level x done [] w' low h = if_says (ltb 0 least) _ _ [] _ (λ yes. done_says x done [] (λ a z. IsExpr s least a z) (weaken h least low))
         (λ other. absurd (let le = ltb-false 0 least other in let two = w'.two in omega arith))
     climb_says least (suc j) level x done (t ∷ ts) w' low h = if_says (ltb (binding_level (infix_of t.kind)) least) _ _ (t ∷ ts) _ (λ yes. done_says x done (t ∷ ts) (λ a z. IsExpr s least a z) (weaken h least low))
         (λ other. if_says (ltb level (operand_level (infix_of t.kind))) (Err (t ∷ ts)) _ (t ∷ ts) _ (λ tight. refused_says (t ∷ ts) _ ([], x, subst (λ c. IsExpr s least c x) (sym (append-nil done)) (weaken h least low))) (λ loose.
-        token_says _ t ts _ (bind_says (step_by s rec dec (infix_of t.kind) (place done) x ts) _ ts (λ b z. IsExpr s (result_level (infix_of t.kind)) (done ++ t ∷ b) z) _
+        token_says _ t ts _ (bind_says (step_by s rec dec (infix_of t.kind) (token_place done) x ts) _ ts (λ b z. IsExpr s (result_level (infix_of t.kind)) (done ++ t ∷ b) z) _
         (step_says (infix_of t.kind) t level done x ts refl (let two = w'.two in let above = ltb-false (binding_level (infix_of t.kind)) least other in omega arith) (ltb-false level (operand_level (infix_of t.kind)) loose) h) (λ b z r g.
         let above = makes_above (infix_of t.kind) least w' (ltb-false (binding_level (infix_of t.kind)) least other) in
         let o = climb_says least j (result_level (infix_of t.kind)) z (done ++ t ∷ b) r w' above g in
@@ -379,7 +379,7 @@ module _ (s : TypeNames) where
     tight_says m [] w' = let c = w'.cap in refused_says [] _ (number ∷ [], e.Number 0 [], some_number s m (omega arith))
     tight_says m (t ∷ ts) w' = bind_says_at (operand_by s rec dec m (prefix_of t.kind) (t ∷ ts)) _ (t ∷ ts) (IsOperand s m) _ (operand_says t.kind m t ts w'.cap refl) (λ a q r e h.
         let P : ℕ → Type 0 = λ at. Says (climb s rec dec at m (length r) q.1 q.0 r) r (λ b z. IsExpr s m (a ++ b) z) in
-        subst P (sym (ap place e ∙ place-append a r (first s h.is).0)) (climb_says m (length r) q.1 q.0 a r w' h.wanted h.is))
+        subst P (sym (ap token_place e ∙ place-append a r (first s h.is).0)) (climb_says m (length r) q.1 q.0 a r w' h.wanted h.is))
         (λ a q h. ([], q.0, subst (λ c. IsExpr s m c q.0) (sym (append-nil a)) (weaken h.is m h.wanted)))
 
     -- ---- declarators
@@ -439,7 +439,7 @@ module _ (s : TypeNames) where
     core_says : (naming : Naming) (ts : List Lexeme) → Says (core s rec dec naming ts) ts (λ a d. IsDeclarator s naming 1 a d)
     unfolding core
     core_says naming [] = nameless_says naming [] [] (name_wanted naming [])
-    core_says naming (t ∷ ts) = if_says (is_name t.kind) _ _ (t ∷ ts) _
+    core_says naming (t ∷ ts) = if_says (is_name_token t.kind) _ _ (t ∷ ts) _
         (λ yes. if_says (takes_name naming (is_type s t)) _ _ (t ∷ ts) _
         (λ takes. token_says _ t ts _ (ok_says (record { name = Some (record { at = t.at; name = t.spelling }); shapes = [] }) ts _ (IsDeclarator.own_name t (name_is t.kind yes) takes)))
         (λ other. nameless_says naming (t ∷ ts) (t ∷ ts) (name_wanted naming (t ∷ ts))))

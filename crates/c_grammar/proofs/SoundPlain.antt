@@ -19,7 +19,7 @@ use Rattle.c_grammar.specs.declared.word_set.Sign.TheVariants as g
 use Rattle.c_grammar.specs.declared.word_set.WordSet.{WordSet}
 use Rattle.c_grammar.specs.Classes.{specifier_of}
 use Rattle.c_grammar.specs.WordSets.{no_words, takes_int, with_word, basic_by, basic_of}
-use Rattle.c_grammar.specs.Tokens.{TypeNames, is_type, is_name}
+use Rattle.c_grammar.specs.Tokens.{TypeNames, is_type, is_name_token}
 use Rattle.c_grammar.specs.Grammar.{AreConsts, AreTypeWords, IsPlain}
 use Rattle.c_grammar.specs.Parser.{Parser, consts}
 use Rattle.c_grammar.specs.declared.shapes.SpecifierStart.TheVariants as ss
@@ -205,7 +205,7 @@ some_tag class T h = (lexeme_of k.Name ∷ [], tag_type class 0 [], h (lexeme_of
 pub tag_says : (class : Specifier) (ts : List Lexeme) (T : List Lexeme → TypeNode → Type 0) → ((v : Lexeme) (a : List Lexeme) → v.kind ≡ k.Name → AreConsts a → T (v ∷ a) (tag_type class v.at v.spelling)) → Says (tag class ts) ts T
 unfolding tag
 tag_says class [] T h = refused_says [] T (some_tag class T h)
-tag_says class (v ∷ r) T h = if_says (is_name v.kind) _ _ (v ∷ r) T
+tag_says class (v ∷ r) T h = if_says (is_name_token v.kind) _ _ (v ∷ r) T
     (λ yes. token_says _ v r T (bind_says (consts (length r) r) _ r (λ a q. AreConsts a) _ (consts_says (length r) r) (λ a q z g. done_says (tag_type class v.at v.spelling) a z (λ a ty. T (v ∷ a) ty) (h v a (name_is v.kind yes) g))))
     (λ other. refused_says (v ∷ r) T (some_tag class T h))
 

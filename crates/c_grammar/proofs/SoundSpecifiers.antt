@@ -15,8 +15,8 @@ use Rattle.c_grammar.specs.declared.shapes.DeclaredName.{DeclaredName}
 use Rattle.c_grammar.specs.declared.shapes.Naming.{Naming}
 use Rattle.c_grammar.specs.declared.shapes.Naming.TheVariants as nm
 use Rattle.c_grammar.specs.WordSets.{no_words}
-use Rattle.c_grammar.specs.Tokens.{TypeNames, is_type, is_mark, is_name, kind_at, behind}
-use Rattle.c_grammar.specs.Types.{may_be_nameless, declaration_of, bare}
+use Rattle.c_grammar.specs.Tokens.{TypeNames, is_type, is_mark, is_name_token, kind_at, token_tail}
+use Rattle.c_grammar.specs.Types.{may_be_nameless, declaration_of, without_body}
 use Rattle.c_grammar.specs.Grammar.{AreConsts, IsPlain, IsExpr, IsDeclarator}
 use Rattle.c_grammar.specs.Specifiers.{IsTag, IsDeclared, AreDeclared, IsConstant, AreConstants, IsSpecifier, AreMembers, IsMember}
 use Rattle.c_grammar.specs.Parser.{Parser, consts}
@@ -44,15 +44,15 @@ declarators_says s n zero ty found ts =
     let q = some_of (declaration s n nm.Member ty []) [] (λ a d. IsDeclared s nm.Member ty a d) (declaration_says s n nm.Member ty [] refl) in
     refused_says ts _ (q.0, found ++ q.1 ∷ [], (q.1 ∷ [], refl, AreDeclared.one q.0 q.1 q.2))
 declarators_says s n (suc j) ty found ts = bind_says (declaration s n nm.Member ty ts) _ ts (λ a d. IsDeclared s nm.Member ty a d) _ (declaration_says s n nm.Member ty ts refl) (λ a d r h.
-    after_says (λ a xs. AreDeclared s ty a xs) (declarators_from s n j (bare ty) (found ++ d ∷ [])) found d a r (AreDeclared.one a d h) (λ t u kind.
-    weaker (declarators_from s n j (bare ty) (found ++ d ∷ []) u) u _ _ (λ b ys q. (q.0, q.1, AreDeclared.more a t b d q.0 h kind q.2)) (declarators_says s n j (bare ty) (found ++ d ∷ []) u)))
+    after_says (λ a xs. AreDeclared s ty a xs) (declarators_from s n j (without_body ty) (found ++ d ∷ [])) found d a r (AreDeclared.one a d h) (λ t u kind.
+    weaker (declarators_from s n j (without_body ty) (found ++ d ∷ []) u) u _ _ (λ b ys q. (q.0, q.1, AreDeclared.more a t b d q.0 h kind q.2)) (declarators_says s n j (without_body ty) (found ++ d ∷ []) u)))
 
 -- ---- lists up to a brace
 
 -- behind an element: a comma and more, a comma alone, or nothing
 braced_after : {A : Type 0} (L : List Lexeme → List A → Type 0) (go : Parser (List A)) (found : List A) (x : A) (a r : List Lexeme) → L a (x ∷ []) → ((t : Lexeme) → t.kind ≡ k.Mark p.Comma → L (a ++ t ∷ []) (x ∷ []))
     → ((t : Lexeme) (u : List Lexeme) → t.kind ≡ k.Mark p.Comma → Says (go u) u (λ b ys. (xs : List A) × (ys ≡ (found ++ x ∷ []) ++ xs) × L (a ++ t ∷ b) (x ∷ xs)))
-    → Says (cond (is_mark p.Comma (kind_at r)) (cond (is_mark p.RightBrace (kind_at (behind r))) (Ok (found ++ x ∷ [], behind r)) (go (behind r))) (Ok (found ++ x ∷ [], r))) r (λ b ys. (xs : List A) × (ys ≡ found ++ xs) × L (a ++ b) xs)
+    → Says (cond (is_mark p.Comma (kind_at r)) (cond (is_mark p.RightBrace (kind_at (token_tail r))) (Ok (found ++ x ∷ [], token_tail r)) (go (token_tail r))) (Ok (found ++ x ∷ [], r))) r (λ b ys. (xs : List A) × (ys ≡ found ++ xs) × L (a ++ b) xs)
 braced_after L go found x a [] one last more = done_says (found ++ x ∷ []) a [] (λ a ys. (xs : List _) × (ys ≡ found ++ xs) × L a xs) (x ∷ [], refl, one)
 braced_after L go found x a (t ∷ r) one last more = if_says (is_mark p.Comma t.kind) _ (Ok (found ++ x ∷ [], t ∷ r)) (t ∷ r) _
     (λ yes. token_says _ t r _ (if_says (is_mark p.RightBrace (kind_at r)) (Ok (found ++ x ∷ [], r)) (go r) r _
@@ -87,7 +87,7 @@ some_constant s = (a_name s ∷ [], record { at = (a_name s).at; name = (a_name 
 constant_says : (s : TypeNames) (n : ℕ) (ts : List Lexeme) → Says (constant s n ts) ts (λ a x. IsConstant s a x)
 unfolding constant
 constant_says s n [] = refused_says [] _ (some_constant s)
-constant_says s n (t ∷ r) = if_says (is_name t.kind) _ _ (t ∷ r) _
+constant_says s n (t ∷ r) = if_says (is_name_token t.kind) _ _ (t ∷ r) _
     (λ yes. if_says (is_type s t) (Err (t ∷ r)) _ (t ∷ r) _ (λ type. refused_says (t ∷ r) _ (some_constant s)) (λ listed. token_says _ t r _ (constant_value_says s n t r (name_is t.kind yes) listed)))
     (λ other. refused_says (t ∷ r) _ (some_constant s))
 
@@ -143,7 +143,7 @@ module _ (s : TypeNames) (n : ℕ) (spec : Parser TypeNode) (sound : (ts : List 
       → Says (tag_or_body s n spec class u.at ts) ts (λ b ty. IsBraced s u b ty)
   unfolding tag_or_body
   on_says class u [] h g = h [] u.at None [] IsTag.none
-  on_says class u (v ∷ r) h g = if_says (is_name v.kind) _ _ (v ∷ r) _
+  on_says class u (v ∷ r) h g = if_says (is_name_token v.kind) _ _ (v ∷ r) _
       (λ yes. token_says _ v r _ (if_says (is_mark p.LeftBrace (kind_at r)) _ _ r _
       (λ brace. h (v ∷ []) v.at (Some v.spelling) r (IsTag.some v (name_is v.kind yes)))
       (λ other. bind_says (consts (length r) r) _ r (λ a q. AreConsts a) _ (consts_says (length r) r) (λ a x z o.

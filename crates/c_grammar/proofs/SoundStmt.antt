@@ -17,7 +17,7 @@ use Rattle.c_tree.specs.declared.statements.Label.TheVariants as l
 use Rattle.c_tree.specs.declared.statements.ForFirst.TheVariants as f
 use Rattle.c_grammar.specs.declared.shapes.Naming.TheVariants as nm
 use Rattle.c_grammar.specs.Classes.{head_of}
-use Rattle.c_grammar.specs.Tokens.{TypeNames, place, is_mark, is_word, kind_at, begins_type}
+use Rattle.c_grammar.specs.Tokens.{TypeNames, token_place, is_mark, is_keyword, kind_at, begins_type}
 use Rattle.c_grammar.specs.Grammar.{IsPlain, IsExpr, IsWhole}
 use Rattle.c_grammar.specs.Specifiers.{IsDeclared}
 use Rattle.c_grammar.specs.Statements.{IsLocalDeclarator, AreLocals, IsLine, IsOptional, IsFirst, IsLabel, locals_of, IsStmt, AreItems, AreSections, AreStmts}
@@ -91,7 +91,7 @@ module _ (s : TypeNames) (n : ℕ) where
       let colon = lexeme_of (k.Mark p.Colon) in
       (word ∷ colon ∷ [], l.Default 0, IsLabel.«default» word colon refl refl)
 
-  default_says : (ts : List Lexeme) → Says (and_then (expect_word w.Default ts) (λ _. expect p.Colon >>= λ _. pure (l.Default (place ts)))) ts (λ a v. IsLabel s a v)
+  default_says : (ts : List Lexeme) → Says (and_then (expect_word w.Default ts) (λ _. expect p.Colon >>= λ _. pure (l.Default (token_place ts)))) ts (λ a v. IsLabel s a v)
   unfolding expect_word
   default_says [] = refused_says [] _ some_label
   default_says (t ∷ ts) = expect_word_first w.Default _ t ts _ (λ kind. expect_says p.Colon _ ts _ (λ c z ck. ok_says (l.Default t.at) z _ (IsLabel.«default» t c kind ck))) some_label
@@ -99,7 +99,7 @@ module _ (s : TypeNames) (n : ℕ) where
   label_says : (ts : List Lexeme) → Says (label s n ts) ts (λ a v. IsLabel s a v)
   unfolding label case_label
   label_says [] = default_says []
-  label_says (t ∷ ts) = if_says (is_word w.Case t.kind) _ _ (t ∷ ts) _
+  label_says (t ∷ ts) = if_says (is_keyword w.Case t.kind) _ _ (t ∷ ts) _
       (λ yes. token_says _ t ts _ (bind_says (expr s n 4 ts) _ ts (λ a v. IsExpr s 4 a v) _ (sound_expr s n 4 ts four_wanted) (λ a v r h. expect_says p.Colon _ r _ (λ c z ck.
       ok_says (l.Case t.at v) z _ (IsLabel.«case» t a c v (word_is w.Case t.kind yes) h ck)))))
       (λ other. default_says (t ∷ ts))
@@ -108,7 +108,7 @@ module _ (s : TypeNames) (n : ℕ) where
 
 -- the level at which a statement stands before these tokens
 abbrev pub else_at : List Lexeme → ℕ
-else_at r = cond (is_word w.Else (kind_at r)) 1 0
+else_at r = cond (is_keyword w.Else (kind_at r)) 1 0
 
 weaken_stmt : (s : TypeNames) {m : ℕ} {a : List Lexeme} {v : Stmt} → IsStmt s m a v → IsStmt s 0 a v
 weaken_stmt s (IsStmt.block l a r xs lk h rk) = IsStmt.block l a r xs lk h rk
@@ -214,7 +214,7 @@ module _ (s : TypeNames) (n : ℕ) (rec : Parser Stmt) (sound : SoundS s rec) wh
   group_tokens : (t l : Lexeme) (a : List Lexeme) (r : Lexeme) (b : List Lexeme) → t ∷ ((l ∷ a ++ r ∷ []) ++ b) ≡ (t ∷ l ∷ a) ++ (r ∷ b)
   group_tokens t l a r b = ap (λ z. t ∷ l ∷ z) (append_assoc a (r ∷ []) b)
 
-  short_of : (t : Lexeme) (a b : List Lexeme) (v : Expr) (z : Stmt) (r : List Lexeme) → t.kind ≡ k.Word w.If → InBrackets s n a v → IsStmt s (else_at r) b z → is_word w.Else (kind_at r) ≡ false → IsStmt s (else_at r) (t ∷ (a ++ b)) (u.If v z None)
+  short_of : (t : Lexeme) (a b : List Lexeme) (v : Expr) (z : Stmt) (r : List Lexeme) → t.kind ≡ k.Word w.If → InBrackets s n a v → IsStmt s (else_at r) b z → is_keyword w.Else (kind_at r) ≡ false → IsStmt s (else_at r) (t ∷ (a ++ b)) (u.If v z None)
   short_of t a b v z r kind h g e =
       let low : else_at r ≡ 0 = ap (λ b. cond b 1 0) e in
       let f : IsStmt s 0 ((t ∷ h.left ∷ h.inner) ++ (h.right ∷ b)) (u.If v z None) = IsStmt.if_only t h.left h.inner h.right b v z (omega arith) kind h.open_is h.is h.close_is (subst (λ m. IsStmt s m b z) low g) in
@@ -228,7 +228,7 @@ module _ (s : TypeNames) (n : ℕ) (rec : Parser Stmt) (sound : SoundS s rec) wh
   alternative_says : (t : Lexeme) (a b : List Lexeme) (v : Expr) (z : Stmt) (r : List Lexeme) → t.kind ≡ k.Word w.If → InBrackets s n a v → IsStmt s (else_at r) b z → SaysR (alternative s n rec v z r) r (λ c q y. IsStmt s (else_at y) (t ∷ (a ++ (b ++ c))) q)
   unfolding alternative
   alternative_says t a b v z [] kind h g = done_r (u.If v z None) b [] (λ c q y. IsStmt s (else_at y) (t ∷ (a ++ c)) q) (short_of t a b v z [] kind h g refl)
-  alternative_says t a b v z (o ∷ r) kind h g = if_r (is_word w.Else o.kind) _ _ (o ∷ r) _
+  alternative_says t a b v z (o ∷ r) kind h g = if_r (is_keyword w.Else o.kind) _ _ (o ∷ r) _
       (λ yes. token_r _ o r _ (bind_r (rec r) _ r Made _ (sound r) (λ c q y j. done_r (u.If v z (Some q)) c y (λ c q y. IsStmt s (else_at y) (t ∷ (a ++ (b ++ (o ∷ c)))) q)
       (long_of t a b o c v z q y kind h (subst (λ x. IsStmt s x b z) (ap (λ b. cond b 1 0) yes) g) (word_is w.Else o.kind yes) j))))
       (λ other. done_r (u.If v z None) b (o ∷ r) (λ c q y. IsStmt s (else_at y) (t ∷ (a ++ c)) q) (short_of t a b v z (o ∷ r) kind h g other))

@@ -22,8 +22,8 @@ use Rattle.c_grammar.specs.declared.shapes.DeclaredName.{DeclaredName}
 use Rattle.c_grammar.specs.declared.shapes.Declarator.{Declarator}
 use Rattle.c_grammar.specs.declared.shapes.Naming.TheVariants as nm
 use Rattle.c_grammar.specs.Classes.{opening_of}
-use Rattle.c_grammar.specs.Tokens.{TypeNames, is_mark, kind_at, behind}
-use Rattle.c_grammar.specs.Types.{declaration_of, bare}
+use Rattle.c_grammar.specs.Tokens.{TypeNames, is_mark, kind_at, token_tail}
+use Rattle.c_grammar.specs.Types.{declaration_of, without_body}
 use Rattle.c_grammar.specs.Grammar.{IsExpr, IsDeclarator}
 use Rattle.c_grammar.specs.Specifiers.{IsDeclared, IsSpecifier}
 use Rattle.c_grammar.specs.Statements.{AreItems}
@@ -65,8 +65,8 @@ abbrev Typedefs : TypeNames → TypeNode → List External → List Lexeme → L
 Typedefs s ty found a q = (vs : List External) × (q.0 ≡ found ++ vs) × AreTypedefs s ty a vs q.1
 
 typedef_after : (s : TypeNames) (ty : TypeNode) (found : List External) (a r : List Lexeme) (d : Declaration) (go : Parser (List External × TypeNames)) → IsDeclared s nm.Required ty a d
-    → ((ts : List Lexeme) → Says (go ts) ts (Typedefs (with_type s d.name) (bare ty) (found ++ x.Typedef d ∷ [])))
-    → Says (cond (is_mark p.Comma (kind_at r)) (go (behind r)) (Ok ((found ++ x.Typedef d ∷ [], with_type s d.name), r))) r (λ b q. Typedefs s ty found (a ++ b) q)
+    → ((ts : List Lexeme) → Says (go ts) ts (Typedefs (with_type s d.name) (without_body ty) (found ++ x.Typedef d ∷ [])))
+    → Says (cond (is_mark p.Comma (kind_at r)) (go (token_tail r)) (Ok ((found ++ x.Typedef d ∷ [], with_type s d.name), r))) r (λ b q. Typedefs s ty found (a ++ b) q)
 typedef_after s ty found a [] d go h g = done_says (found ++ x.Typedef d ∷ [], with_type s d.name) a [] (Typedefs s ty found) (x.Typedef d ∷ [], refl, AreTypedefs.one a d h)
 typedef_after s ty found a (t ∷ r) d go h g = if_says (is_mark p.Comma t.kind) (go r) (Ok ((found ++ x.Typedef d ∷ [], with_type s d.name), t ∷ r)) (t ∷ r) _
     (λ yes. token_says (go r) t r _ (weaker (go r) r _ _ (λ b q o. (x.Typedef d ∷ o.0, o.1 ∙ append_assoc found (x.Typedef d ∷ []) o.0, AreTypedefs.more a t b d o.0 q.1 h (mark_is p.Comma t.kind yes) o.2)) (g r)))
@@ -78,7 +78,7 @@ typedefs_says n zero s ty found ts =
     let q = some_of (declaration s n nm.Required ty []) [] (λ a d. IsDeclared s nm.Required ty a d) (declaration_says s n nm.Required ty [] refl) in
     refused_says ts _ (q.0, (found ++ x.Typedef q.1 ∷ [], with_type s q.1.name), (x.Typedef q.1 ∷ [], refl, AreTypedefs.one q.0 q.1 q.2))
 typedefs_says n (suc j) s ty found ts = bind_says (declaration s n nm.Required ty ts) _ ts (λ a d. IsDeclared s nm.Required ty a d) _ (declaration_says s n nm.Required ty ts refl) (λ a d r h.
-    typedef_after s ty found a r d (typedefs_from (with_type s d.name) n j (bare ty) (found ++ x.Typedef d ∷ [])) h (λ ts. typedefs_says n j (with_type s d.name) (bare ty) (found ++ x.Typedef d ∷ []) ts))
+    typedef_after s ty found a r d (typedefs_from (with_type s d.name) n j (without_body ty) (found ++ x.Typedef d ∷ [])) h (λ ts. typedefs_says n j (with_type s d.name) (without_body ty) (found ++ x.Typedef d ∷ []) ts))
 
 -- ---- objects
 
@@ -111,15 +111,15 @@ module _ (s : TypeNames) (n : ℕ) (storage : Option Storage) where
   objects_says (suc j) ty found ts = bind_says (declarator s n nm.Required ts) _ ts (λ a d. IsDeclarator s nm.Required 0 a d) _ (sound_declarator s n nm.Required ts) (λ a d r h.
       bind_says (object_named s n storage ty d.name d.shapes r) _ r (λ b v. IsObject s storage ty (a ++ b) v) _ (by_name_says ty d.name d.shapes a r h) (λ b v z g.
       weaker _ z _ _ (λ c zs q. subst (λ y. (vs : List External) × (zs ≡ found ++ vs) × AreObjects s storage ty y vs) (append_assoc a b c) q)
-      (after_says (λ a vs. AreObjects s storage ty a vs) (objects_from s n storage j (bare ty) (found ++ v ∷ [])) found v (a ++ b) z (AreObjects.one (a ++ b) v g) (λ t u kind.
-      weaker (objects_from s n storage j (bare ty) (found ++ v ∷ []) u) u _ _ (λ c zs q. (q.0, q.1, AreObjects.more (a ++ b) t c v q.0 g kind q.2)) (objects_says j (bare ty) (found ++ v ∷ []) u)))))
+      (after_says (λ a vs. AreObjects s storage ty a vs) (objects_from s n storage j (without_body ty) (found ++ v ∷ [])) found v (a ++ b) z (AreObjects.one (a ++ b) v g) (λ t u kind.
+      weaker (objects_from s n storage j (without_body ty) (found ++ v ∷ []) u) u _ _ (λ c zs q. (q.0, q.1, AreObjects.more (a ++ b) t c v q.0 g kind q.2)) (objects_says j (without_body ty) (found ++ v ∷ []) u)))))
 
   objects_behind_says : (ty : TypeNode) (u : DeclaredName) (shapes : List Shape) (a r : List Lexeme) → IsDeclarator s nm.Required 0 a (record { name = Some u; shapes = shapes }) → Says (objects_behind s n storage ty u shapes r) r (λ b vs. AreObjects s storage ty (a ++ b) vs)
   unfolding objects_behind
   objects_behind_says ty u shapes a r h = bind_says (object_by s n storage ty u shapes r) _ r (λ b v. IsObject s storage ty (a ++ b) v) _ (object_says ty u shapes a r h) (λ b v z g.
       weaker _ z _ _ (λ c zs q. subst (λ y. AreObjects s storage ty y zs) (append_assoc a b c) (subst (λ y. AreObjects s storage ty ((a ++ b) ++ c) y) (sym q.1) q.2))
-      (after_says (λ a vs. AreObjects s storage ty a vs) (λ y. objects_from s n storage (length y) (bare ty) (v ∷ []) y) [] v (a ++ b) z (AreObjects.one (a ++ b) v g) (λ t y kind.
-      weaker (objects_from s n storage (length y) (bare ty) (v ∷ []) y) y _ _ (λ c zs q. (q.0, q.1, AreObjects.more (a ++ b) t c v q.0 g kind q.2)) (objects_says (length y) (bare ty) (v ∷ []) y))))
+      (after_says (λ a vs. AreObjects s storage ty a vs) (λ y. objects_from s n storage (length y) (without_body ty) (v ∷ []) y) [] v (a ++ b) z (AreObjects.one (a ++ b) v g) (λ t y kind.
+      weaker (objects_from s n storage (length y) (without_body ty) (v ∷ []) y) y _ _ (λ c zs q. (q.0, q.1, AreObjects.more (a ++ b) t c v q.0 g kind q.2)) (objects_says (length y) (without_body ty) (v ∷ []) y))))
 
   body_says : (ty : TypeNode) (d : Declaration) (a : List Lexeme) (l : Lexeme) (r : List Lexeme) → IsDeclared s nm.Required ty a d → l.kind ≡ k.Mark p.LeftBrace → Says (body_behind s n storage d r) r (λ b vs. IsBehind s storage ty (a ++ (l ∷ b)) vs)
   unfolding body_behind

@@ -28,7 +28,7 @@ use Rattle.c_grammar.specs.Classes.{infix_of, prefix_of, specifier_of}
 use Rattle.c_grammar.specs.Levels.{level_of}
 use Rattle.c_grammar.specs.WordSets.{no_words, with_word, basic_of}
 use Rattle.c_grammar.specs.Levels as levels
-use Rattle.c_grammar.specs.Tokens.{TypeNames, is_type, place}
+use Rattle.c_grammar.specs.Tokens.{TypeNames, is_type, token_place}
 use Rattle.c_grammar.specs.Types.{takes_name, may_be_nameless, nameless, with_shape, with_shapes, parameter_of, without_void, comma_of}
 
 -- any number of `const`
@@ -71,7 +71,7 @@ mutual
     character : {m : ℕ} (t : Lexeme) → m ≤ levels.primary → t.kind ≡ k.Char
         → IsExpr s m (t ∷ []) (e.Character t.at t.spelling)
     texts : {m : ℕ} (a : List Lexeme) (xs : List (List ℕ)) → m ≤ levels.primary → AreTexts a xs
-        → IsExpr s m a (e.Text (place a) xs)
+        → IsExpr s m a (e.Text (token_place a) xs)
     brackets : {m : ℕ} (l : Lexeme) (a : List Lexeme) (r : Lexeme) (x : Expr) → m ≤ levels.primary
         → l.kind ≡ k.Mark p.LeftParen → IsWhole s a x → r.kind ≡ k.Mark p.RightParen → IsExpr s m (l ∷ a ++ r ∷ []) x
     call : {m : ℕ} (t l : Lexeme) (a : List Lexeme) (r : Lexeme) (xs : List Expr) → m ≤ levels.primary
@@ -80,14 +80,15 @@ mutual
         → IsExpr s m (t ∷ l ∷ a ++ r ∷ []) (e.Call t.at t.spelling xs)
     index : {m : ℕ} (a : List Lexeme) (l : Lexeme) (b : List Lexeme) (r : Lexeme) (x z : Expr) → m ≤ levels.postfix
         → IsExpr s levels.postfix a x → l.kind ≡ k.Mark p.LeftBracket → IsWhole s b z → r.kind ≡ k.Mark p.RightBracket
-        → IsExpr s m (a ++ (l ∷ b ++ r ∷ [])) (e.Index (place a) x z)
+        → IsExpr s m (a ++ (l ∷ b ++ r ∷ [])) (e.Index (token_place a) x z)
     field : {m : ℕ} (a : List Lexeme) (t n : Lexeme) (x : Expr) → m ≤ levels.postfix → IsExpr s levels.postfix a x
-        → t.kind ≡ k.Mark p.Dot → n.kind ≡ k.Name → IsExpr s m (a ++ t ∷ n ∷ []) (e.Field (place a) x n.spelling)
+        → t.kind ≡ k.Mark p.Dot → n.kind ≡ k.Name → IsExpr s m (a ++ t ∷ n ∷ []) (e.Field (token_place a) x n.spelling)
     arrow : {m : ℕ} (a : List Lexeme) (t n : Lexeme) (x : Expr) → m ≤ levels.postfix → IsExpr s levels.postfix a x
-        → t.kind ≡ k.Mark p.Arrow → n.kind ≡ k.Name → IsExpr s m (a ++ t ∷ n ∷ []) (e.Arrow (place a) x n.spelling)
+        → t.kind ≡ k.Mark p.Arrow → n.kind ≡ k.Name → IsExpr s m (a ++ t ∷ n ∷ [])
+        (e.Arrow (token_place a) x n.spelling)
     postfix : {m : ℕ} (a : List Lexeme) (t : Lexeme) (op : StepOp) (x : Expr) → m ≤ levels.postfix
         → IsExpr s levels.postfix a x → infix_of t.kind ≡ i.Step op
-        → IsExpr s m (a ++ t ∷ []) (e.Postfix (place a) op x)
+        → IsExpr s m (a ++ t ∷ []) (e.Postfix (token_place a) op x)
     prefix_step : {m : ℕ} (t : Lexeme) (a : List Lexeme) (op : UnaryOp) (x : Expr) → m ≤ levels.unary
         → prefix_of t.kind ≡ f.Step op → IsExpr s levels.unary a x → IsExpr s m (t ∷ a) (e.Unary t.at op x)
     unary : {m : ℕ} (t : Lexeme) (a : List Lexeme) (op : UnaryOp) (x : Expr) → m ≤ levels.unary
@@ -105,19 +106,19 @@ mutual
     binary : {m : ℕ} (a : List Lexeme) (t : Lexeme) (b : List Lexeme) (op : BinaryOp) (x z : Expr) → m ≤ level_of op
         → infix_of t.kind ≡ i.Binary op
         → IsExpr s (level_of op) a x → IsExpr s (suc (level_of op)) b z
-        → IsExpr s m (a ++ t ∷ b) (e.Binary (place a) op x z)
+        → IsExpr s m (a ++ t ∷ b) (e.Binary (token_place a) op x z)
     conditional : {m : ℕ} (a : List Lexeme) (t : Lexeme) (b : List Lexeme) (r : Lexeme) (d : List Lexeme) (x v z : Expr)
         → m ≤ levels.conditional
         → IsExpr s levels.logical_or a x → t.kind ≡ k.Mark p.Question → IsWhole s b v → r.kind ≡ k.Mark p.Colon
-        → IsExpr s levels.conditional d z → IsExpr s m (a ++ (t ∷ b ++ r ∷ d)) (e.Conditional (place a) x v z)
+        → IsExpr s levels.conditional d z → IsExpr s m (a ++ (t ∷ b ++ r ∷ d)) (e.Conditional (token_place a) x v z)
     assignment : {m : ℕ} (a : List Lexeme) (t : Lexeme) (b : List Lexeme) (op : AssignOp) (x z : Expr)
         → m ≤ levels.assignment
         → IsExpr s levels.unary a x → infix_of t.kind ≡ i.Assign op → IsExpr s levels.assignment b z
-        → IsExpr s m (a ++ t ∷ b) (e.Assign (place a) op x z)
+        → IsExpr s m (a ++ t ∷ b) (e.Assign (token_place a) op x z)
 
   -- an expression with its commas
   pub data IsWhole (s : TypeNames) : List Lexeme → Expr → Type 0 where
-    commas : (a : List Lexeme) (xs : List Expr) → AreAssignments s a xs → IsWhole s a (comma_of (place a) xs)
+    commas : (a : List Lexeme) (xs : List Expr) → AreAssignments s a xs → IsWhole s a (comma_of (token_place a) xs)
 
   -- assignments with commas between, one or more
   pub data AreAssignments (s : TypeNames) : List Lexeme → List Expr → Type 0 where
@@ -133,7 +134,7 @@ mutual
   pub data IsTypeName (s : TypeNames) : List Lexeme → TypeName → Type 0 where
     type_name : (a b : List Lexeme) (ty : TypeNode) (d : Declarator) → IsPlain s a ty
         → IsDeclarator s nm.Refused 0 b d
-        → IsTypeName s (a ++ b) (record { at = place a; ty = with_shapes d.shapes ty })
+        → IsTypeName s (a ++ b) (record { at = token_place a; ty = with_shapes d.shapes ty })
 
   -- IsDeclarator s naming m ts d: at m = 1 the declarator begins with no star
   pub data IsDeclarator (s : TypeNames) : Naming → ℕ → List Lexeme → Declarator → Type 0 where
@@ -174,4 +175,4 @@ mutual
 
   pub data IsParameter (s : TypeNames) : List Lexeme → Parameter → Type 0 where
     parameter : (a b : List Lexeme) (ty : TypeNode) (d : Declarator) → IsPlain s a ty
-        → IsDeclarator s nm.Optional 0 b d → IsParameter s (a ++ b) (parameter_of (place a) ty d)
+        → IsDeclarator s nm.Optional 0 b d → IsParameter s (a ++ b) (parameter_of (token_place a) ty d)

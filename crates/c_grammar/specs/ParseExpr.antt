@@ -26,7 +26,7 @@ use Rattle.c_grammar.specs.Classes.{infix_of, prefix_of, specifier_of}
 use Rattle.c_grammar.specs.Levels.{level_of, binding_level, operand_level, result_level}
 use Rattle.c_grammar.specs.WordSets.{no_words, with_word, basic_of}
 use Rattle.c_grammar.specs.Levels as levels
-use Rattle.c_grammar.specs.Tokens.{TypeNames, place, is_mark, is_name, is_text, kind_at, spelling_at, behind, is_type_at, begins_type}
+use Rattle.c_grammar.specs.Tokens.{TypeNames, token_place, is_mark, is_name_token, is_text, kind_at, spelling_at, token_tail, is_type_at, begins_type}
 use Rattle.c_grammar.specs.Types.{takes_name, may_be_nameless, nameless, with_shape, with_shapes, parameter_of, without_void, comma_of}
 use Rattle.c_grammar.specs.Parser.{Parser, and_then, ◌>>=◌, pure, expect, consts}
 
@@ -52,13 +52,14 @@ word_or_end None go stop = stop
 unfoldable pub words_from : ℕ → WordSet → List Lexeme → SpecifierStart × List Lexeme
 words_from zero x ts = (start_of (basic_of x) c.Nothing, ts)
 words_from (suc j) x ts =
-    word_or_end (extend x (specifier_of (kind_at ts))) (λ v. words_from j v (behind ts))
+    word_or_end (extend x (specifier_of (kind_at ts))) (λ v. words_from j v (token_tail ts))
     (start_of (basic_of x) (specifier_of (kind_at ts)), ts)
 
 -- the name of a type
 unfoldable pub named_type : TypeNames → Parser TypeNode
 named_type s ts =
-    if is_type_at s ts then and_then (consts (length (behind ts)) (behind ts)) (λ _. pure (y.Named (spelling_at ts)))
+    if is_type_at s ts then and_then (consts (length (token_tail ts)) (token_tail ts))
+    (λ _. pure (y.Named (spelling_at ts)))
     else Err ts
 
 -- a tag behind its word
@@ -68,14 +69,14 @@ tag_type _ at name = y.Enum at (Some name) None
 
 unfoldable pub tag : Specifier → Parser TypeNode
 tag word ts =
-    if is_name (kind_at ts) then and_then (consts (length (behind ts)) (behind ts))
-    (λ _. pure (tag_type word (place ts) (spelling_at ts))) else Err ts
+    if is_name_token (kind_at ts) then and_then (consts (length (token_tail ts)) (token_tail ts))
+    (λ _. pure (tag_type word (token_place ts) (spelling_at ts))) else Err ts
 
 -- The specifier that starts so: `on` reads it behind `struct` or `enum`.
 abbrev pub specifier_behind : TypeNames → (Specifier → ℕ → Parser TypeNode) → SpecifierStart → Parser TypeNode
 specifier_behind s on (o.Basic b) ts = Ok (y.Basic b, ts)
-specifier_behind s on (o.Other c.Struct) ts = on c.Struct (place ts) (behind ts)
-specifier_behind s on (o.Other c.Enum) ts = on c.Enum (place ts) (behind ts)
+specifier_behind s on (o.Other c.Struct) ts = on c.Struct (token_place ts) (token_tail ts)
+specifier_behind s on (o.Other c.Enum) ts = on c.Enum (token_place ts) (token_tail ts)
 specifier_behind s on (o.Other c.Name) ts = named_type s ts
 specifier_behind s on (o.Other _) ts = Err ts
 
@@ -91,7 +92,7 @@ plain s ts = specifier_from s (λ word at. tag word) (length ts) no_words ts
 unfoldable pub texts_from : ℕ → List (List ℕ) → Parser (List (List ℕ))
 texts_from zero found ts = Ok (found, ts)
 texts_from (suc j) found ts =
-    if is_text (kind_at ts) then texts_from j (found ++ spelling_at ts ∷ []) (behind ts) else Ok (found, ts)
+    if is_text (kind_at ts) then texts_from j (found ++ spelling_at ts ∷ []) (token_tail ts) else Ok (found, ts)
 
 -- ---- expressions and declarators, over what is read a level below
 
@@ -99,11 +100,11 @@ texts_from (suc j) found ts =
 unfoldable pub list_from : {A : Type 0} → Parser A → ℕ → List A → Parser (List A)
 list_from item zero found ts = Err ts
 list_from item (suc j) found ts = and_then (item ts) (λ x r.
-    if is_mark p.Comma (kind_at r) then list_from item j (found ++ x ∷ []) (behind r) else Ok (found ++ x ∷ [], r))
+    if is_mark p.Comma (kind_at r) then list_from item j (found ++ x ∷ []) (token_tail r) else Ok (found ++ x ∷ [], r))
 
 -- the name of a member
 unfoldable pub member : Parser (List ℕ)
-member ts = if is_name (kind_at ts) then Ok (spelling_at ts, behind ts) else Err ts
+member ts = if is_name_token (kind_at ts) then Ok (spelling_at ts, token_tail ts) else Err ts
 
 -- where no name of a declarator stands
 abbrev pub no_name : Naming → Parser Declarator
@@ -113,35 +114,35 @@ no_name naming ts = if may_be_nameless naming then Ok (nameless, ts) else Err ts
 abbrev pub core_name : TypeNames → Naming → Parser Declarator
 core_name s naming ts =
     if takes_name naming (is_type_at s ts)
-    then Ok (record { name = Some (record { at = place ts; name = spelling_at ts }); shapes = [] }, behind ts)
+    then Ok (record { name = Some (record { at = token_place ts; name = spelling_at ts }); shapes = [] }, token_tail ts)
     else no_name naming ts
 
 module _ (s : TypeNames) (expr : ℕ → Parser Expr) (declarator : Naming → Parser Declarator) where
   -- an expression with its commas
   unfoldable pub whole : Parser Expr
-  whole ts = and_then (list_from (expr levels.assignment) (length ts) [] ts) (λ xs. pure (comma_of (place ts) xs))
+  whole ts = and_then (list_from (expr levels.assignment) (length ts) [] ts) (λ xs. pure (comma_of (token_place ts) xs))
 
   unfoldable pub type_name : Parser TypeName
   type_name ts =
       and_then (plain s ts) (λ ty. declarator nm.Refused
-      >>= λ d. pure (record { at = place ts; ty = with_shapes d.shapes ty }))
+      >>= λ d. pure (record { at = token_place ts; ty = with_shapes d.shapes ty }))
 
   unfoldable pub parameter : Parser Parameter
-  parameter ts = and_then (plain s ts) (λ ty. declarator nm.Optional >>= λ d. pure (parameter_of (place ts) ty d))
+  parameter ts = and_then (plain s ts) (λ ty. declarator nm.Optional >>= λ d. pure (parameter_of (token_place ts) ty d))
 
   -- behind the bracket, up to the one that closes it
   unfoldable pub arguments : Parser (List Expr)
-  arguments ts = if is_mark p.RightParen (kind_at ts) then Ok ([], behind ts)
+  arguments ts = if is_mark p.RightParen (kind_at ts) then Ok ([], token_tail ts)
       else and_then (list_from (expr levels.assignment) (length ts) [] ts) (λ xs. expect p.RightParen >>= λ _. pure xs)
 
   unfoldable pub parameters : Parser (List Parameter)
-  parameters ts = if is_mark p.RightParen (kind_at ts) then Ok ([], behind ts)
+  parameters ts = if is_mark p.RightParen (kind_at ts) then Ok ([], token_tail ts)
       else and_then (list_from parameter (length ts) [] ts) (λ xs. expect p.RightParen >>= λ _. pure xs)
 
   -- behind a name that is no type
   unfoldable pub behind_name : ℕ → List ℕ → Parser (Expr × ℕ)
   behind_name at name ts =
-      if is_mark p.LeftParen (kind_at ts) then and_then (arguments (behind ts))
+      if is_mark p.LeftParen (kind_at ts) then and_then (arguments (token_tail ts))
       (λ xs. pure (e.Call at name xs, levels.primary))
       else Ok ((e.Name at name, levels.primary), ts)
 
@@ -170,21 +171,22 @@ module _ (s : TypeNames) (expr : ℕ → Parser Expr) (declarator : Naming → P
   abbrev pub size_of : ℕ → Parser (Expr × ℕ)
   size_of at ts =
       if is_mark p.LeftParen (kind_at ts)
-      then (if begins_type s (behind ts) then size_of_type at (behind ts) else size_of_value at ts)
+      then (if begins_type s (token_tail ts) then size_of_type at (token_tail ts) else size_of_value at ts)
       else size_of_value at ts
 
   abbrev pub operand_by : ℕ → Prefix → Parser (Expr × ℕ)
-  operand_by least f.Name ts = if is_type_at s ts then Err ts else behind_name (place ts) (spelling_at ts) (behind ts)
-  operand_by least f.Number ts = Ok ((e.Number (place ts) (spelling_at ts), levels.primary), behind ts)
-  operand_by least f.Character ts = Ok ((e.Character (place ts) (spelling_at ts), levels.primary), behind ts)
+  operand_by least f.Name ts = if is_type_at s ts then Err ts else behind_name (token_place ts) (spelling_at ts)
+      (token_tail ts)
+  operand_by least f.Number ts = Ok ((e.Number (token_place ts) (spelling_at ts), levels.primary), token_tail ts)
+  operand_by least f.Character ts = Ok ((e.Character (token_place ts) (spelling_at ts), levels.primary), token_tail ts)
   operand_by least f.Text ts =
-      and_then (texts_from (length ts) [] ts) (λ xs. pure (e.Text (place ts) xs, levels.primary))
-  operand_by least f.Bracket ts = bracket_operand least (place ts) (behind ts)
+      and_then (texts_from (length ts) [] ts) (λ xs. pure (e.Text (token_place ts) xs, levels.primary))
+  operand_by least f.Bracket ts = bracket_operand least (token_place ts) (token_tail ts)
   operand_by least (f.Step op) ts =
-      and_then (expr levels.unary (behind ts)) (λ x. pure (e.Unary (place ts) op x, levels.unary))
+      and_then (expr levels.unary (token_tail ts)) (λ x. pure (e.Unary (token_place ts) op x, levels.unary))
   operand_by least (f.Unary op) ts =
-      and_then (expr levels.cast (behind ts)) (λ x. pure (e.Unary (place ts) op x, levels.unary))
-  operand_by least f.SizeOf ts = size_of (place ts) (behind ts)
+      and_then (expr levels.cast (token_tail ts)) (λ x. pure (e.Unary (token_place ts) op x, levels.unary))
+  operand_by least f.SizeOf ts = size_of (token_place ts) (token_tail ts)
   operand_by least f.Nothing ts = Err ts
 
   -- the front of an expression, and its level, which is no less than the least that is wanted
@@ -209,22 +211,22 @@ module _ (s : TypeNames) (expr : ℕ → Parser Expr) (declarator : Naming → P
   climb at least zero level left ts = Ok (left, ts)
   climb at least (suc j) level left ts = if nat_lt (binding_level (infix_of (kind_at ts))) least then Ok (left, ts)
       else if nat_lt level (operand_level (infix_of (kind_at ts))) then Err ts
-      else and_then (step_by (infix_of (kind_at ts)) at left (behind ts))
+      else and_then (step_by (infix_of (kind_at ts)) at left (token_tail ts))
       (climb at least j (result_level (infix_of (kind_at ts))))
 
   abbrev pub tight : ℕ → Parser Expr
-  tight least ts = and_then (operand least ts) (λ q r. climb (place ts) least (length r) q.1 q.0 r)
+  tight least ts = and_then (operand least ts) (λ q r. climb (token_place ts) least (length r) q.1 q.0 r)
 
   -- behind `[`
   unfoldable pub length_of : Declarator → Parser Declarator
-  length_of d ts = if is_mark p.RightBracket (kind_at ts) then Ok (with_shape d (h.Array None), behind ts)
+  length_of d ts = if is_mark p.RightBracket (kind_at ts) then Ok (with_shape d (h.Array None), token_tail ts)
       else and_then (expr levels.conditional ts)
       (λ x. expect p.RightBracket >>= λ _. pure (with_shape d (h.Array (Some x))))
 
   unfoldable pub suffixes : ℕ → Declarator → Parser Declarator
   suffixes zero d ts = Ok (d, ts)
-  suffixes (suc j) d ts = if is_mark p.LeftBracket (kind_at ts) then and_then (length_of d (behind ts)) (suffixes j)
-      else if is_mark p.LeftParen (kind_at ts) then and_then (parameters (behind ts))
+  suffixes (suc j) d ts = if is_mark p.LeftBracket (kind_at ts) then and_then (length_of d (token_tail ts)) (suffixes j)
+      else if is_mark p.LeftParen (kind_at ts) then and_then (parameters (token_tail ts))
       (λ xs. suffixes j (with_shape d (h.Takes (without_void xs))))
       else Ok (d, ts)
 
@@ -239,16 +241,17 @@ module _ (s : TypeNames) (expr : ℕ → Parser Expr) (declarator : Naming → P
 
   -- at a bracket: one of a declarator, or of parameters, which follow a missing name
   abbrev pub core_bracket : Naming → Parser Declarator
-  core_bracket naming ts = if is_mark p.Star (kind_at (behind ts)) then group_behind naming (behind (behind ts))
-      else if may_be_nameless naming then Ok (nameless, ts) else Err (behind ts)
+  core_bracket naming ts =
+      if is_mark p.Star (kind_at (token_tail ts)) then group_behind naming (token_tail (token_tail ts))
+      else if may_be_nameless naming then Ok (nameless, ts) else Err (token_tail ts)
 
   unfoldable pub core : Naming → Parser Declarator
-  core naming ts = if is_name (kind_at ts) then core_name s naming ts
+  core naming ts = if is_name_token (kind_at ts) then core_name s naming ts
       else if is_mark p.LeftParen (kind_at ts) then core_bracket naming ts
       else no_name naming ts
 
   abbrev pub shaping : Naming → Parser Declarator
-  shaping naming ts = if is_mark p.Star (kind_at ts) then pointer_declarator naming (behind ts)
+  shaping naming ts = if is_mark p.Star (kind_at ts) then pointer_declarator naming (token_tail ts)
       else and_then (core naming ts) (λ d r. suffixes (length r) d r)
 
 -- The number bounds how deep the functions go: as many as there are tokens are enough.

@@ -13,8 +13,8 @@ use Rattle.c_grammar.specs.declared.shapes.Naming.{Naming}
 use Rattle.c_grammar.specs.declared.shapes.Naming.TheVariants as nm
 use Rattle.c_grammar.specs.WordSets.{no_words}
 use Rattle.c_grammar.specs.Levels as levels
-use Rattle.c_grammar.specs.Tokens.{TypeNames, place, is_mark, is_name, kind_at, spelling_at, behind, is_type_at}
-use Rattle.c_grammar.specs.Types.{declaration_of, bare}
+use Rattle.c_grammar.specs.Tokens.{TypeNames, token_place, is_mark, is_name_token, kind_at, spelling_at, token_tail, is_type_at}
+use Rattle.c_grammar.specs.Types.{declaration_of, without_body}
 use Rattle.c_grammar.specs.Parser.{Parser, and_then, ◌>>=◌, pure, expect, consts}
 use Rattle.c_grammar.specs.ParseExpr.{specifier_from, tag_type, expr, declarator}
 
@@ -30,27 +30,28 @@ declaration s n naming ty ts = and_then (declarator s n naming ts) (λ d. named_
 unfoldable pub braced_list_from : {A : Type 0} → Parser A → ℕ → List A → Parser (List A)
 braced_list_from item zero found ts = Err ts
 braced_list_from item (suc j) found ts = and_then (item ts) (λ x r.
-    if is_mark p.Comma (kind_at r) then (if is_mark p.RightBrace (kind_at (behind r))
-    then Ok (found ++ x ∷ [], behind r) else braced_list_from item j (found ++ x ∷ []) (behind r))
+    if is_mark p.Comma (kind_at r) then (if is_mark p.RightBrace (kind_at (token_tail r))
+    then Ok (found ++ x ∷ [], token_tail r) else braced_list_from item j (found ++ x ∷ []) (token_tail r))
     else Ok (found ++ x ∷ [], r))
 
 module _ (s : TypeNames) (n : ℕ) where
   abbrev pub constant_value : ℕ → List ℕ → Parser Constant
   constant_value at name ts =
-      if is_mark p.Assign (kind_at ts) then and_then (expr s n levels.conditional (behind ts))
+      if is_mark p.Assign (kind_at ts) then and_then (expr s n levels.conditional (token_tail ts))
       (λ x. pure (record { at = at; name = name; value = Some x }))
       else Ok (record { at = at; name = name; value = None }, ts)
 
   unfoldable pub constant : Parser Constant
   constant ts =
-      if is_name (kind_at ts) then (if is_type_at s ts then Err ts else constant_value (place ts) (spelling_at ts)
-      (behind ts)) else Err ts
+      if is_name_token (kind_at ts) then (if is_type_at s ts then Err ts
+      else constant_value (token_place ts) (spelling_at ts)
+      (token_tail ts)) else Err ts
 
   -- the declarators of members
   unfoldable pub declarators_from : ℕ → TypeNode → List Declaration → Parser (List Declaration)
   declarators_from zero ty found ts = Err ts
   declarators_from (suc j) ty found ts = and_then (declaration s n nm.Member ty ts) (λ d r.
-      if is_mark p.Comma (kind_at r) then declarators_from j (bare ty) (found ++ d ∷ []) (behind r)
+      if is_mark p.Comma (kind_at r) then declarators_from j (without_body ty) (found ++ d ∷ []) (token_tail r)
       else Ok (found ++ d ∷ [], r))
 
   -- over specifiers that are read a level below
@@ -88,7 +89,8 @@ module _ (s : TypeNames) (n : ℕ) where
     -- behind `struct` or `enum`
     unfoldable pub tag_or_body : Specifier → ℕ → Parser TypeNode
     tag_or_body word at ts =
-        if is_name (kind_at ts) then behind_tag word (place ts) (spelling_at ts) (behind ts) else braces word at None ts
+        if is_name_token (kind_at ts) then behind_tag word (token_place ts) (spelling_at ts)
+        (token_tail ts) else braces word at None ts
 
 unfoldable pub specifier : TypeNames → ℕ → Parser TypeNode
 specifier s zero ts = Err ts

@@ -20,7 +20,7 @@ use Rattle.c_grammar.specs.declared.classes.Head.TheVariants as h
 use Rattle.c_grammar.specs.declared.shapes.Naming.TheVariants as nm
 use Rattle.c_grammar.specs.Classes.{head_of}
 use Rattle.c_grammar.specs.Levels as levels
-use Rattle.c_grammar.specs.Tokens.{TypeNames, place, is_mark, is_word, kind_at, behind, begins_type}
+use Rattle.c_grammar.specs.Tokens.{TypeNames, token_place, is_mark, is_keyword, kind_at, token_tail, begins_type}
 use Rattle.c_grammar.specs.Statements.{locals_of}
 use Rattle.c_grammar.specs.Parser.{Parser, and_then, ◌>>=◌, pure, expect, expect_word}
 use Rattle.c_grammar.specs.ParseExpr.{plain, list_from, whole, expr, declarator}
@@ -28,7 +28,8 @@ use Rattle.c_grammar.specs.ParseSpecifiers.{declaration}
 
 -- whether the statements under a label end here
 abbrev pub ends_section : List Lexeme → Bool
-ends_section ts = is_mark p.RightBrace (kind_at ts) || (is_word w.Case (kind_at ts) || is_word w.Default (kind_at ts))
+ends_section ts =
+    is_mark p.RightBrace (kind_at ts) || (is_keyword w.Case (kind_at ts) || is_keyword w.Default (kind_at ts))
 
 module _ (s : TypeNames) (n : ℕ) where
   -- an expression with its commas
@@ -37,7 +38,7 @@ module _ (s : TypeNames) (n : ℕ) where
 
   abbrev pub local_by : Declaration → Parser LocalDeclarator
   local_by d ts =
-      if is_mark p.Assign (kind_at ts) then and_then (expr s n levels.assignment (behind ts))
+      if is_mark p.Assign (kind_at ts) then and_then (expr s n levels.assignment (token_tail ts))
       (λ x. pure (record { declaration = d; init = Some x }))
       else Ok (record { declaration = d; init = None }, ts)
 
@@ -60,15 +61,15 @@ module _ (s : TypeNames) (n : ℕ) where
   first_value ts = and_then (expression ts) (λ x. expect p.Semicolon >>= λ _. pure (f.Value x))
 
   unfoldable pub first : Parser ForFirst
-  first ts = if is_mark p.Semicolon (kind_at ts) then Ok (f.Nothing, behind ts)
+  first ts = if is_mark p.Semicolon (kind_at ts) then Ok (f.Nothing, token_tail ts)
       else if begins_type s ts then and_then (line ts) (λ xs. pure (f.Locals xs)) else first_value ts
 
   unfoldable pub case_label : ℕ → Parser Label
   case_label at ts = and_then (expr s n levels.conditional ts) (λ x. expect p.Colon >>= λ _. pure (l.Case at x))
 
   unfoldable pub label : Parser Label
-  label ts = if is_word w.Case (kind_at ts) then case_label (place ts) (behind ts)
-      else and_then (expect_word w.Default ts) (λ _. expect p.Colon >>= λ _. pure (l.Default (place ts)))
+  label ts = if is_keyword w.Case (kind_at ts) then case_label (token_place ts) (token_tail ts)
+      else and_then (expect_word w.Default ts) (λ _. expect p.Colon >>= λ _. pure (l.Default (token_place ts)))
 
   -- behind `return`
   unfoldable pub return : ℕ → Parser Stmt
@@ -82,7 +83,7 @@ module _ (s : TypeNames) (n : ℕ) where
     -- what stands in a block, and the brace that closes it
     unfoldable pub items_from : ℕ → List Stmt → Parser (List Stmt)
     items_from zero found ts = Err ts
-    items_from (suc j) found ts = if is_mark p.RightBrace (kind_at ts) then Ok (found, behind ts)
+    items_from (suc j) found ts = if is_mark p.RightBrace (kind_at ts) then Ok (found, token_tail ts)
         else if begins_type s ts then and_then (line ts) (λ xs. items_from j (found ++ locals_of xs))
         else and_then (stmt ts) (λ x. items_from j (found ++ x ∷ []))
 
@@ -99,13 +100,13 @@ module _ (s : TypeNames) (n : ℕ) where
     unfoldable pub sections_from : ℕ → List Section → Parser (List Section)
     sections_from zero found ts = Err ts
     sections_from (suc j) found ts =
-        if is_mark p.RightBrace (kind_at ts) then Ok (found, behind ts) else and_then (section ts)
+        if is_mark p.RightBrace (kind_at ts) then Ok (found, token_tail ts) else and_then (section ts)
         (λ x. sections_from j (found ++ x ∷ []))
 
     -- behind the first branch
     unfoldable pub alternative : Expr → Stmt → Parser Stmt
     alternative x v ts =
-        if is_word w.Else (kind_at ts) then and_then (stmt (behind ts)) (λ z. pure (u.If x v (Some z)))
+        if is_keyword w.Else (kind_at ts) then and_then (stmt (token_tail ts)) (λ z. pure (u.If x v (Some z)))
         else Ok (u.If x v None, ts)
 
     unfoldable pub if_else : Parser Stmt
@@ -130,16 +131,16 @@ module _ (s : TypeNames) (n : ℕ) where
         (λ xs. pure (u.Switch x xs)))
 
     abbrev pub stmt_by : Head → Parser Stmt
-    stmt_by h.Block ts = and_then (items_from (length (behind ts)) [] (behind ts)) (λ xs. pure (u.Block xs))
-    stmt_by h.Empty ts = Ok (u.Empty, behind ts)
-    stmt_by h.If ts = if_else (behind ts)
-    stmt_by h.While ts = while (behind ts)
-    stmt_by h.Do ts = do_while (behind ts)
-    stmt_by h.For ts = for (behind ts)
-    stmt_by h.Switch ts = switch (behind ts)
-    stmt_by h.Break ts = and_then (expect p.Semicolon (behind ts)) (λ _. pure (u.Break (place ts)))
-    stmt_by h.Continue ts = and_then (expect p.Semicolon (behind ts)) (λ _. pure (u.Continue (place ts)))
-    stmt_by h.Return ts = return (place ts) (behind ts)
+    stmt_by h.Block ts = and_then (items_from (length (token_tail ts)) [] (token_tail ts)) (λ xs. pure (u.Block xs))
+    stmt_by h.Empty ts = Ok (u.Empty, token_tail ts)
+    stmt_by h.If ts = if_else (token_tail ts)
+    stmt_by h.While ts = while (token_tail ts)
+    stmt_by h.Do ts = do_while (token_tail ts)
+    stmt_by h.For ts = for (token_tail ts)
+    stmt_by h.Switch ts = switch (token_tail ts)
+    stmt_by h.Break ts = and_then (expect p.Semicolon (token_tail ts)) (λ _. pure (u.Break (token_place ts)))
+    stmt_by h.Continue ts = and_then (expect p.Semicolon (token_tail ts)) (λ _. pure (u.Continue (token_place ts)))
+    stmt_by h.Return ts = return (token_place ts) (token_tail ts)
     stmt_by h.Other ts = value ts
 
 unfoldable pub stmt : TypeNames → ℕ → Parser Stmt

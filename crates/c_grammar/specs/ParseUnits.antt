@@ -20,8 +20,8 @@ use Rattle.c_grammar.specs.declared.shapes.Declarator.{Declarator}
 use Rattle.c_grammar.specs.declared.shapes.Naming.TheVariants as nm
 use Rattle.c_grammar.specs.Classes.{opening_of}
 use Rattle.c_grammar.specs.Levels as levels
-use Rattle.c_grammar.specs.Tokens.{TypeNames, place, is_mark, kind_at, behind}
-use Rattle.c_grammar.specs.Types.{declaration_of, bare}
+use Rattle.c_grammar.specs.Tokens.{TypeNames, token_place, is_mark, kind_at, token_tail}
+use Rattle.c_grammar.specs.Types.{declaration_of, without_body}
 use Rattle.c_grammar.specs.Units.{is_function, external_of, with_type}
 use Rattle.c_grammar.specs.Parser.{ParseOutcome, Parser, and_then, ◌>>=◌, pure, expect}
 use Rattle.c_grammar.specs.ParseExpr.{expr, declarator}
@@ -38,7 +38,7 @@ module _ (s : TypeNames) (n : ℕ) (init : Parser Init) where
   init_value ts = and_then (expr s n levels.assignment ts) (λ v. pure (i.Value v))
 
   abbrev pub init_by : Parser Init
-  init_by ts = if is_mark p.LeftBrace (kind_at ts) then init_list (place ts) (behind ts) else init_value ts
+  init_by ts = if is_mark p.LeftBrace (kind_at ts) then init_list (token_place ts) (token_tail ts) else init_value ts
 
 unfoldable pub init : TypeNames → ℕ → Parser Init
 init s zero ts = Err ts
@@ -48,8 +48,9 @@ init s (suc n) ts = init_by s (suc n) (init s n) ts
 unfoldable pub typedefs_from : TypeNames → ℕ → ℕ → TypeNode → List External → Parser (List External × TypeNames)
 typedefs_from s n zero ty found ts = Err ts
 typedefs_from s n (suc j) ty found ts = and_then (declaration s n nm.Required ty ts) (λ d r.
-    if is_mark p.Comma (kind_at r) then typedefs_from (with_type s d.name) n j (bare ty) (found ++ x.Typedef d ∷ [])
-    (behind r)
+    if is_mark p.Comma (kind_at r) then typedefs_from (with_type s d.name) n j (without_body ty)
+    (found ++ x.Typedef d ∷ [])
+    (token_tail r)
     else Ok ((found ++ x.Typedef d ∷ [], with_type s d.name), r))
 
 unfoldable pub typedefs : TypeNames → ℕ → Parser (List External × TypeNames)
@@ -61,7 +62,7 @@ module _ (s : TypeNames) (n : ℕ) (storage : Option Storage) where
   -- behind a declarator
   unfoldable pub object_by : TypeNode → DeclaredName → List Shape → Parser External
   object_by ty u shapes ts =
-      if is_mark p.Assign (kind_at ts) then and_then (init s n (behind ts))
+      if is_mark p.Assign (kind_at ts) then and_then (init s n (token_tail ts))
       (λ v. pure (external_of (is_function shapes) (declaration_of ty u shapes) storage (Some v)))
       else Ok (external_of (is_function shapes) (declaration_of ty u shapes) storage None, ts)
 
@@ -73,13 +74,13 @@ module _ (s : TypeNames) (n : ℕ) (storage : Option Storage) where
   objects_from zero ty found ts = Err ts
   objects_from (suc j) ty found ts =
       and_then (declarator s n nm.Required ts) (λ d. object_named ty d.name d.shapes >>= λ v r.
-      if is_mark p.Comma (kind_at r) then objects_from j (bare ty) (found ++ v ∷ []) (behind r)
+      if is_mark p.Comma (kind_at r) then objects_from j (without_body ty) (found ++ v ∷ []) (token_tail r)
       else Ok (found ++ v ∷ [], r))
 
   -- behind the first declarator
   unfoldable pub objects_behind : TypeNode → DeclaredName → List Shape → Parser (List External)
   objects_behind ty u shapes ts = and_then (object_by ty u shapes ts) (λ v r.
-      if is_mark p.Comma (kind_at r) then objects_from (length (behind r)) (bare ty) (v ∷ []) (behind r)
+      if is_mark p.Comma (kind_at r) then objects_from (length (token_tail r)) (without_body ty) (v ∷ []) (token_tail r)
       else Ok (v ∷ [], r))
 
   -- behind the brace of a body
@@ -89,7 +90,7 @@ module _ (s : TypeNames) (n : ℕ) (storage : Option Storage) where
 
   unfoldable pub objects_named : TypeNode → DeclaredName → List Shape → Parser (List External)
   objects_named ty u shapes ts =
-      if is_mark p.LeftBrace (kind_at ts) then body_behind (declaration_of ty u shapes) (behind ts)
+      if is_mark p.LeftBrace (kind_at ts) then body_behind (declaration_of ty u shapes) (token_tail ts)
       else and_then (objects_behind ty u shapes ts) (λ vs. expect p.Semicolon >>= λ _. pure vs)
 
   abbrev pub objects_by : TypeNode → Declarator → Option DeclaredName → Parser (List External)
@@ -98,7 +99,7 @@ module _ (s : TypeNames) (n : ℕ) (storage : Option Storage) where
 
   -- behind the type
   unfoldable pub behind_type : TypeNode → Parser (List External)
-  behind_type ty ts = if is_mark p.Semicolon (kind_at ts) then Ok (x.Tags storage ty ∷ [], behind ts)
+  behind_type ty ts = if is_mark p.Semicolon (kind_at ts) then Ok (x.Tags storage ty ∷ [], token_tail ts)
       else and_then (declarator s n nm.Required ts) (λ d. objects_by ty d d.name)
 
   -- behind the storage word
@@ -106,9 +107,9 @@ module _ (s : TypeNames) (n : ℕ) (storage : Option Storage) where
   behind_storage ts = and_then (specifier s n ts) (λ ty. behind_type ty >>= λ vs. pure (vs, s))
 
 abbrev pub external_at : TypeNames → ℕ → Opening → Parser (List External × TypeNames)
-external_at s n o.Typedef ts = typedefs s n (behind ts)
-external_at s n o.Static ts = behind_storage s n (Some g.Static) (behind ts)
-external_at s n o.Extern ts = behind_storage s n (Some g.Extern) (behind ts)
+external_at s n o.Typedef ts = typedefs s n (token_tail ts)
+external_at s n o.Static ts = behind_storage s n (Some g.Static) (token_tail ts)
+external_at s n o.Extern ts = behind_storage s n (Some g.Extern) (token_tail ts)
 external_at s n o.Other ts = behind_storage s n None ts
 
 unfoldable pub external : TypeNames → ℕ → Parser (List External × TypeNames)

@@ -5,7 +5,7 @@ use Rattle.c_lexer.specs.declared.token.Keyword.TheVariants as w
 use Rattle.c_lexer.specs.declared.token.Keyword.{Keyword}
 use Rattle.c_lexer.specs.declared.token.Punct.{Punct}
 use Rattle.c_lexer.specs.Pieces.{Lexeme}
-use Rattle.c_grammar.specs.Tokens.{is_mark, is_word, kind_at, behind}
+use Rattle.c_grammar.specs.Tokens.{is_mark, is_keyword, kind_at, token_tail}
 
 abbrev pub ParseOutcome : Type 0 → Type 0
 ParseOutcome A = Result (A × List Lexeme) (List Lexeme)
@@ -29,12 +29,12 @@ abbrev pub pure : {A : Type 0} → A → Parser A
 pure a = λ ts. Ok (a, ts)
 
 unfoldable pub expect : Punct → Parser (Unit {0})
-expect mark ts = if is_mark mark (kind_at ts) then Ok (tt, behind ts) else Err ts
+expect mark ts = if is_mark mark (kind_at ts) then Ok (tt, token_tail ts) else Err ts
 
 unfoldable pub expect_word : Keyword → Parser (Unit {0})
-expect_word word ts = if is_word word (kind_at ts) then Ok (tt, behind ts) else Err ts
+expect_word word ts = if is_keyword word (kind_at ts) then Ok (tt, token_tail ts) else Err ts
 
 -- the words `const` that stand here
 unfoldable pub consts : ℕ → Parser (Unit {0})
 consts zero ts = Ok (tt, ts)
-consts (suc j) ts = if is_word w.Const (kind_at ts) then consts j (behind ts) else Ok (tt, ts)
+consts (suc j) ts = if is_keyword w.Const (kind_at ts) then consts j (token_tail ts) else Ok (tt, ts)

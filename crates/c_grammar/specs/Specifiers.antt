@@ -15,7 +15,7 @@ use Rattle.c_grammar.specs.declared.shapes.Naming.{Naming}
 use Rattle.c_grammar.specs.declared.shapes.Naming.TheVariants as nm
 use Rattle.c_grammar.specs.Levels as levels
 use Rattle.c_grammar.specs.Tokens.{TypeNames, is_type}
-use Rattle.c_grammar.specs.Types.{declaration_of, bare}
+use Rattle.c_grammar.specs.Types.{declaration_of, without_body}
 use Rattle.c_grammar.specs.Grammar.{AreConsts, IsPlain, IsExpr, IsDeclarator}
 
 -- the tag behind its word, if there is one: its place and name
@@ -34,7 +34,7 @@ pub data AreDeclared (s : TypeNames) : TypeNode → List Lexeme → List Declara
   one : {ty : TypeNode} (a : List Lexeme) (d : Declaration) → IsDeclared s nm.Member ty a d
       → AreDeclared s ty a (d ∷ [])
   more : {ty : TypeNode} (a : List Lexeme) (t : Lexeme) (b : List Lexeme) (d : Declaration) (ds : List Declaration)
-      → IsDeclared s nm.Member ty a d → t.kind ≡ k.Mark p.Comma → AreDeclared s (bare ty) b ds
+      → IsDeclared s nm.Member ty a d → t.kind ≡ k.Mark p.Comma → AreDeclared s (without_body ty) b ds
       → AreDeclared s ty (a ++ t ∷ b) (d ∷ ds)
 
 -- an enumeration constant

@@ -23,21 +23,21 @@ abbrev pub is_type : TypeNames → Lexeme → Bool
 is_type s t = is_type_name s t.spelling
 
 -- where the first of the tokens stands
-abbrev pub place : List Lexeme → ℕ
-place [] = 0
-place (t ∷ ts) = t.at
+abbrev pub token_place : List Lexeme → ℕ
+token_place [] = 0
+token_place (t ∷ ts) = t.at
 
 abbrev pub is_mark : Punct → TokenKind → Bool
 is_mark p (k.Mark q) = sameb punct.the_type q p
 is_mark p _ = false
 
-abbrev pub is_word : Keyword → TokenKind → Bool
-is_word w (k.Word v) = sameb keyword.the_type v w
-is_word w _ = false
+abbrev pub is_keyword : Keyword → TokenKind → Bool
+is_keyword w (k.Word v) = sameb keyword.the_type v w
+is_keyword w _ = false
 
-abbrev pub is_name : TokenKind → Bool
-is_name k.Name = true
-is_name _ = false
+abbrev pub is_name_token : TokenKind → Bool
+is_name_token k.Name = true
+is_name_token _ = false
 
 abbrev pub is_text : TokenKind → Bool
 is_text k.Text = true
@@ -52,9 +52,9 @@ abbrev pub spelling_at : List Lexeme → List ℕ
 spelling_at [] = []
 spelling_at (t ∷ ts) = t.spelling
 
-abbrev pub behind : List Lexeme → List Lexeme
-behind [] = []
-behind (t ∷ ts) = ts
+abbrev pub token_tail : List Lexeme → List Lexeme
+token_tail [] = []
+token_tail (t ∷ ts) = ts
 
 abbrev pub is_type_at : TypeNames → List Lexeme → Bool
 is_type_at s ts = is_type_name s (spelling_at ts)

@@ -44,10 +44,10 @@ with_shapes [] ty = ty
 with_shapes (s ∷ ss) ty = with_one_shape s (with_shapes ss ty)
 
 -- the type of the further declarators of a declaration: the body stands under the first alone
-abbrev pub bare : TypeNode → TypeNode
-bare (y.Enum' at tag constants) = y.Enum at tag None
-bare (y.Struct' at tag members) = y.Struct at tag None
-bare ty = ty
+abbrev pub without_body : TypeNode → TypeNode
+without_body (y.Enum' at tag constants) = y.Enum at tag None
+without_body (y.Struct' at tag members) = y.Struct at tag None
+without_body ty = ty
 
 abbrev pub declaration_of : TypeNode → DeclaredName → List Shape → Declaration
 declaration_of ty n shapes = record { at = n.at; name = n.name; ty = with_shapes shapes ty }

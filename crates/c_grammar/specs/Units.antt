@@ -23,7 +23,7 @@ use Rattle.c_grammar.specs.declared.shapes.DeclaredName.{DeclaredName}
 use Rattle.c_grammar.specs.declared.shapes.Naming.TheVariants as nm
 use Rattle.c_grammar.specs.Levels as levels
 use Rattle.c_grammar.specs.Tokens.{TypeNames}
-use Rattle.c_grammar.specs.Types.{declaration_of, bare}
+use Rattle.c_grammar.specs.Types.{declaration_of, without_body}
 use Rattle.c_grammar.specs.Grammar.{IsExpr, IsDeclarator}
 use Rattle.c_grammar.specs.Specifiers.{IsDeclared, IsSpecifier}
 use Rattle.c_grammar.specs.Statements.{AreItems}
@@ -78,7 +78,7 @@ pub data AreObjects (s : TypeNames) (storage : Option Storage) : TypeNode → Li
   one : {ty : TypeNode} (a : List Lexeme) (v : External) → IsObject s storage ty a v
       → AreObjects s storage ty a (v ∷ [])
   more : {ty : TypeNode} (a : List Lexeme) (t : Lexeme) (b : List Lexeme) (v : External) (vs : List External)
-      → IsObject s storage ty a v → t.kind ≡ k.Mark p.Comma → AreObjects s storage (bare ty) b vs
+      → IsObject s storage ty a v → t.kind ≡ k.Mark p.Comma → AreObjects s storage (without_body ty) b vs
       → AreObjects s storage ty (a ++ t ∷ b) (v ∷ vs)
 
 -- the names with one more
@@ -91,7 +91,8 @@ pub data AreTypedefs : TypeNames → TypeNode → List Lexeme → List External 
       → AreTypedefs s ty a (x.Typedef d ∷ []) (with_type s d.name)
   more : {s : TypeNames} {ty : TypeNode} (a : List Lexeme) (t : Lexeme) (b : List Lexeme) (d : Declaration)
       (vs : List External) (z : TypeNames)
-      → IsDeclared s nm.Required ty a d → t.kind ≡ k.Mark p.Comma → AreTypedefs (with_type s d.name) (bare ty) b vs z
+      → IsDeclared s nm.Required ty a d → t.kind ≡ k.Mark p.Comma →
+      AreTypedefs (with_type s d.name) (without_body ty) b vs z
       → AreTypedefs s ty (a ++ t ∷ b) (x.Typedef d ∷ vs) z
 
 -- one external declaration, from names to names

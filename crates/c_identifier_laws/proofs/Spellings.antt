@@ -9,13 +9,13 @@ use Rattle.c_lexer.specs.declared.token.Keyword.{Keyword}
 use Rattle.c_lexer.specs.declared.token.Punct.{Punct}
 use Rattle.c_lexer.specs.declared.piece.Piece.{Piece}
 use Rattle.c_lexer.specs.declared.piece.Piece.TheVariants as p
-use Rattle.c_lexer.specs.Bytes.{is_blank, is_letter, is_digit, is_word, is_run, is_inner}
+use Rattle.c_lexer.specs.Bytes.{is_blank, is_letter, is_digit, is_word_byte, is_run, is_inner}
 use Rattle.c_lexer.specs.Numbers.{is_number}
 use Rattle.c_lexer.specs.Literals.{char_end, text_end}
 use Rattle.c_lexer.specs.Blanks.{is_linemarker}
 use Rattle.c_lexer.specs.Marks.{mark_of}
 use Rattle.c_lexer.specs.Words.{keyword_of, kind_by}
-use Rattle.c_lexer.specs.Pieces.{is_at, is_comment, when, mark_piece, piece_of, Lexeme, Pieces, Toks, Tokens}
+use Rattle.c_lexer.specs.Pieces.{is_at, is_comment, piece_if, mark_piece, piece_of, Lexeme, Pieces, Toks, Tokens}
 use Rattle.c_identifier_laws.specs.Identifiers.{IsIdentifier}
 
 -- ---- truth values
@@ -37,7 +37,7 @@ is_name (Some (p.Token kind)) = is_name_kind kind
 is_name _ = false
 
 -- of the choices that lead to no name
-when_no : {X : Type 0} (b : Bool) (x : Piece) → is_name (Some x) ≡ false → IsTrue (is_name (when b x)) → X
+when_no : {X : Type 0} (b : Bool) (x : Piece) → is_name (Some x) ≡ false → IsTrue (is_name (piece_if b x)) → X
 when_no true x e h = no_true (sym e ∙ h)
 when_no false x e h = no_true h
 
@@ -55,15 +55,15 @@ free_word : (o : Option Keyword) → IsTrue (is_name_kind (kind_by o)) → o ≡
 free_word None h = refl
 free_word (Some word) h = no_true h
 
-spelled : (b : ℕ) (bytes : List ℕ) (letter all : Bool) → is_letter b ≡ letter → list_all is_word bytes ≡ all → IsTrue letter → IsTrue (is_name (when all (p.Token (kind_by (keyword_of (b ∷ bytes)))))) → IsIdentifier (b ∷ bytes)
+spelled : (b : ℕ) (bytes : List ℕ) (letter all : Bool) → is_letter b ≡ letter → list_all is_word_byte bytes ≡ all → IsTrue letter → IsTrue (is_name (piece_if all (p.Token (kind_by (keyword_of (b ∷ bytes)))))) → IsIdentifier (b ∷ bytes)
 spelled b bytes letter true e g first h = record {
-  letters = also (is_letter b) (list_all is_word bytes) (e ∙ first) g;
+  letters = also (is_letter b) (list_all is_word_byte bytes) (e ∙ first) g;
   no_keyword = free_word (keyword_of (b ∷ bytes)) h;
 }
 spelled b bytes letter false e g first h = no_true h
 
 -- what is no letter begins no name
-other : {X : Type 0} (b : ℕ) (s : List ℕ) → IsTrue (is_name (if is_digit b then when (list_all is_run s && is_number (b ∷ s)) (p.Token k.Number) else if b == 39 then when (is_at (char_end s) (length s)) (p.Token k.Char) else if b == 34 then when (is_at (text_end s) (length s)) (p.Token k.Text) else if b == 35 then when (list_all is_inner s && is_linemarker s) p.Blank else if b == 47 && is_comment s then Some p.Blank else mark_piece (b ∷ s))) → X
+other : {X : Type 0} (b : ℕ) (s : List ℕ) → IsTrue (is_name (if is_digit b then piece_if (list_all is_run s && is_number (b ∷ s)) (p.Token k.Number) else if b == 39 then piece_if (is_at (char_end s) (length s)) (p.Token k.Char) else if b == 34 then piece_if (is_at (text_end s) (length s)) (p.Token k.Text) else if b == 35 then piece_if (list_all is_inner s && is_linemarker s) p.Blank else if b == 47 && is_comment s then Some p.Blank else mark_piece (b ∷ s))) → X
 other b s =
     passed (is_digit b) _ _ (when_no (list_all is_run s && is_number (b ∷ s)) (p.Token k.Number) refl)
     (passed (b == 39) _ _ (when_no (is_at (char_end s) (length s)) (p.Token k.Char) refl)
@@ -76,8 +76,8 @@ unfolding piece_of
 name_spelled [] h = no_true h
 name_spelled (b ∷ s) h = passed (is_blank b) _ _ (when_no (list_all is_blank s) p.Blank refl) (letter (is_letter b) refl) h
   where
-    letter : (x : Bool) → is_letter b ≡ x → IsTrue (is_name (if x then when (list_all is_word s) (p.Token (kind_by (keyword_of (b ∷ s)))) else if is_digit b then when (list_all is_run s && is_number (b ∷ s)) (p.Token k.Number) else if b == 39 then when (is_at (char_end s) (length s)) (p.Token k.Char) else if b == 34 then when (is_at (text_end s) (length s)) (p.Token k.Text) else if b == 35 then when (list_all is_inner s && is_linemarker s) p.Blank else if b == 47 && is_comment s then Some p.Blank else mark_piece (b ∷ s))) → IsIdentifier (b ∷ s)
-    letter true e h = spelled b s true (list_all is_word s) e refl refl h
+    letter : (x : Bool) → is_letter b ≡ x → IsTrue (is_name (if x then piece_if (list_all is_word_byte s) (p.Token (kind_by (keyword_of (b ∷ s)))) else if is_digit b then piece_if (list_all is_run s && is_number (b ∷ s)) (p.Token k.Number) else if b == 39 then piece_if (is_at (char_end s) (length s)) (p.Token k.Char) else if b == 34 then piece_if (is_at (text_end s) (length s)) (p.Token k.Text) else if b == 35 then piece_if (list_all is_inner s && is_linemarker s) p.Blank else if b == 47 && is_comment s then Some p.Blank else mark_piece (b ∷ s))) → IsIdentifier (b ∷ s)
+    letter true e h = spelled b s true (list_all is_word_byte s) e refl refl h
     letter false e h = other b s h
 
 -- ---- tokens

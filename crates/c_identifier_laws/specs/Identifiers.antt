@@ -1,7 +1,7 @@
 -- Identifiers (C99 6.4.2.1), and the names that declarations at file scope have.
 use Rattle.std.specs.Prelude.{◌≡◌, ℕ, Bool, false, ◌&&◌, IsTrue, List, [], ◌∷◌, None}
 use Rattle.std.specs.List.{list_all}
-use Rattle.c_lexer.specs.Bytes.{is_letter, is_word}
+use Rattle.c_lexer.specs.Bytes.{is_letter, is_word_byte}
 use Rattle.c_lexer.specs.Words.{keyword_of}
 use Rattle.c_tree.specs.declared.declarations.External.{External}
 use Rattle.c_tree.specs.declared.declarations.External.TheVariants.{Typedef, Object, Function, Tags}
@@ -9,7 +9,7 @@ use Rattle.c_tree.specs.declared.declarations.External.TheVariants.{Typedef, Obj
 -- a letter or `_`, then letters, digits and `_`
 abbrev pub has_letters : List ℕ → Bool
 has_letters [] = false
-has_letters (b ∷ bytes) = is_letter b && list_all is_word bytes
+has_letters (b ∷ bytes) = is_letter b && list_all is_word_byte bytes
 
 -- which are no keyword
 pub record IsIdentifier (name : List ℕ) : Type 0 where

@@ -13,12 +13,12 @@ use Rattle.c_typed_tree.specs.Constants.{constant}
 use Rattle.c_typed_tree.specs.Typing.{Context, is_array, is_pointer, is_fit, has_global_type, has_rule, is_typed}
 use Rattle.c_constants.specs.Null.{is_null_void}
 use Rattle.c_constant_rules.specs.declared.addresses.Address.{Address}
-use Rattle.c_constant_rules.specs.Addresses.{object_start, named_array, address_of_operand, forward, backward, goes_back, magnitude, target_size, move_pointer, direction, moved_either, place, address_constant}
+use Rattle.c_constant_rules.specs.Addresses.{object_start, named_array, address_of_operand, address_after, address_before, goes_back, magnitude, target_size, move_pointer, direction, moved_either, constant_place, address_constant}
 use Rattle.c_type_rules.specs.declared.typed.TypedExpression.{TypedExpression}
 use Rattle.c_type_rules.specs.Values.{integer}
 use Rattle.data_object.specs.declared.DataObject.{DataObject}
 use Rattle.c_initial_values.specs.declared.values.InitialValue.{InitialValue}
-use Rattle.c_initial_values.specs.Values.{word_value, address_value, value_by, value_or_fault, initial_value}
+use Rattle.c_initial_values.specs.Values.{word_value, address_value, value_by, initial_or_fault, initial_value}
 use Rattle.c_type_laws.specs.Typed.{AreKnown, IsTypedIn}
 use Rattle.c_type_laws.proofs.Truth.{no_true, front, back, given_some}
 use Rattle.c_type_laws.proofs.Types.{known_size}
@@ -66,12 +66,12 @@ module _ (c : Context) (ds : List StructDef) (known : AreKnown ds c.structs) whe
 
   -- ---- steps
 
-  forward_there : (a : Address) (n : ℕ) → Is a → IfSome (forward a n) Is
+  forward_there : (a : Address) (n : ℕ) → Is a → IfSome (address_after a n) Is
   forward_there a n h =
       given_some Is (nat_le n (a.size - a.plus)) (Some (record { global = a.global; size = a.size; plus = a.plus + n })) None
       (λ k. let room : n ≤ a.size - a.plus = leb-true n (a.size - a.plus) k in let low : a.plus ≤ a.size = h.within in record { there = h.there; within = omega arith }) (λ k. tt)
 
-  backward_there : (a : Address) (n : ℕ) → Is a → IfSome (backward a n) Is
+  backward_there : (a : Address) (n : ℕ) → Is a → IfSome (address_before a n) Is
   backward_there a n h =
       given_some Is (nat_le n a.plus) (Some (record { global = a.global; size = a.size; plus = a.plus - n })) None
       (λ k. let low : a.plus ≤ a.size = h.within in record { there = h.there; within = omega arith }) (λ k. tt)
@@ -82,7 +82,7 @@ module _ (c : Context) (ds : List StructDef) (known : AreKnown ds c.structs) whe
   moved_there (Some a) (Some size) turned None word h = tt
   moved_there (Some a) (Some size) turned (Some t) None h = tt
   moved_there (Some a) (Some size) turned (Some t) (Some word) h =
-      given_some Is (goes_back turned t word) (backward a (size * magnitude t word)) (forward a (size * magnitude t word)) (λ k. backward_there a (size * magnitude t word) h) (λ k. forward_there a (size * magnitude t word) h)
+      given_some Is (goes_back turned t word) (address_before a (size * magnitude t word)) (address_after a (size * magnitude t word)) (λ k. backward_there a (size * magnitude t word) h) (λ k. forward_there a (size * magnitude t word) h)
 
   either_there : (d : Option Bool) (x y : Expr) (a b : Option Address) → IfSome a Is → IfSome b Is → IfSome (moved_either ds d x y a b) Is
   either_there None x y a b h g = tt
@@ -92,12 +92,12 @@ module _ (c : Context) (ds : List StructDef) (known : AreKnown ds c.structs) whe
 
   -- ---- address constants
 
-  place_there : (x : Expr) → IsTrue (is_typed c x) → IfSome (place ds x) Is
+  place_there : (x : Expr) → IsTrue (is_typed c x) → IfSome (constant_place ds x) Is
   place_there (Unary ty op x) h = operand_there op x (back (is_fit c.structs ty && has_rule c (Unary ty op x)) (is_typed c x) h)
   place_there (Convert ty x) h = array_there x (back (is_fit c.structs ty && has_rule c (Convert ty x)) (is_typed c x) h)
   place_there (Binary ty op x y) h =
       let own = is_fit c.structs ty && has_rule c (Binary ty op x y) in
-      either_there (direction op) x y (place ds x) (place ds y) (place_there x (back own (is_typed c x) (front (own && is_typed c x) (is_typed c y) h))) (place_there y (back (own && is_typed c x) (is_typed c y) h))
+      either_there (direction op) x y (constant_place ds x) (constant_place ds y) (place_there x (back own (is_typed c x) (front (own && is_typed c x) (is_typed c y) h))) (place_there y (back (own && is_typed c x) (is_typed c y) h))
   place_there (Global ty number) h = tt
   place_there (Number ty n) h = tt
   place_there (Local ty k) h = tt
@@ -113,7 +113,7 @@ module _ (c : Context) (ds : List StructDef) (known : AreKnown ds c.structs) whe
 
   constant_there : (x : Expr) → IsTrue (is_typed c x) → IfSome (address_constant ds x) Is
   constant_there (Convert ty x) h =
-      given_some Is (is_pointer (type_of x)) (place ds x) (place ds (Convert ty x)) (λ k. place_there x (back (is_fit c.structs ty && has_rule c (Convert ty x)) (is_typed c x) h)) (λ k. place_there (Convert ty x) h)
+      given_some Is (is_pointer (type_of x)) (constant_place ds x) (constant_place ds (Convert ty x)) (λ k. place_there x (back (is_fit c.structs ty && has_rule c (Convert ty x)) (is_typed c x) h)) (λ k. place_there (Convert ty x) h)
   constant_there (Unary ty op x) h = place_there (Unary ty op x) h
   constant_there (Binary ty op x y) h = place_there (Binary ty op x y) h
   constant_there (Global ty number) h = tt
@@ -146,7 +146,7 @@ module _ (c : Context) (ds : List StructDef) (known : AreKnown ds c.structs) whe
   by_there None x h = given_some IsValue (is_null_void x) _ (address_value (address_constant ds x)) (λ k. tt) (λ k. address_value_there (address_constant ds x) (constant_there x h))
   by_there (Some t) x h = word_value_there t (constant x)
 
-  or_fault : (at : ℕ) (o : Option InitialValue) → IfSome o IsValue → IfOk (value_or_fault at o) IsValue
+  or_fault : (at : ℕ) (o : Option InitialValue) → IfSome o IsValue → IfOk (initial_or_fault at o) IsValue
   or_fault at None h = tt
   or_fault at (Some v) h = h
 

@@ -13,7 +13,7 @@ use Rattle.data_object.specs.declared.DataCell.TheVariants.{Byte, AddressPart}
 use Rattle.data_object.specs.Globals.{Reaches, StandsWhole}
 use Rattle.c_initial_values.specs.declared.values.InitialValue.{InitialValue}
 use Rattle.c_initial_values.specs.declared.values.InitialValue.TheVariants as v
-use Rattle.c_initial_values.specs.Cells.{zero_cells, word_cells, address_cells, value_cells, text_cells, reach, put}
+use Rattle.c_initial_values.specs.Cells.{zero_cells, word_cells, address_cells, value_cells, text_cells, reach, place_piece}
 use Rattle.c_initial_value_laws.specs.Cells.{ObjectHasSize, IsAddressIn, IsValueIn, IsCellIn, AreInitialCells, AreBytes}
 use Rattle.c_initial_value_laws.specs.Laws.{IsMultiple, IsPlaceFor, value_size}
 
@@ -106,9 +106,9 @@ module _ (globals : List DataObject) where
   shorter : (end later : ℕ) (cells : List DataCell) → end ≤ later → AreInitialCells globals end cells → AreInitialCells globals later cells
   shorter end later cells less h = record { within = let w : length cells ≤ end = h.within in omega arith; lawful = h.lawful }
 
-  bytes_put : (place size : ℕ) (piece cells : List DataCell) → HoldBytes piece → length piece ≤ size → AreInitialCells globals place cells → AreInitialCells globals (place + size) (put place piece cells)
+  bytes_put : (place size : ℕ) (piece cells : List DataCell) → HoldBytes piece → length piece ≤ size → AreInitialCells globals place cells → AreInitialCells globals (place + size) (place_piece place piece cells)
   bytes_put place size piece cells g less h =
-      shorter (place + length piece) (place + size) (put place piece cells) (omega arith) (more_bytes place (reach place cells) piece (reached place cells h).cells_lawful g)
+      shorter (place + length piece) (place + size) (place_piece place piece cells) (omega arith) (more_bytes place (reach place cells) piece (reached place cells h).cells_lawful g)
 
   -- ---- addresses
 
@@ -153,10 +153,10 @@ module _ (globals : List DataObject) where
           let less = few_parts a k x f in
           subst (IsCellIn globals (xs ++ address_cells a) at) (same_Some (AddressPart a.global a.plus k) x (sym (part_of a k less) ∙ f)) (one at k e less)
 
-  address_put : (place : ℕ) (a : Address) (cells : List DataCell) → IsMultiple 8 place → IsAddressIn globals a → AreInitialCells globals place cells → AreInitialCells globals (place + 8) (put place (address_cells a) cells)
+  address_put : (place : ℕ) (a : Address) (cells : List DataCell) → IsMultiple 8 place → IsAddressIn globals a → AreInitialCells globals place cells → AreInitialCells globals (place + 8) (place_piece place (address_cells a) cells)
   address_put place a cells m there h =
       let r = reached place cells h in
-      subst (λ n. AreInitialCells globals (n + 8) (put place (address_cells a) cells)) (sym m.same)
+      subst (λ n. AreInitialCells globals (n + 8) (place_piece place (address_cells a) cells)) (sym m.same)
       (address_more m.times (reach place cells) a (r.far ∙ m.same) there (subst (λ n. AreInitialCells globals n (reach place cells)) m.same r.cells_lawful))
 
   word_length : (count word : ℕ) → length (word_cells count word) ≡ count
@@ -164,7 +164,7 @@ module _ (globals : List DataObject) where
   word_length (suc count) word = ap suc (word_length count (word / 256))
 
   put_value : (to : Option IntegerType) (value : InitialValue) (place : ℕ) (cells : List DataCell) → IsValueIn globals value → IsPlaceFor to place → AreInitialCells globals place cells
-      → AreInitialCells globals (place + value_size to) (put place (value_cells to value) cells)
+      → AreInitialCells globals (place + value_size to) (place_piece place (value_cells to value) cells)
   put_value None (v.Word t word) place cells there m h = bytes_put place 8 (zero_cells 8) cells (zeros_bytes 8) (omega arith) h
   put_value None v.Null place cells there m h = bytes_put place 8 (zero_cells 8) cells (zeros_bytes 8) (omega arith) h
   put_value None (v.Address a) place cells there m h = address_put place a cells m there h
@@ -179,9 +179,9 @@ module _ (globals : List DataObject) where
   text_length (suc room) (b ∷ text) = omega (arith, text_length room text)
 
 pub value_put : (globals : List DataObject) (to : Option IntegerType) (value : InitialValue) (place : ℕ) (cells : List DataCell) → IsValueIn globals value → IsPlaceFor to place → AreInitialCells globals place cells
-    → AreInitialCells globals (place + value_size to) (put place (value_cells to value) cells)
+    → AreInitialCells globals (place + value_size to) (place_piece place (value_cells to value) cells)
 value_put globals to value place cells there m h = put_value globals to value place cells there m h
 
 pub text_put : (globals : List DataObject) (room : ℕ) (text : List ℕ) (place : ℕ) (cells : List DataCell) → AreBytes text → AreInitialCells globals place cells
-    → AreInitialCells globals (place + room) (put place (text_cells room text) cells)
+    → AreInitialCells globals (place + room) (place_piece place (text_cells room text) cells)
 text_put globals room text place cells all h = bytes_put globals place room (text_cells room text) cells (text_bytes globals room text all) (text_length globals room text) h

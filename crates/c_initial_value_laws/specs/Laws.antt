@@ -11,7 +11,7 @@ use Rattle.data_object.specs.declared.DataObject.{DataObject}
 use Rattle.data_object.specs.declared.DataCell.{DataCell}
 use Rattle.c_initial_values.specs.declared.values.InitialValue.{InitialValue}
 use Rattle.c_initial_values.specs.Values.{initial_value}
-use Rattle.c_initial_values.specs.Cells.{value_cells, text_cells, put}
+use Rattle.c_initial_values.specs.Cells.{value_cells, text_cells, place_piece}
 use Rattle.c_type_laws.specs.Typed.{AreKnown, IsTypedIn}
 use Rattle.c_initial_value_laws.specs.Cells.{IsAddressIn, IsValueIn, AreInitialCells, AreBytes}
 
@@ -44,10 +44,10 @@ abbrev pub ValueIsPut : Type 0
 ValueIsPut =
     (globals : List DataObject) (to : Option IntegerType) (value : InitialValue) (place : ℕ) (cells : List DataCell) →
     IsValueIn globals value → IsPlaceFor to place → AreInitialCells globals place cells →
-    AreInitialCells globals (place + value_size to) (put place (value_cells to value) cells)
+    AreInitialCells globals (place + value_size to) (place_piece place (value_cells to value) cells)
 
 abbrev pub TextIsPut : Type 0
 TextIsPut =
     (globals : List DataObject) (room : ℕ) (text : List ℕ) (place : ℕ) (cells : List DataCell) →
     AreBytes text → AreInitialCells globals place cells →
-    AreInitialCells globals (place + room) (put place (text_cells room text) cells)
+    AreInitialCells globals (place + room) (place_piece place (text_cells room text) cells)

@@ -42,5 +42,5 @@ abbrev pub reach : (place : ℕ) → List DataCell → List DataCell
 reach place cells = cells ++ zero_cells (place - length cells)
 
 -- what stands at a place, behind the cells before it
-abbrev pub put : (place : ℕ) → (piece cells : List DataCell) → List DataCell
-put place piece cells = reach place cells ++ piece
+abbrev pub place_piece : (place : ℕ) → (piece cells : List DataCell) → List DataCell
+place_piece place piece cells = reach place cells ++ piece

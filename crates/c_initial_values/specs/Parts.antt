@@ -14,21 +14,21 @@ use Rattle.c_initial_values.specs.declared.parts.ObjectPart.{ObjectPart}
 abbrev pub is_aggregate : t.CType → Bool
 is_aggregate ty = is_array (type_view ty) || is_struct (type_view ty)
 
-abbrev pub element_at : List StructDef → (element : t.CType) → (length k : ℕ) → Option ObjectPart
-element_at ds element length k =
+abbrev pub part_of_element : List StructDef → (element : t.CType) → (length k : ℕ) → Option ObjectPart
+part_of_element ds element length k =
     if nat_lt k length then Some (record { place = size_of ds (type_view element) * k; ty = element }) else None
 
-abbrev pub member_at : Option Member → Option ObjectPart
-member_at None = None
-member_at (Some m) = Some (record { place = m.offset; ty = m.ty })
+abbrev pub part_of_member : Option Member → Option ObjectPart
+part_of_member None = None
+part_of_member (Some m) = Some (record { place = m.offset; ty = m.ty })
 
 -- the part with a number, from 0 on; there are no more than the type has
 unfoldable pub part_of : List StructDef → t.CType → (k : ℕ) → Option ObjectPart
 part_of ds t.Void k = None
 part_of ds (t.Int bytes signed) k = None
 part_of ds (t.Pointer' _ target) k = None
-part_of ds (t.Array' _ (t.more_of-CType x t.end_of-CType) length) k = element_at ds x length k
-part_of ds (t.Struct number) k = member_at (struct_member (slice_get ds number) k)
+part_of ds (t.Array' _ (t.more_of-CType x t.end_of-CType) length) k = part_of_element ds x length k
+part_of ds (t.Struct number) k = part_of_member (struct_member (slice_get ds number) k)
 
 -- ---- arrays that a text initialises: those of `char` and `unsigned char`
 
@@ -40,12 +40,12 @@ abbrev pub room_with : (element : t.CType) → (length : ℕ) → Option ℕ
 room_with element length = if is_character (type_view element) then Some length else None
 
 -- the length of such an array
-unfoldable pub room_of : t.CType → Option ℕ
-room_of t.Void = None
-room_of (t.Int bytes signed) = None
-room_of (t.Pointer' _ target) = None
-room_of (t.Array' _ (t.more_of-CType x t.end_of-CType) length) = room_with x length
-room_of (t.Struct number) = None
+unfoldable pub part_room : t.CType → Option ℕ
+part_room t.Void = None
+part_room (t.Int bytes signed) = None
+part_room (t.Pointer' _ target) = None
+part_room (t.Array' _ (t.more_of-CType x t.end_of-CType) length) = room_with x length
+part_room (t.Struct number) = None
 
 -- the zero at the end of a text is left out where there is room for all but it
 abbrev pub is_room_for : (room : ℕ) → (text : List ℕ) → Bool

@@ -32,10 +32,10 @@ abbrev pub value_by : List StructDef → Option IntegerType → Expr → Option 
 value_by ds None x = pointer_value ds x
 value_by ds (Some t) x = word_value t (constant x)
 
-abbrev pub value_or_fault : ℕ → Option InitialValue → Ruling InitialValue
-value_or_fault at None = fault at NotConstant
-value_or_fault at (Some value) = Ok value
+abbrev pub initial_or_fault : ℕ → Option InitialValue → Ruling InitialValue
+initial_or_fault at None = fault at NotConstant
+initial_or_fault at (Some value) = Ok value
 
 -- the value of an expression, of which an array is a pointer already
 abbrev pub initial_value : List StructDef → TypedExpression → Ruling InitialValue
-initial_value ds a = value_or_fault a.at (value_by ds (integer a) (expr_view a.tree))
+initial_value ds a = initial_or_fault a.at (value_by ds (integer a) (expr_view a.tree))

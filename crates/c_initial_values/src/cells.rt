@@ -116,7 +116,7 @@ pub fn put_value(
     to: Option<IntegerType>,
     value: InitialValue,
 ) -> Result<(), AllocError>
-    ensures { OnOk result (cells.new.items ≡ spec.put place (spec.value_cells to value) cells.old.items) }
+    ensures { OnOk result (cells.new.items ≡ spec.place_piece place (spec.value_cells to value) cells.old.items) }
 {
     pad(cells, place)?;
     put_in(cells, to, value)
@@ -148,7 +148,7 @@ pub fn put_text(
     room: u64,
     text: &[u8],
 ) -> Result<(), AllocError>
-    ensures { OnOk result (cells.new.items ≡ spec.put place (spec.text_cells room text.now) cells.old.items) }
+    ensures { OnOk result (cells.new.items ≡ spec.place_piece place (spec.text_cells room text.now) cells.old.items) }
 {
     pad(cells, place)?;
     put_bytes(cells, front(room, text))

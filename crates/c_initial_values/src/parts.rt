@@ -56,7 +56,7 @@ fn element_at(
     length: u64,
     k: u64,
 ) -> Result<Option<ObjectPart>, AllocError>
-    ensures { IfOk result (λ r. r ≡ spec.element_at structs.now element.now length k) }
+    ensures { IfOk result (λ r. r ≡ spec.part_of_element structs.now element.now length k) }
 {
     if !(k < length) {
         return Ok(None);
@@ -77,7 +77,7 @@ fn member_at(
     number: u32,
     k: u64,
 ) -> Result<Option<ObjectPart>, AllocError>
-    ensures { IfOk result (λ r. r ≡ spec.member_at (layout.struct_member (slice_get structs.now number) k)) }
+    ensures { IfOk result (λ r. r ≡ spec.part_of_member (layout.struct_member (slice_get structs.now number) k)) }
 {
     match structs.get(number as usize) {
         None => Ok(None),
@@ -140,7 +140,7 @@ fn room_with(element: &CType, length: u64) -> Option<u64>
 /// The length of an array that a text may initialise.
 #[tactic(auto, unfolding(crate::specs::model::Opens::opens))]
 pub fn room_of(ty: &CType) -> Option<u64>
-    ensures { result ≡ spec.room_of ty.now }
+    ensures { result ≡ spec.part_room ty.now }
 {
     match ty {
         CType::Void => None,

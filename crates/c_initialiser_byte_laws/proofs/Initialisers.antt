@@ -10,12 +10,12 @@ use Rattle.c_tree.specs.declared.declarations.Init as i
 use Rattle.c_tree.specs.declared.declarations.Init.TheBlock as j
 use Rattle.c_tree.specs.declared.declarations.External.{External}
 use Rattle.c_tree.specs.declared.declarations.TranslationUnit.{TranslationUnit}
-use Rattle.c_grammar.specs.Tokens.{TypeNames, place}
+use Rattle.c_grammar.specs.Tokens.{TypeNames, token_place}
 use Rattle.c_grammar.specs.Types.{declaration_of, comma_of}
 use Rattle.c_grammar.specs.Grammar.{AreTexts, IsExpr, IsWhole, AreAssignments}
 use Rattle.c_grammar.specs.Units.{external_of, is_function, IsInit, AreInits, IsObject, AreObjects, AreTypedefs, IsExternal, AreExternals}
 use Rattle.c_parser.specs.Reading.{IsRead}
-use Rattle.c_judgements.specs.Texts.{bytes_of}
+use Rattle.c_judgements.specs.Texts.{spelling_bytes}
 use Rattle.c_initialisers.specs.Values.{text_in}
 use Rattle.c_initial_value_laws.specs.Cells.{AreBytes}
 use Rattle.c_initialiser_laws.specs.Laws.{HoldsBytes, HoldBytes}
@@ -56,7 +56,7 @@ texts_spelled (AreTexts.more t a xs kind rest) h = All-cons AreBytes t.spelling 
 
 -- an expression that is a text
 abbrev HasText : e.Expr → Type 0
-HasText v = IfSome (text_in v) (λ text. AreBytes (bytes_of text.1))
+HasText v = IfSome (text_in v) (λ text. AreBytes (spelling_bytes text.1))
 
 comma_text : (at : ℕ) (v w : e.Expr) (vs : List e.Expr) → HasText (comma_of at (v ∷ w ∷ vs))
 unfolding text_in
@@ -86,7 +86,7 @@ mutual
   expr_text (IsExpr.assignment a t b op v z low g kind k) h = tt
 
   whole_text : {s : TypeNames} {a : List Lexeme} {v : e.Expr} → IsWhole s a v → AreSpelled a → HasText v
-  whole_text (IsWhole.commas a vs g) h = list_text (place a) g h
+  whole_text (IsWhole.commas a vs g) h = list_text (token_place a) g h
 
   list_text : {s : TypeNames} {a : List Lexeme} {vs : List e.Expr} (at : ℕ) → AreAssignments s a vs → AreSpelled a → HasText (comma_of at vs)
   list_text at (AreAssignments.one a v g) h = expr_text g h

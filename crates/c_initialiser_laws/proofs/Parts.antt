@@ -13,13 +13,13 @@ use Rattle.c_typed_tree.specs.Types.{PlainType, Void, Int, Pointer, Array, Struc
 use Rattle.c_typed_tree.specs.View.{type_view}
 use Rattle.c_typed_tree.specs.model.View.{opens}
 use Rattle.c_typed_tree.specs.Layout.{is_object, is_complete, size_of, align_of, struct_align, struct_size, struct_member, aligned_up, MembersLieFrom, greatest_align}
-use Rattle.c_typed_tree.specs.Typing.{is_type, depth_of, most_depth}
+use Rattle.c_typed_tree.specs.Typing.{is_valid_type, depth_of, most_depth}
 use Rattle.c_typed_tree.specs.Lawful.{IsLawfulStruct, IsCompleteStruct, is_object_type}
 use Rattle.c_struct_layout.proofs.Rounding.{aligned_up_ge}
 use Rattle.c_layout_laws.specs.Laws.{is_alignment}
 use Rattle.c_layout_laws.proofs.Layouts.{aligned, complete_at, struct_multiple, members_within, struct_aligned_at}
 use Rattle.c_initial_values.specs.declared.parts.ObjectPart.{ObjectPart}
-use Rattle.c_initial_values.specs.Parts.{element_at, member_at, part_of}
+use Rattle.c_initial_values.specs.Parts.{part_of_element, part_of_member, part_of}
 use Rattle.c_type_laws.specs.Typed.{AreKnown}
 use Rattle.c_type_laws.proofs.Truth.{no_true, front, back, either}
 use Rattle.c_type_laws.proofs.Types.{known_size}
@@ -107,13 +107,13 @@ list_all_at p (y ∷ ys) (suc k) x h e = list_all_at p ys k x (back (p y) (list_
 
 module _ (ds : List StructDef) (lawful : All (IsLawfulStruct ds) ds) where
   -- the size of an object is a multiple of its alignment
-  size_multiple : (x : PlainType) → IsTrue (is_type ds x) → IsTrue (is_object ds x) → IsMultiple (align_of ds x) (size_of ds x)
+  size_multiple : (x : PlainType) → IsTrue (is_valid_type ds x) → IsTrue (is_object ds x) → IsMultiple (align_of ds x) (size_of ds x)
   size_multiple Void h o = no_true o
   size_multiple (Int n s) h o = record { times = 1; same = omega arith }
   size_multiple (Pointer x) h o = record { times = 1; same = refl }
   size_multiple (Array x n) h o =
       multiple_times (align_of ds x) (size_of ds x) n
-      (size_multiple x (front (is_type ds x) (is_object ds (Array x n)) h) (front (is_object ds x) (nat_le 1 n) (front (is_object ds x && nat_le 1 n) (nat_le (size_of ds x * n) MOST_DATA) o)))
+      (size_multiple x (front (is_valid_type ds x) (is_object ds (Array x n)) h) (front (is_object ds x) (nat_le 1 n) (front (is_object ds x && nat_le 1 n) (nat_le (size_of ds x * n) MOST_DATA) o)))
   size_multiple (Struct n) h o = of (slice_get ds n) refl o
     where
       of : (d : Option StructDef) → slice_get ds n ≡ d → IsTrue (is_complete d) → IsMultiple (struct_align d) (struct_size d)
@@ -123,7 +123,7 @@ module _ (ds : List StructDef) (lawful : All (IsLawfulStruct ds) ds) where
   -- a part of a type: an object, at a multiple of its alignment wherever the whole is at one of its own, within the
   -- whole, and before the next one
   pub record IsPart (ty : t.CType) (k : ℕ) (p : ObjectPart) : Type 0 where
-    pub type : IsTrue (is_type ds (type_view p.ty))
+    pub type : IsTrue (is_valid_type ds (type_view p.ty))
     pub object : IsTrue (is_object ds (type_view p.ty))
     pub multiple : (place : ℕ) → IsMultiple (align_of ds (type_view ty)) place → IsMultiple (align_of ds (type_view p.ty)) (place + p.place)
     pub within : p.place + size_of ds (type_view p.ty) ≤ size_of ds (type_view ty)
@@ -136,16 +136,16 @@ module _ (ds : List StructDef) (lawful : All (IsLawfulStruct ds) ds) where
       let same : n ≡ k + (1 + rest) = omega arith in
       subst (λ x. s * k + s ≤ s * x) (sym same) (omega (arith, mul-add s k (1 + rest), mul-add s 1 rest))
 
-  element_part : (x : t.CType) (n k : ℕ) (p : ObjectPart) → IsTrue (is_type ds (Array (type_view x) n)) → IsTrue (is_object ds (Array (type_view x) n)) → element_at ds x n k ≡ Some p
-      → IsTrue (is_type ds (type_view p.ty)) × IsTrue (is_object ds (type_view p.ty)) × (p.place ≡ size_of ds (type_view x) * k) × (type_view p.ty ≡ type_view x) × (suc k ≤ n)
+  element_part : (x : t.CType) (n k : ℕ) (p : ObjectPart) → IsTrue (is_valid_type ds (Array (type_view x) n)) → IsTrue (is_object ds (Array (type_view x) n)) → part_of_element ds x n k ≡ Some p
+      → IsTrue (is_valid_type ds (type_view p.ty)) × IsTrue (is_object ds (type_view p.ty)) × (p.place ≡ size_of ds (type_view x) * k) × (type_view p.ty ≡ type_view x) × (suc k ≤ n)
   element_part x n k p h o e = of (nat_lt k n) refl e
     where
       of : (b : Bool) → nat_lt k n ≡ b → (if b then Some (record { place = size_of ds (type_view x) * k; ty = x }) else None) ≡ Some p
-          → IsTrue (is_type ds (type_view p.ty)) × IsTrue (is_object ds (type_view p.ty)) × (p.place ≡ size_of ds (type_view x) * k) × (type_view p.ty ≡ type_view x) × (suc k ≤ n)
+          → IsTrue (is_valid_type ds (type_view p.ty)) × IsTrue (is_object ds (type_view p.ty)) × (p.place ≡ size_of ds (type_view x) * k) × (type_view p.ty ≡ type_view x) × (suc k ≤ n)
       of true less e =
           let same = same_Some (record { place = size_of ds (type_view x) * k; ty = x }) p e in
           let own = type_view x in (
-            subst (λ (q : ObjectPart). IsTrue (is_type ds (type_view q.ty))) same (front (is_type ds own) (is_object ds (Array own n)) h),
+            subst (λ (q : ObjectPart). IsTrue (is_valid_type ds (type_view q.ty))) same (front (is_valid_type ds own) (is_object ds (Array own n)) h),
             subst (λ (q : ObjectPart). IsTrue (is_object ds (type_view q.ty))) same (front (is_object ds own) (nat_le 1 n) (front (is_object ds own && nat_le 1 n) (nat_le (size_of ds own * n) MOST_DATA) o)),
             sym (ap (λ (q : ObjectPart). q.place) same),
             sym (ap (λ (q : ObjectPart). type_view q.ty) same),
@@ -153,13 +153,13 @@ module _ (ds : List StructDef) (lawful : All (IsLawfulStruct ds) ds) where
           )
       of false less e = absurd (none-some p e)
 
-  array_part : (ty x : t.CType) (n k : ℕ) (p : ObjectPart) → type_view ty ≡ Array (type_view x) n → ((j : ℕ) → part_of ds ty j ≡ element_at ds x n j) → IsTrue (is_type ds (Array (type_view x) n)) → IsTrue (is_object ds (Array (type_view x) n))
-      → element_at ds x n k ≡ Some p → IsPart ty k p
+  array_part : (ty x : t.CType) (n k : ℕ) (p : ObjectPart) → type_view ty ≡ Array (type_view x) n → ((j : ℕ) → part_of ds ty j ≡ part_of_element ds x n j) → IsTrue (is_valid_type ds (Array (type_view x) n)) → IsTrue (is_object ds (Array (type_view x) n))
+      → part_of_element ds x n k ≡ Some p → IsPart ty k p
   array_part ty x n k p view parts h o e =
       let own = type_view x in
       let s = size_of ds own in
       let q = element_part x n k p h o e in
-      let kind : IsTrue (is_type ds own) = front (is_type ds own) (is_object ds (Array own n)) h in
+      let kind : IsTrue (is_valid_type ds own) = front (is_valid_type ds own) (is_object ds (Array own n)) h in
       let one : IsTrue (is_object ds own) = front (is_object ds own) (nat_le 1 n) (front (is_object ds own && nat_le 1 n) (nat_le (s * n) MOST_DATA) o) in
       record {
         type = q.0;
@@ -188,12 +188,12 @@ module _ (ds : List StructDef) (lawful : All (IsLawfulStruct ds) ds) where
     abbrev Holds : ℕ → Member → Type 0
     Holds k m = slice_get d.members k ≡ Some m
 
-    member_type : (k : ℕ) (m : Member) → Holds k m → IsTrue (is_type ds (type_view m.ty)) × IsTrue (is_object ds (type_view m.ty))
+    member_type : (k : ℕ) (m : Member) → Holds k m → IsTrue (is_valid_type ds (type_view m.ty)) × IsTrue (is_object ds (type_view m.ty))
     member_type k m e =
         let own = type_view m.ty in
         let all = list_all_at (λ (x : Member). is_object_type ds (type_view x.ty)) d.members k m whole.types e in
-        let both = front (is_type ds own && is_object ds own) (nat_le (depth_of ds own) most_depth) all in
-        (front (is_type ds own) (is_object ds own) both, back (is_type ds own) (is_object ds own) both)
+        let both = front (is_valid_type ds own && is_object ds own) (nat_le (depth_of ds own) most_depth) all in
+        (front (is_valid_type ds own) (is_object ds own) both, back (is_valid_type ds own) (is_object ds own) both)
 
     member_place : (k : ℕ) (m : Member) (place : ℕ) → Holds k m → IsMultiple d.align place → IsMultiple (align_of ds (type_view m.ty)) (place + m.offset)
     member_place k m place e h =
@@ -206,13 +206,13 @@ module _ (ds : List StructDef) (lawful : All (IsLawfulStruct ds) ds) where
         (member_multiple ds 0 k d.members m whole.layout.members e small)
 
   abbrev IsMemberPart : ℕ → ℕ → ObjectPart → Type 0
-  IsMemberPart n k p = member_at (struct_member (slice_get ds n) k) ≡ Some p
+  IsMemberPart n k p = part_of_member (struct_member (slice_get ds n) k) ≡ Some p
 
   member_part : (n k : ℕ) (p : ObjectPart) → IsTrue (is_complete (slice_get ds n)) → IsMemberPart n k p → IsPart (t.Struct n) k p
   unfolding opens part_of
   member_part n k p c e = of (slice_get ds n) refl c e
     where
-      next_of : (d : StructDef) (m : Member) → slice_get ds n ≡ Some d → d.complete ≡ true → slice_get d.members k ≡ Some m → (o : Option Member) → slice_get d.members (k + 1) ≡ o → (q : ObjectPart) → member_at o ≡ Some q
+      next_of : (d : StructDef) (m : Member) → slice_get ds n ≡ Some d → d.complete ≡ true → slice_get d.members k ≡ Some m → (o : Option Member) → slice_get d.members (k + 1) ≡ o → (q : ObjectPart) → part_of_member o ≡ Some q
           → m.offset + size_of ds (type_view m.ty) ≤ q.place
       next_of d m s c e None f q g = absurd (none-some q g)
       next_of d m s c e (Some next) f q g =
@@ -226,18 +226,18 @@ module _ (ds : List StructDef) (lawful : All (IsLawfulStruct ds) ds) where
         object = (member_type n d s c k m e).1;
         multiple = λ place h. member_place n d s c k m place e (subst (λ o. IsMultiple (struct_align o) place) s h);
         within = subst (λ o. m.offset + size_of ds (type_view m.ty) ≤ struct_size o) (sym s) (members_within ds lawful n k d m s e);
-        next = λ q f. next_of d m s c e (slice_get d.members (k + 1)) refl q (subst (λ o. member_at (struct_member o (k + 1)) ≡ Some q) s f);
+        next = λ q f. next_of d m s c e (slice_get d.members (k + 1)) refl q (subst (λ o. part_of_member (struct_member o (k + 1)) ≡ Some q) s f);
       }
 
-      at_member : (d : StructDef) → slice_get ds n ≡ Some d → d.complete ≡ true → (o : Option Member) → slice_get d.members k ≡ o → member_at o ≡ Some p → IsPart (t.Struct n) k p
+      at_member : (d : StructDef) → slice_get ds n ≡ Some d → d.complete ≡ true → (o : Option Member) → slice_get d.members k ≡ o → part_of_member o ≡ Some p → IsPart (t.Struct n) k p
       at_member d s c None f e = absurd (none-some p e)
       at_member d s c (Some m) f e = subst (IsPart (t.Struct n) k) (same_Some (record { place = m.offset; ty = m.ty }) p e) (made d s c m f)
 
-      of : (o : Option StructDef) → slice_get ds n ≡ o → IsTrue (is_complete o) → member_at (struct_member o k) ≡ Some p → IsPart (t.Struct n) k p
+      of : (o : Option StructDef) → slice_get ds n ≡ o → IsTrue (is_complete o) → part_of_member (struct_member o k) ≡ Some p → IsPart (t.Struct n) k p
       of None s c e = no_true c
       of (Some d) s c e = at_member d s c (slice_get d.members k) refl e
 
-  pub is_part : (ty : t.CType) (k : ℕ) (p : ObjectPart) → IsTrue (is_type ds (type_view ty)) → IsTrue (is_object ds (type_view ty)) → part_of ds ty k ≡ Some p → IsPart ty k p
+  pub is_part : (ty : t.CType) (k : ℕ) (p : ObjectPart) → IsTrue (is_valid_type ds (type_view ty)) → IsTrue (is_object ds (type_view ty)) → part_of ds ty k ≡ Some p → IsPart ty k p
   unfolding opens part_of
   is_part t.Void k p h o e = absurd (none-some p e)
   is_part (t.Int n s) k p h o e = absurd (none-some p e)
@@ -256,4 +256,4 @@ module _ (ds es : List StructDef) (known : AreKnown ds es) where
   part_known (t.Array' _ (t.more_of-CType x t.end_of-CType) n) k o =
       ap (λ s. if nat_lt k n then Some (record { place = s * k; ty = x }) else None)
       (known_size ds es known (type_view x) (front (is_object ds (type_view x)) (nat_le 1 n) (front (is_object ds (type_view x) && nat_le 1 n) (nat_le (size_of ds (type_view x) * n) MOST_DATA) o)))
-  part_known (t.Struct n) k o = ap (λ d. member_at (struct_member d k)) (known n o)
+  part_known (t.Struct n) k o = ap (λ d. part_of_member (struct_member d k)) (known n o)

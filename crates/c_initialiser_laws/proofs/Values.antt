@@ -13,7 +13,7 @@ use Rattle.c_typed_tree.specs.Types.{PlainType, Void, Int, Pointer, Array, Struc
 use Rattle.c_typed_tree.specs.View.{type_view}
 use Rattle.c_typed_tree.specs.model.View.{opens}
 use Rattle.c_typed_tree.specs.Layout.{is_object, size_of, align_of, integer_of}
-use Rattle.c_typed_tree.specs.Typing.{Context, is_type, is_array, is_struct}
+use Rattle.c_typed_tree.specs.Typing.{Context, is_valid_type, is_array, is_struct}
 use Rattle.c_type_faults.specs.declared.faults.Kind.{Kind}
 use Rattle.c_type_faults.specs.declared.faults.Kind.TheVariants.{BadInit}
 use Rattle.c_type_rules.specs.declared.typed.TypedExpression.{TypedExpression}
@@ -22,14 +22,14 @@ use Rattle.c_type_rules.specs.Rulings.{Ruling}
 use Rattle.c_operators.specs.Null.{take_value}
 use Rattle.c_checks.specs.Notes.{with_fault}
 use Rattle.c_checks.specs.Checks.{each, note_fault}
-use Rattle.c_judgements.specs.Texts.{bytes_of}
+use Rattle.c_judgements.specs.Texts.{spelling_bytes}
 use Rattle.c_expressions.specs.Expressions.{judge}
 use Rattle.c_initial_values.specs.declared.values.InitialValue.{InitialValue}
-use Rattle.c_initial_values.specs.Cells.{put, value_cells, text_cells}
-use Rattle.c_initial_values.specs.Parts.{is_aggregate, is_character, is_room_for, room_of}
+use Rattle.c_initial_values.specs.Cells.{place_piece, value_cells, text_cells}
+use Rattle.c_initial_values.specs.Parts.{is_aggregate, is_character, is_room_for, part_room}
 use Rattle.c_initial_values.specs.Values.{initial_value}
 use Rattle.c_initialisers.specs.Unfit.{no_place}
-use Rattle.c_initialisers.specs.Values.{Filling, FillingState, beside, put_scalar, scalar_value, value_of, text_in, text_value, expression_value, value_by, single_value}
+use Rattle.c_initialisers.specs.Values.{Filling, FillingState, cells_beside, put_scalar, scalar_value, fill_value, text_in, text_value, expression_value, value_or_text, single_value}
 use Rattle.c_type_laws.specs.Typed.{AreKnown, IsTypedIn}
 use Rattle.c_type_laws.proofs.Truth.{no_true}
 use Rattle.c_type_laws.proofs.Values.{decay_typed}
@@ -67,7 +67,7 @@ integer_bytes n false h = by (n == 1) (n == 2) (n == 4) (n == 8) (eqb-true n 1) 
     by false false false false one two four eight h = no_true h
 
 module _ (ds : List StructDef) where
-  pub scalar_size : (x : PlainType) → IsTrue (is_type ds x) → IsTrue (is_object ds x) → (is_array x || is_struct x) ≡ false → value_size (integer_of x) ≡ size_of ds x
+  pub scalar_size : (x : PlainType) → IsTrue (is_valid_type ds x) → IsTrue (is_object ds x) → (is_array x || is_struct x) ≡ false → value_size (integer_of x) ≡ size_of ds x
   scalar_size Void h o e = no_true o
   scalar_size (Int n s) h o e = integer_bytes n s h
   scalar_size (Pointer x) h o e = refl
@@ -78,7 +78,7 @@ module _ (ds : List StructDef) where
   place_for None place h = no_true h
   place_for (Some t) place h = tt
 
-  pub scalar_place : (x : PlainType) (place : ℕ) → IsTrue (is_type ds x) → IsTrue (is_object ds x) → (is_array x || is_struct x) ≡ false → IsMultiple (align_of ds x) place → IsPlaceFor (integer_of x) place
+  pub scalar_place : (x : PlainType) (place : ℕ) → IsTrue (is_valid_type ds x) → IsTrue (is_object ds x) → (is_array x || is_struct x) ≡ false → IsMultiple (align_of ds x) place → IsPlaceFor (integer_of x) place
   scalar_place Void place h o e m = no_true o
   scalar_place (Int n s) place h o e m = place_for (integer_type n s) place h
   scalar_place (Pointer x) place h o e m = m
@@ -97,8 +97,8 @@ module _ (ds : List StructDef) where
   room_with_size (Array x k) n = tt
   room_with_size (Struct k) n = tt
 
-  pub room_size : (ty : t.CType) → IfSome (room_of ty) (λ room. room ≡ size_of ds (type_view ty))
-  unfolding opens room_of
+  pub room_size : (ty : t.CType) → IfSome (part_room ty) (λ room. room ≡ size_of ds (type_view ty))
+  unfolding opens part_room
   room_size t.Void = tt
   room_size (t.Int n s) = tt
   room_size (t.Pointer' _ x) = tt
@@ -107,7 +107,7 @@ module _ (ds : List StructDef) where
 
 -- a place of an object, at which a part of a type may stand
 pub record IsSpot (ds : List StructDef) (ty : t.CType) (place : ℕ) : Type 0 where
-  pub type : IsTrue (is_type ds (type_view ty))
+  pub type : IsTrue (is_valid_type ds (type_view ty))
   pub object : IsTrue (is_object ds (type_view ty))
   pub multiple : IsMultiple (align_of ds (type_view ty)) place
 
@@ -131,7 +131,7 @@ module _ (c : Context) (names : Type 0) (lawful : IsLawfulContext c) (ds : List 
     later = later_itself c s.1.1;
     grow = grow_itself s.1.1.structs;
     found = λ v known t g cells.
-        subst (λ n. AreInitialCells c.globals (place + n) (put place (value_cells (integer_of (type_view ty)) value) s.0)) (scalar_size ds (type_view ty) (spot v).type (spot v).object single)
+        subst (λ n. AreInitialCells c.globals (place + n) (place_piece place (value_cells (integer_of (type_view ty)) value) s.0)) (scalar_size ds (type_view ty) (spot v).type (spot v).object single)
         (value_put c.globals (integer_of (type_view ty)) value place s.0 (h known.structs_known.complete g) (scalar_place ds (type_view ty) place (spot v).type (spot v).object single (spot v).multiple) cells);
   }
   scalar_by ty place at (Ok value) (Err f) s given spot single h = fills_fault f.at f.kind s (λ g cells. tt)
@@ -145,16 +145,16 @@ module _ (c : Context) (names : Type 0) (lawful : IsLawfulContext c) (ds : List 
   abbrev Value : t.CType → (place : ℕ) → (given : Type 0) → FillingState → Option ℕ × Filling → Type 0
   Value ty place given s r = Fills c names (given → Goes c ds ty place s.0 r.0 r.1.0) s (r.1.0, (s.1.0, r.1.1))
 
-  value_filled : (ty : t.CType) (place : ℕ) (a : TypedExpression) (s : FillingState) → (names → IsSpot ds ty place) → Value ty place (IsTypedIn c a) s (value_of ty place a (s.0, s.1.1))
+  value_filled : (ty : t.CType) (place : ℕ) (a : TypedExpression) (s : FillingState) → (names → IsSpot ds ty place) → Value ty place (IsTypedIn c a) s (fill_value ty place a (s.0, s.1.1))
   value_filled ty place a s spot = choose (is_aggregate ty) refl
     where
-      choose : (b : Bool) → is_aggregate ty ≡ b → Value ty place (IsTypedIn c a) s (if b then beside s.0 (no_place BadInit a.at s.1.1) else scalar_value ty place (decay a) (s.0, s.1.1))
+      choose : (b : Bool) → is_aggregate ty ≡ b → Value ty place (IsTypedIn c a) s (if b then cells_beside s.0 (no_place BadInit a.at s.1.1) else scalar_value ty place (decay a) (s.0, s.1.1))
       choose true e = fills_fault a.at BadInit s (λ g cells. tt)
       choose false e =
           scalar_by ty place (decay a).at (initial_value s.1.1.structs (decay a)) (take_value ty (decay a)) s (IsTypedIn c a) spot e
           (λ known g. value_there c s.1.1.structs (decay a) known (decay_typed c a g).typed)
 
-  each_filled : (ty : t.CType) (place : ℕ) (o : Option TypedExpression) (s : FillingState) → (names → IsSpot ds ty place) → Value ty place (IfSome o (IsTypedIn c)) s (each o (value_of ty place) (s.0, s.1.1))
+  each_filled : (ty : t.CType) (place : ℕ) (o : Option TypedExpression) (s : FillingState) → (names → IsSpot ds ty place) → Value ty place (IfSome o (IsTypedIn c)) s (each o (fill_value ty place) (s.0, s.1.1))
   each_filled ty place None s spot = fills_none c names s (λ g cells. tt)
   each_filled ty place (Some a) s spot = value_filled ty place a s spot
 
@@ -171,24 +171,24 @@ module _ (c : Context) (names : Type 0) (lawful : IsLawfulContext c) (ds : List 
   text_filled ty place room at bytes s e all = choose (is_room_for room bytes)
     where
       text_where : Bool → Option ℕ × Filling
-      text_where b = if b then (Some at, (put place (text_cells room bytes) s.0, s.1.1)) else beside s.0 (no_place BadInit at s.1.1)
+      text_where b = if b then (Some at, (place_piece place (text_cells room bytes) s.0, s.1.1)) else cells_beside s.0 (no_place BadInit at s.1.1)
 
       choose : (b : Bool) → Fills c names (Goes c ds ty place s.0 (text_where b).0 (text_where b).1.0) s ((text_where b).1.0, (s.1.0, (text_where b).1.1))
       choose true = record {
         env = refl;
         later = later_itself c s.1.1;
         grow = grow_itself s.1.1.structs;
-        found = λ v known t cells. subst (λ n. AreInitialCells c.globals (place + n) (put place (text_cells room bytes) s.0)) e (text_put c.globals room bytes place s.0 (all v) cells);
+        found = λ v known t cells. subst (λ n. AreInitialCells c.globals (place + n) (place_piece place (text_cells room bytes) s.0)) e (text_put c.globals room bytes place s.0 (all v) cells);
       }
       choose false = fills_fault at BadInit s (λ cells. tt)
 
   by_filled : (room : Option ℕ) (text : Option (ℕ × List (List ℕ))) (ty : t.CType) (place : ℕ) (x : Expr) (s : FillingState) → (names → IsSpot ds ty place) → Names c names s.1
-      → IfSome room (λ n. n ≡ size_of ds (type_view ty)) → (names → IfSome text (λ spelled. AreBytes (bytes_of spelled.1)))
-      → Fills c names (Goes c ds ty place s.0 (value_by room text ty place x s).0 (value_by room text ty place x s).1.0) s (value_by room text ty place x s).1
+      → IfSome room (λ n. n ≡ size_of ds (type_view ty)) → (names → IfSome text (λ spelled. AreBytes (spelling_bytes spelled.1)))
+      → Fills c names (Goes c ds ty place s.0 (value_or_text room text ty place x s).0 (value_or_text room text ty place x s).1.0) s (value_or_text room text ty place x s).1
   by_filled None text ty place x s spot h e all = expression_filled ty place x s spot h
   by_filled (Some room) None ty place x s spot h e all = expression_filled ty place x s spot h
-  by_filled (Some room) (Some spelled) ty place x s spot h e all = text_filled ty place room spelled.0 (bytes_of spelled.1) s e all
+  by_filled (Some room) (Some spelled) ty place x s spot h e all = text_filled ty place room spelled.0 (spelling_bytes spelled.1) s e all
 
-  pub single_filled : (ty : t.CType) (place : ℕ) (x : Expr) (s : FillingState) → (names → IsSpot ds ty place) → Names c names s.1 → (names → IfSome (text_in x) (λ spelled. AreBytes (bytes_of spelled.1)))
+  pub single_filled : (ty : t.CType) (place : ℕ) (x : Expr) (s : FillingState) → (names → IsSpot ds ty place) → Names c names s.1 → (names → IfSome (text_in x) (λ spelled. AreBytes (spelling_bytes spelled.1)))
       → Fills c names (Goes c ds ty place s.0 (single_value ty place x s).0 (single_value ty place x s).1.0) s (single_value ty place x s).1
-  single_filled ty place x s spot h all = by_filled (room_of ty) (text_in x) ty place x s spot h (room_size ds ty) all
+  single_filled ty place x s spot h all = by_filled (part_room ty) (text_in x) ty place x s spot h (room_size ds ty) all

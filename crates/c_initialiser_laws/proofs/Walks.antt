@@ -19,7 +19,7 @@ use Rattle.c_initial_values.specs.Parts.{is_aggregate, part_of}
 use Rattle.c_initialisers.specs.declared.lists.InitialiserItems.{InitialiserItems}
 use Rattle.c_initialisers.specs.declared.lists.InitialiserItems.TheVariants as t
 use Rattle.c_initialisers.specs.Unfit.{judge_init, judge_items, is_whole_with}
-use Rattle.c_initialisers.specs.Values.{FillingState, beside}
+use Rattle.c_initialisers.specs.Values.{FillingState, cells_beside}
 use Rattle.c_initialisers.specs.Initialisers.{with_item, with_surplus, counted_by, if_part, list_of, scalar_list, list_in, initialise, item_row, cells_where, object_cells}
 use Rattle.c_type_laws.proofs.Types.{known_size}
 use Rattle.c_judgement_laws.specs.Covers.{IsLawfulContext}
@@ -164,7 +164,7 @@ module _ (c : Context) (names : Type 0) (lawful : IsLawfulContext c) where
         row_fills i.end_of-Init ty place k found s spot h all grow = fills_none c names s (fits_as found (Ends ty place k s.0) (Whole ty place s.0) (ends_whole ty place k s.0))
         row_fills (i.more_of-Init x xs) ty place k found s spot h all grow =
             of_part (λ r. Fills c names (WhereFitting found (Ends ty place k s.0) → WhereFitting (item_row xs ty place (k + 1) r.0 r.1).0 (Whole ty place (item_row xs ty place (k + 1) r.0 r.1).1.0)) s
-            (item_row xs ty place (k + 1) r.0 r.1).1) (part_of s.1.1.structs ty k) (counted_by with_surplus found (beside s.0 (judge_init x s.1))) (λ p. counted_by with_item found (initialise x p.ty (place + p.place) s))
+            (item_row xs ty place (k + 1) r.0 r.1).1) (part_of s.1.1.structs ty k) (counted_by with_surplus found (cells_beside s.0 (judge_init x s.1))) (λ p. counted_by with_item found (initialise x p.ty (place + p.place) s))
             (λ e.
             let r = judge_init x s.1 in
             let u : FillingState = (s.0, r.1) in

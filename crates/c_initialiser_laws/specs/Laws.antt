@@ -4,9 +4,9 @@ use Rattle.c_tree.specs.declared.declarations.Init as i
 use Rattle.c_typed_tree.specs.declared.types.CType.{CType}
 use Rattle.c_typed_tree.specs.View.{type_view}
 use Rattle.c_typed_tree.specs.Layout.{is_object, size_of}
-use Rattle.c_typed_tree.specs.Typing.{Context, is_type}
+use Rattle.c_typed_tree.specs.Typing.{Context, is_valid_type}
 use Rattle.c_typed_tree.specs.Lawful.{IsLawfulStruct}
-use Rattle.c_judgements.specs.Texts.{bytes_of}
+use Rattle.c_judgements.specs.Texts.{spelling_bytes}
 use Rattle.c_judgements.specs.Types.{JudgementState}
 use Rattle.c_initialisers.specs.Values.{text_in}
 use Rattle.c_initialisers.specs.Initialisers.{object_cells}
@@ -18,7 +18,7 @@ use Rattle.c_initial_value_laws.specs.Cells.{AreInitialCells, AreBytes}
 -- each text that fills an array holds bytes
 unfoldable mutual
   pub HoldsBytes : i.Init → Type 0
-  HoldsBytes (i.Value x) = IfSome (text_in x) (λ text. AreBytes (bytes_of text.1))
+  HoldsBytes (i.Value x) = IfSome (text_in x) (λ text. AreBytes (spelling_bytes text.1))
   HoldsBytes (i.List' brace _ items) = HoldBytes items
 
   pub HoldBytes : {m : _} → i.Row_of-Init m → Type 0
@@ -30,7 +30,7 @@ unfoldable mutual
 pub record IsInitialisedIn (c : Context) (ty : CType) (x : i.Init) (s later : JudgementState) : Type 0 where
   pub scope : HasScope c s
   pub lawful : All (IsLawfulStruct s.1.structs) s.1.structs
-  pub type : IsTrue (is_type s.1.structs (type_view ty))
+  pub type : IsTrue (is_valid_type s.1.structs (type_view ty))
   pub object : IsTrue (is_object s.1.structs (type_view ty))
   pub texts : HoldsBytes x
   pub knows : Knows c later.1

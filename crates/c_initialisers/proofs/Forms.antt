@@ -10,7 +10,7 @@ use Rattle.c_judgements.specs.Types.{JudgementState}
 use Rattle.c_initialisers.specs.declared.lists.InitialiserItems.{InitialiserItems}
 use Rattle.c_initialisers.specs.declared.lists.InitialiserItems.TheVariants.{Fitting}
 use Rattle.c_initialisers.specs.Unfit.{judge_init, list_place}
-use Rattle.c_initialisers.specs.Values.{FillingState, beside, with_env}
+use Rattle.c_initialisers.specs.Values.{FillingState, cells_beside, with_env}
 use Rattle.c_initialisers.specs.Initialisers.{initialise, list_in, length_given}
 use Rattle.c_initialisers.specs.model.Parts.{judge_inits, items_from}
 use Rattle.c_initialisers.proofs.Rows.{judge_init-List, initialise-List, length_given-List}
@@ -26,8 +26,8 @@ pub list_done : {E : Type 0} (v : i.Init) (brace : ℕ) (xs ys : List i.Init) (t
     → v ≡ i.List brace xs → ys ≡ xs → items_from ys ty place 0 Fitting s ≡ (found, (cells, (env, n))) → Finds (list_in ty brace found n) r n' → Finds (initialise v ty place s) r (cells, (env, n'))
 list_done v brace xs ys ty place s cells env n n' found (Ok a) form same parts given =
     ap (λ w. initialise w ty place s) form ∙ (initialise-List brace xs ty place s
-    ∙ (ap (λ q. and_then q (λ f (u : FillingState). with_env u.1.0 (beside u.0 (list_in ty brace f u.1.1)))) (ap (λ l. items_from l ty place 0 Fitting s) (sym same) ∙ parts)
-    ∙ ap (λ p. with_env env (beside cells p)) given))
+    ∙ (ap (λ q. and_then q (λ f (u : FillingState). with_env u.1.0 (cells_beside u.0 (list_in ty brace f u.1.1)))) (ap (λ l. items_from l ty place 0 Fitting s) (sym same) ∙ parts)
+    ∙ ap (λ p. with_env env (cells_beside cells p)) given))
 list_done v brace xs ys ty place s cells env n n' found (Err e) form same parts given = tt
 
 pub length_of_list : (element : CType) (v : i.Init) (brace : ℕ) (xs : List i.Init) (n : ℕ) → v ≡ i.List brace xs → n ≡ length xs → n ≡ length_given element v

@@ -9,7 +9,7 @@ use Rattle.c_judgements.specs.Types.{JudgementState}
 use Rattle.c_initialisers.specs.declared.lists.InitialiserItems.{InitialiserItems}
 use Rattle.c_initialisers.specs.declared.lists.InitialiserItems.TheVariants.{Fitting}
 use Rattle.c_initialisers.specs.Unfit.{judge_init, judge_items, list_place, is_whole_with}
-use Rattle.c_initialisers.specs.Values.{FillingState, beside, with_env}
+use Rattle.c_initialisers.specs.Values.{FillingState, cells_beside, with_env}
 use Rattle.c_initialisers.specs.Initialisers.{initialise, item_row, list_in, row_length, length_given}
 use Rattle.c_initialisers.specs.model.Opens.{opens}
 use Rattle.c_initialisers.specs.model.Parts.{judge_inits, one_item, items_from}
@@ -45,10 +45,10 @@ unfolding opens
 judge_init-List at xs s = ap (λ q. and_then q (λ whole. pure (list_place at whole))) (judge_items-hidden xs true s)
 
 pub initialise-List : (brace : ℕ) (xs : List i.Init) (ty : CType) (place : ℕ) (s : FillingState)
-    → initialise (i.List brace xs) ty place s ≡ and_then (items_from xs ty place 0 Fitting s) (λ found u. with_env u.1.0 (beside u.0 (list_in ty brace found u.1.1)))
+    → initialise (i.List brace xs) ty place s ≡ and_then (items_from xs ty place 0 Fitting s) (λ found u. with_env u.1.0 (cells_beside u.0 (list_in ty brace found u.1.1)))
 unfolding opens
 initialise-List brace xs ty place s =
-    ap (λ q. and_then q (λ found (u : FillingState). with_env u.1.0 (beside u.0 (list_in ty brace found u.1.1)))) (item_row-hidden xs ty place 0 Fitting s)
+    ap (λ q. and_then q (λ found (u : FillingState). with_env u.1.0 (cells_beside u.0 (list_in ty brace found u.1.1)))) (item_row-hidden xs ty place 0 Fitting s)
 
 pub length_given-List : (element : CType) (brace : ℕ) (xs : List i.Init) → length_given element (i.List brace xs) ≡ length xs
 unfolding opens

@@ -8,13 +8,13 @@ use Rattle.data_object.specs.declared.DataCell.{DataCell}
 use Rattle.c_initial_values.specs.declared.parts.ObjectPart.{ObjectPart}
 use Rattle.c_initial_values.specs.Parts.{is_aggregate, is_character, part_of}
 use Rattle.c_typed_tree.specs.View.{type_view}
-use Rattle.c_judgements.specs.Texts.{bytes_of}
+use Rattle.c_judgements.specs.Texts.{spelling_bytes}
 use Rattle.c_checks.specs.Checks.{Check, and_then}
 use Rattle.c_judgements.specs.Types.{JudgementState}
 use Rattle.c_initialisers.specs.declared.lists.InitialiserItems.{InitialiserItems}
 use Rattle.c_initialisers.specs.declared.lists.InitialiserItems.TheVariants as t
 use Rattle.c_initialisers.specs.Unfit.{judge_init, no_place}
-use Rattle.c_initialisers.specs.Values.{FillingState, beside, with_env, single_value, text_in}
+use Rattle.c_initialisers.specs.Values.{FillingState, cells_beside, with_env, single_value, text_in}
 
 -- ---- the items of a list: all without fault, and perhaps more than there are parts
 
@@ -62,13 +62,14 @@ unfoldable mutual
   initialise (i.Value x) ty place s = single_value ty place x s
   initialise (i.List' brace _ items) ty place s =
       and_then (item_row items ty place 0 t.Fitting s) (λ found u.
-      with_env u.1.0 (beside u.0 (list_in ty brace found u.1.1)))
+      with_env u.1.0 (cells_beside u.0 (list_in ty brace found u.1.1)))
 
   pub item_row : {m : _} → i.Row_of-Init m → CType → (place k : ℕ) → InitialiserItems → FillingState →
       InitialiserItems × FillingState
   item_row i.end_of-Init ty place k found s = (found, s)
   item_row (i.more_of-Init x xs) ty place k found s =
-      and_then (if_part (part_of s.1.1.structs ty k) (counted_by with_surplus found (beside s.0 (judge_init x s.1)))
+      and_then (if_part (part_of s.1.1.structs ty k)
+      (counted_by with_surplus found (cells_beside s.0 (judge_init x s.1)))
       (λ p. counted_by with_item found (initialise x p.ty (place + p.place) s))) (λ r. item_row xs ty place (k + 1) r)
 
 -- ---- whole objects
@@ -89,7 +90,7 @@ object_cells ty x s = cells_with (initialise x ty 0 ([], s))
 
 abbrev pub text_length : (is_character : Bool) → Option (ℕ × List (List ℕ)) → ℕ
 text_length is_character None = 1
-text_length is_character (Some text) = if is_character then length (bytes_of text.1) else 1
+text_length is_character (Some text) = if is_character then length (spelling_bytes text.1) else 1
 
 unfoldable pub row_length : {m : _} → i.Row_of-Init m → ℕ
 row_length i.end_of-Init = 0

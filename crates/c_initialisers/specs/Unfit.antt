@@ -7,15 +7,15 @@ use Rattle.c_tree.specs.declared.declarations.Init as i
 use Rattle.c_type_faults.specs.declared.faults.Kind.{Kind}
 use Rattle.c_type_rules.specs.declared.typed.TypedExpression.{TypedExpression}
 use Rattle.c_checks.specs.Checks.{Check, pure, and_then, each, fault}
-use Rattle.c_judgements.specs.Types.{JudgementState, within}
+use Rattle.c_judgements.specs.Types.{JudgementState, in_env}
 use Rattle.c_expressions.specs.Expressions.{judge}
 
-abbrev pub place_of : TypedExpression → ℕ
-place_of a = a.at
+abbrev pub place_in_text : TypedExpression → ℕ
+place_in_text a = a.at
 
 -- the place of an expression, if it has no fault
 abbrev pub judge_value : Expr → JudgementState → Option ℕ × JudgementState
-judge_value x s = and_then (judge x s) (λ a. pure (option_map place_of a))
+judge_value x s = and_then (judge x s) (λ a. pure (option_map place_in_text a))
 
 -- a list is without fault where its items are
 abbrev pub list_place : ℕ → (whole : Bool) → Option ℕ
@@ -42,5 +42,5 @@ abbrev pub no_place : Kind → ℕ → Check (Option ℕ)
 no_place kind at = fault at kind
 
 -- an initialiser that has this fault
-abbrev pub unfit : Kind → i.Init → JudgementState → Option ℕ × JudgementState
-unfit kind x s = and_then (judge_init x s) (λ place u. within u.0 (each place (no_place kind) u.1))
+abbrev pub faulty_init : Kind → i.Init → JudgementState → Option ℕ × JudgementState
+faulty_init kind x s = and_then (judge_init x s) (λ place u. in_env u.0 (each place (no_place kind) u.1))

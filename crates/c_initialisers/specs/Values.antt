@@ -12,13 +12,13 @@ use Rattle.c_type_rules.specs.Conversions.{decay}
 use Rattle.data_object.specs.declared.DataCell.{DataCell}
 use Rattle.c_initial_values.specs.declared.values.InitialValue.{InitialValue}
 use Rattle.c_initial_values.specs.Values.{initial_value}
-use Rattle.c_initial_values.specs.Cells.{put, value_cells, text_cells}
-use Rattle.c_initial_values.specs.Parts.{is_aggregate, is_room_for, room_of}
+use Rattle.c_initial_values.specs.Cells.{place_piece, value_cells, text_cells}
+use Rattle.c_initial_values.specs.Parts.{is_aggregate, is_room_for, part_room}
 use Rattle.c_checks.specs.declared.env.Env.{Env}
 use Rattle.c_checks.specs.declared.notes.Notes.{Notes}
 use Rattle.c_checks.specs.Checks.{Check, pure, and_then, each, note_fault}
 use Rattle.c_judgements.specs.Types.{JudgementState}
-use Rattle.c_judgements.specs.Texts.{bytes_of}
+use Rattle.c_judgements.specs.Texts.{spelling_bytes}
 use Rattle.c_expressions.specs.Expressions.{judge}
 use Rattle.c_initialisers.specs.Unfit.{no_place}
 
@@ -31,8 +31,8 @@ abbrev pub FillingState : Type 0
 FillingState = List DataCell × JudgementState
 
 -- what is judged beside the cells
-abbrev pub beside : {A S : Type 0} → List DataCell → A × S → A × (List DataCell × S)
-beside cells x = (x.0, (cells, x.1))
+abbrev pub cells_beside : {A S : Type 0} → List DataCell → A × S → A × (List DataCell × S)
+cells_beside cells x = (x.0, (cells, x.1))
 
 -- what is filled where names stay as they are
 abbrev pub with_env : {A : Type 0} → Env → A × Filling → A × FillingState
@@ -52,7 +52,7 @@ abbrev pub put_scalar :
 put_scalar ty place at None is_taken cells = (None, cells)
 put_scalar ty place at (Some v) false cells = (None, cells)
 put_scalar ty place at (Some v) true cells =
-    (Some at, put place (value_cells (integer_of (type_view ty)) v) cells)
+    (Some at, place_piece place (value_cells (integer_of (type_view ty)) v) cells)
 
 abbrev pub with_notes : {A : Type 0} → A × List DataCell → Notes → A × Filling
 with_notes r n = (r.0, (r.1, n))
@@ -65,13 +65,13 @@ scalar_value ty place a f =
 
 -- ---- an array or a struct has no single value here
 
-abbrev pub value_of : CType → (place : ℕ) → TypedExpression → Filling → Option ℕ × Filling
-value_of ty place a f =
-    if is_aggregate ty then beside f.0 (no_place BadInit a.at f.1) else scalar_value ty place (decay a) f
+abbrev pub fill_value : CType → (place : ℕ) → TypedExpression → Filling → Option ℕ × Filling
+fill_value ty place a f =
+    if is_aggregate ty then cells_beside f.0 (no_place BadInit a.at f.1) else scalar_value ty place (decay a) f
 
 abbrev pub expression_value : CType → (place : ℕ) → e.Expr → FillingState → Option ℕ × FillingState
 expression_value ty place x s =
-    and_then (judge x s.1) (λ a u. with_env u.0 (each a (value_of ty place) (s.0, u.1)))
+    and_then (judge x s.1) (λ a u. with_env u.0 (each a (fill_value ty place) (s.0, u.1)))
 
 -- ---- but a text fills an array of characters, and is no object then
 
@@ -97,17 +97,17 @@ text_in (e.Comma' at _ operands) = None
 
 abbrev pub text_value : (place room at : ℕ) → (bytes : List ℕ) → Filling → Option ℕ × Filling
 text_value place room at bytes f =
-    if is_room_for room bytes then (Some at, (put place (text_cells room bytes) f.0, f.1))
-    else beside f.0 (no_place BadInit at f.1)
+    if is_room_for room bytes then (Some at, (place_piece place (text_cells room bytes) f.0, f.1))
+    else cells_beside f.0 (no_place BadInit at f.1)
 
-abbrev pub value_by :
+abbrev pub value_or_text :
     (room : Option ℕ) → (text : Option (ℕ × List (List ℕ))) → CType → (place : ℕ) → e.Expr → FillingState
     → Option ℕ × FillingState
-value_by None text ty place x s = expression_value ty place x s
-value_by (Some room) None ty place x s = expression_value ty place x s
-value_by (Some room) (Some spelled) ty place x s =
-    with_env s.1.0 (text_value place room spelled.0 (bytes_of spelled.1) (s.0, s.1.1))
+value_or_text None text ty place x s = expression_value ty place x s
+value_or_text (Some room) None ty place x s = expression_value ty place x s
+value_or_text (Some room) (Some spelled) ty place x s =
+    with_env s.1.0 (text_value place room spelled.0 (spelling_bytes spelled.1) (s.0, s.1.1))
 
 -- a single value at a place of an object
 abbrev pub single_value : CType → (place : ℕ) → e.Expr → FillingState → Option ℕ × FillingState
-single_value ty place x s = value_by (room_of ty) (text_in x) ty place x s
+single_value ty place x s = value_or_text (part_room ty) (text_in x) ty place x s

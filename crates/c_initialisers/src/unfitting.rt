@@ -100,7 +100,7 @@ pub fn unfit<'a>(
     env: &mut Env<'a>,
     notes: &mut Notes<'a>,
 ) -> Result<Option<u32>, AllocError>
-    ensures { Finds (spec.unfit kind init.now (env.old, notes.old)) result (env.new, notes.new) }
+    ensures { Finds (spec.faulty_init kind init.now (env.old, notes.old)) result (env.new, notes.new) }
 {
     match judge_init(alloc, init, env, notes)? {
         None => Ok(None),

@@ -2,7 +2,7 @@
 
 ghost use Rattle.std.specs.Prelude.{◌≡◌, OnOk};
 ghost use Rattle.std.specs.Option.{option_map};
-ghost use Rattle.c_judgements.specs.Texts.{bytes_of};
+ghost use Rattle.c_judgements.specs.Texts.{spelling_bytes};
 ghost use Rattle.c_checks.specs.Checks.{Finds};
 ghost use Rattle.c_initialisers.specs.Values as spec;
 
@@ -96,7 +96,7 @@ fn value_of(
     place: u64,
     a: TypedExpression,
 ) -> Result<Option<u32>, AllocError>
-    ensures { Finds (spec.value_of ty.now place a (cells.old.items, notes.old)) result (cells.new.items, notes.new) }
+    ensures { Finds (spec.fill_value ty.now place a (cells.old.items, notes.old)) result (cells.new.items, notes.new) }
 {
     if is_aggregate(ty) {
         return no_place(notes, Kind::BadInit, a.at);

@@ -8,7 +8,7 @@ use Rattle.c_typed_tree.specs.Typing.{Context, is_fit}
 use Rattle.c_type_faults.specs.declared.faults.Kind.TheVariants.{BadCall}
 use Rattle.c_type_rules.specs.declared.typed.TypedExpression.{TypedExpression}
 use Rattle.c_type_rules.specs.Rulings.{Ruling, fault}
-use Rattle.c_primary_rules.specs.Calls.{call}
+use Rattle.c_primary_rules.specs.Calls.{call_rvalue}
 use Rattle.c_operators.specs.Null.{take_value}
 use Rattle.c_checks.specs.declared.meanings.NameMeaning.{NameMeaning}
 use Rattle.c_checks.specs.declared.meanings.NameMeaning.TheVariants as m
@@ -100,7 +100,7 @@ module _ (c : Context) (names : Type 0) where
         first = all.first;
         knows = all.knows;
         takes = all.takes;
-        found = λ v k. mapped (λ xs. Takes c (convert_arguments tys args (Some []) n).1 → AreOfTypes c tys xs) (IsJudged c (Takes c (convert_arguments tys args (Some []) n).1)) (call at callee ty)
+        found = λ v k. mapped (λ xs. Takes c (convert_arguments tys args (Some []) n).1 → AreOfTypes c tys xs) (IsJudged c (Takes c (convert_arguments tys args (Some []) n).1)) (call_rvalue at callee ty)
             (convert_arguments tys args (Some []) n).0 (all.found v k)
             (λ xs g. record { whole = fit_whole c.structs (type_view ty) (f v).fit; typed = λ t. call_typed c at callee ty tys xs (f v) (g t) });
       }

@@ -6,7 +6,7 @@ use Rattle.c_tree.specs.declared.expressions.BinaryOp.{BinaryOp}
 use Rattle.c_tree.specs.declared.expressions.AssignOp.{AssignOp}
 use Rattle.c_tree.specs.declared.expressions.StepOp.{StepOp}
 use Rattle.c_literals.specs.declared.integers.IntegerLiteral.{IntegerLiteral}
-use Rattle.c_literals.specs.Integers.{integer}
+use Rattle.c_literals.specs.Integers.{integer_literal}
 use Rattle.c_literals.specs.Characters.{character}
 use Rattle.data_object.specs.declared.DataObject.{DataObject}
 use Rattle.data_object.specs.declared.TheConstants.{MOST_DATA}
@@ -25,10 +25,10 @@ use Rattle.c_type_rules.specs.declared.typed.TypedExpression.{TypedExpression}
 use Rattle.c_type_rules.specs.Conversions.{decay}
 use Rattle.c_place_rules.specs.Places.{step_behind}
 use Rattle.c_place_rules.specs.Members.{field, arrow, size}
-use Rattle.c_primary_rules.specs.Commas.{comma}
-use Rattle.c_primary_rules.specs.Primary.{literal, integer_constant, character_value, character_constant, enumeration_constant, local, object, text, text_type}
-use Rattle.c_operators.specs.Unary.{unary}
-use Rattle.c_operators.specs.Binary.{binary, subscript, conditional}
+use Rattle.c_primary_rules.specs.Commas.{comma_value}
+use Rattle.c_primary_rules.specs.Primary.{literal_value, integer_constant, character_value, character_constant, enumeration_constant, local, static_object, text, text_type}
+use Rattle.c_operators.specs.Unary.{unary_ruling}
+use Rattle.c_operators.specs.Binary.{binary_ruling, subscript, conditional_ruling}
 use Rattle.c_operators.specs.Assigned.{assign}
 use Rattle.c_operators.specs.Casts.{cast_to, size_of_type}
 use Rattle.c_checks.specs.declared.meanings.NameMeaning.{NameMeaning}
@@ -38,7 +38,7 @@ use Rattle.c_checks.specs.Checks.{pure, and_then, fault, note_fault}
 use Rattle.c_checks.specs.Notes.{with_use, new_text}
 use Rattle.c_judgements.specs.Operators as form
 use Rattle.c_judgements.specs.Names.{name_of}
-use Rattle.c_judgements.specs.Texts.{bytes_of, string}
+use Rattle.c_judgements.specs.Texts.{spelling_bytes, string}
 use Rattle.c_judgements.specs.Members.{struct_number, target_number, member_at, meaning_in, member_of, number_in, field_in, field_named, arrow_in, arrow_named}
 use Rattle.c_judgements.specs.declared.members.MemberMeaning.{MemberMeaning}
 use Rattle.c_judgements.specs.declared.members.MemberMeaning.TheVariants as w
@@ -126,40 +126,40 @@ module _ (c : Context) (lawful : IsLawfulContext c) (names : Type 0) where
   prefix_judged at op a n h =
       let later = later_taken c op a.place n in
       found_later c names (IsJudged c) n (form.taken_by op a.place n) (form.apply_prefix at op a n) later
-      (found_ruled c names (IsJudged c) (form.taken_by op a.place n) (unary n.structs at op a)
+      (found_ruled c names (IsJudged c) (form.taken_by op a.place n) (unary_ruling n.structs at op a)
       (λ v k. let known = later.knows k in
-      joined c (Takes c (form.taken_by op a.place n)) (unary n.structs at op a) (unary_whole n.structs at op a (h v known).whole)
+      joined c (Takes c (form.taken_by op a.place n)) (unary_ruling n.structs at op a) (unary_whole n.structs at op a (h v known).whole)
       (λ t. unary_typed c n.structs at op a known.structs_known.complete (taken_memory c op a.place n t) ((h v known).typed (later.takes t)))))
 
   pub between_judged : (at : ℕ) (op : BinaryOp) (a b : TypedExpression) (n : Notes) → (names → Knows c n → IsJudged c (Takes c n) a) → (names → Knows c n → IsJudged c (Takes c n) b)
-      → Judges c names (IsJudged c) n (form.between at op a b n)
+      → Judges c names (IsJudged c) n (form.binary_check at op a b n)
   between_judged at op a b n h g =
-      found_ruled c names (IsJudged c) n (binary n.structs at op a b)
-      (λ v k. joined c (Takes c n) (binary n.structs at op a b) (binary_whole n.structs at op a b (h v k).whole (g v k).whole)
+      found_ruled c names (IsJudged c) n (binary_ruling n.structs at op a b)
+      (λ v k. joined c (Takes c n) (binary_ruling n.structs at op a b) (binary_whole n.structs at op a b (h v k).whole (g v k).whole)
       (λ t. binary_typed c n.structs at op a b k.structs_known.complete ((h v k).typed t) ((g v k).typed t)))
 
   pub assignment_judged : (at : ℕ) (op : AssignOp) (a b : TypedExpression) (n : Notes) → (names → Knows c n → IsJudged c (Takes c n) a) → (names → Knows c n → IsJudged c (Takes c n) b)
-      → Judges c names (IsJudged c) n (form.assignment at op a b n)
+      → Judges c names (IsJudged c) n (form.assignment_check at op a b n)
   assignment_judged at op a b n h g =
       found_ruled c names (IsJudged c) n (assign n.structs at op a b)
       (λ v k. joined c (Takes c n) (assign n.structs at op a b) (assign_whole n.structs at op a b (h v k).whole)
       (λ t. assign_typed c n.structs at op a b k.structs_known.complete ((h v k).typed t) ((g v k).typed t)))
 
   pub element_judged : (at : ℕ) (a b : TypedExpression) (n : Notes) → (names → Knows c n → IsJudged c (Takes c n) a) → (names → Knows c n → IsJudged c (Takes c n) b)
-      → Judges c names (IsJudged c) n (form.element at a b n)
+      → Judges c names (IsJudged c) n (form.subscript_check at a b n)
   element_judged at a b n h g =
       found_ruled c names (IsJudged c) n (subscript n.structs at a b)
       (λ v k. joined c (Takes c n) (subscript n.structs at a b) (subscript_whole n.structs at a b (h v k).whole (g v k).whole)
       (λ t. subscript_typed c n.structs at a b k.structs_known.complete ((h v k).typed t) ((g v k).typed t)))
 
   pub choice_judged : (at : ℕ) (q a b : TypedExpression) (n : Notes) → (names → Knows c n → IsJudged c (Takes c n) q) → (names → Knows c n → IsJudged c (Takes c n) a) → (names → Knows c n → IsJudged c (Takes c n) b)
-      → Judges c names (IsJudged c) n (form.choice at q a b n)
+      → Judges c names (IsJudged c) n (form.choice_check at q a b n)
   choice_judged at q a b n f h g =
-      found_ruled c names (IsJudged c) n (conditional at q a b)
-      (λ v k. joined c (Takes c n) (conditional at q a b) (conditional_whole at q a b (h v k).whole (g v k).whole)
+      found_ruled c names (IsJudged c) n (conditional_ruling at q a b)
+      (λ v k. joined c (Takes c n) (conditional_ruling at q a b) (conditional_whole at q a b (h v k).whole (g v k).whole)
       (λ t. conditional_typed c at q a b ((f v k).typed t) ((h v k).typed t) ((g v k).typed t)))
 
-  pub cast_judged : (at : ℕ) (to : DeclaredType) (a : TypedExpression) (n : Notes) → (names → Knows c n → IsFitType c to) → (names → Knows c n → IsJudged c (Takes c n) a) → Judges c names (IsJudged c) n (form.cast at to a n)
+  pub cast_judged : (at : ℕ) (to : DeclaredType) (a : TypedExpression) (n : Notes) → (names → Knows c n → IsFitType c to) → (names → Knows c n → IsJudged c (Takes c n) a) → Judges c names (IsJudged c) n (form.cast_check at to a n)
   cast_judged at to a n f h =
       found_ruled c names (IsJudged c) n (cast_to at to a)
       (λ v k. joined c (Takes c n) (cast_to at to a) (cast_whole at to a (fit_type_whole c to (f v k))) (λ t. cast_to_typed c at to a (f v k) ((h v k).typed t)))
@@ -177,7 +177,7 @@ module _ (c : Context) (lawful : IsLawfulContext c) (names : Type 0) where
   size_name_judged at (d.Unsized element) n h = found_fault c names (IsJudged c) at _ n
   size_name_judged at (d.Function result parameters) n h = found_fault c names (IsJudged c) at _ n
 
-  pub behind_judged : (at : ℕ) (op : StepOp) (a : TypedExpression) (n : Notes) → (names → Knows c n → IsJudged c (Takes c n) a) → Judges c names (IsJudged c) n (form.behind at op a n)
+  pub behind_judged : (at : ℕ) (op : StepOp) (a : TypedExpression) (n : Notes) → (names → Knows c n → IsJudged c (Takes c n) a) → Judges c names (IsJudged c) n (form.postfix_check at op a n)
   behind_judged at op a n h =
       found_ruled c names (IsJudged c) n (step_behind n.structs at op a)
       (λ v k. joined c (Takes c n) (step_behind n.structs at op a) (behind_whole n.structs at op a (h v k).whole) (λ t. step_behind_typed c n.structs at op a k.structs_known.complete ((h v k).typed t)))
@@ -192,7 +192,7 @@ module _ (c : Context) (lawful : IsLawfulContext c) (names : Type 0) where
   all_typed taken [] h t = tt
   all_typed taken (a ∷ rest) h t = (h.0.typed t, all_typed taken rest h.1 t)
 
-  comma_judged : (at : ℕ) (taken : Type 0) (a b : TypedExpression) (rest : List TypedExpression) → AreJudged c taken (a ∷ b ∷ rest) → IsJudged c taken (comma at (a ∷ b ∷ rest))
+  comma_judged : (at : ℕ) (taken : Type 0) (a b : TypedExpression) (rest : List TypedExpression) → AreJudged c taken (a ∷ b ∷ rest) → IsJudged c taken (comma_value at (a ∷ b ∷ rest))
   comma_judged at taken a b rest h = record {
     whole = comma_whole at (a ∷ b ∷ rest) (all_whole taken (a ∷ b ∷ rest) h);
     typed = λ t. comma_typed c at a b rest (h.0.typed t) (h.1.0.typed t) (all_typed taken rest h.1.1 t);
@@ -202,15 +202,15 @@ module _ (c : Context) (lawful : IsLawfulContext c) (names : Type 0) where
   commas_judged at None n h = found_none c names (IsJudged c) n n (later_itself c n)
   commas_judged at (Some []) n h = found_fault c names (IsJudged c) at _ n
   commas_judged at (Some (a ∷ [])) n h = found_fault c names (IsJudged c) at _ n
-  commas_judged at (Some (a ∷ b ∷ rest)) n h = found_itself c names (IsJudged c) n (comma at (a ∷ b ∷ rest)) (λ v k. comma_judged at (Takes c n) a b rest (h v k))
+  commas_judged at (Some (a ∷ b ∷ rest)) n h = found_itself c names (IsJudged c) n (comma_value at (a ∷ b ∷ rest)) (λ v k. comma_judged at (Takes c n) a b rest (h v k))
 
   -- ---- constants, names and texts
 
   pub integer_judged : (at : ℕ) (spelling : List ℕ) (n : Notes) → Judges c names (IsJudged c) n (note_fault (integer_constant at spelling) n)
   integer_judged at spelling n =
-      found_ruled c names (IsJudged c) n (integer_constant at spelling) (λ v k. joined c (Takes c n) (integer_constant at spelling) (of (integer spelling)) (λ t. integer_constant_typed c at spelling))
+      found_ruled c names (IsJudged c) n (integer_constant at spelling) (λ v k. joined c (Takes c n) (integer_constant at spelling) (of (integer_literal spelling)) (λ t. integer_constant_typed c at spelling))
     where
-      of : (q : Option IntegerLiteral) → IfOk (literal at q) V
+      of : (q : Option IntegerLiteral) → IfOk (literal_value at q) V
       of None = tt
       of (Some l) = integer_whole l.ty
 
@@ -230,7 +230,7 @@ module _ (c : Context) (lawful : IsLawfulContext c) (names : Type 0) where
       found_itself c names (IsJudged c) n (local at number ty)
       (λ v k. record { whole = fit_whole c.structs (type_view ty) (h v).type.fit; typed = λ t. local_typed c at number ty (h v).named (h v).type.fit (h v).type.depth })
   name_judged at (Some (m.Object number ty)) n h =
-      found_itself c names (IsJudged c) n (object at number ty)
+      found_itself c names (IsJudged c) n (static_object at number ty)
       (λ v k. record { whole = fit_whole c.structs (type_view ty) (h v).type.fit; typed = λ t. object_typed c at number ty (h v).named (h v).type.fit (h v).type.depth })
   name_judged at (Some (m.Constant word)) n h =
       found_itself c names (IsJudged c) n (enumeration_constant at word) (λ v k. record { whole = integer_whole i.Int; typed = λ t. number_typed c at i.Int word (h v) })
@@ -252,10 +252,10 @@ module _ (c : Context) (lawful : IsLawfulContext c) (names : Type 0) where
       }))
 
   pub string_judged : (at : ℕ) (spellings : List (List ℕ)) (n : Notes) → Judges c names (IsJudged c) n (string at spellings n)
-  string_judged at spellings n = choose (nat_le (length (bytes_of spellings)) MOST_DATA)
+  string_judged at spellings n = choose (nat_le (length (spelling_bytes spellings)) MOST_DATA)
     where
-      choose : (b : Bool) → Judges c names (IsJudged c) n (if b then and_then (new_text (bytes_of spellings) n) (λ number. pure (Some (text at number (length (bytes_of spellings))))) else fault at BadType n)
-      choose true = text_judged at (bytes_of spellings) n
+      choose : (b : Bool) → Judges c names (IsJudged c) n (if b then and_then (new_text (spelling_bytes spellings) n) (λ number. pure (Some (text at number (length (spelling_bytes spellings))))) else fault at BadType n)
+      choose true = text_judged at (spelling_bytes spellings) n
       choose false = found_fault c names (IsJudged c) at BadType n
 
   -- ---- members

@@ -12,7 +12,7 @@ use Rattle.c_typed_tree.specs.Types.{PlainType, Void, Int, Pointer, Array, Struc
 use Rattle.c_typed_tree.specs.View.{type_view}
 use Rattle.c_typed_tree.specs.Constants.{is_integer}
 use Rattle.c_typed_tree.specs.Layout.{is_complete, is_object, size_of, struct_size, struct_member}
-use Rattle.c_typed_tree.specs.Typing.{Context, is_type, is_fit, has_member_type, depth_of, depth_behind, struct_depth}
+use Rattle.c_typed_tree.specs.Typing.{Context, is_valid_type, is_fit, has_member_type, depth_of, depth_behind, struct_depth}
 use Rattle.c_typed_tree.specs.Lawful.{IsCompleteStruct, IsStruct, IsLawfulStruct, is_object_type}
 use Rattle.c_type_laws.specs.Typed.{AreKnown, IsMemberOf, IsSmall}
 use Rattle.c_type_laws.proofs.Truth.{no_true, front, back, also}
@@ -42,25 +42,25 @@ behind_within ds (Struct n) = one_at_least (slice_get ds n)
 
 -- ---- types of declared objects
 
-type_whole : (ds : List StructDef) (x : PlainType) → IsTrue (is_type ds x) → IsTrue (is_whole x)
+type_whole : (ds : List StructDef) (x : PlainType) → IsTrue (is_valid_type ds x) → IsTrue (is_whole x)
 type_whole ds Void h = refl
 type_whole ds (Int n s) h = h
 type_whole ds (Pointer x) h = type_whole ds x h
-type_whole ds (Array x n) h = type_whole ds x (front (is_type ds x) (is_object ds (Array x n)) h)
+type_whole ds (Array x n) h = type_whole ds x (front (is_valid_type ds x) (is_object ds (Array x n)) h)
 type_whole ds (Struct n) h = refl
 
 pub fit_whole : (ds : List StructDef) (x : PlainType) → IsTrue (is_fit ds x) → IsTrue (is_whole x)
-fit_whole ds x h = type_whole ds x (front (is_type ds x) (nat_le (depth_behind x) 257) h)
+fit_whole ds x h = type_whole ds x (front (is_valid_type ds x) (nat_le (depth_behind x) 257) h)
 
 -- a type of objects that is no deeper than a type may be
 pub object_depth : (ds : List StructDef) (x : PlainType) → IsTrue (is_object_type ds x) → IsTrue (nat_le (depth_behind x) 256)
 object_depth ds x h =
-    le-leb (depth_behind x) 256 (le_trans (behind_within ds x) (leb-true (depth_of ds x) 256 (back (is_type ds x && is_object ds x) (nat_le (depth_of ds x) 256) h)))
+    le-leb (depth_behind x) 256 (le_trans (behind_within ds x) (leb-true (depth_of ds x) 256 (back (is_valid_type ds x && is_object ds x) (nat_le (depth_of ds x) 256) h)))
 
 pub object_fits : (ds : List StructDef) (x : PlainType) → IsTrue (is_object_type ds x) → IsTrue (is_fit ds x)
 object_fits ds x h =
     let k = leb-true (depth_behind x) 256 (object_depth ds x h) in
-    also (is_type ds x) (nat_le (depth_behind x) 257) (front (is_type ds x) (is_object ds x) (front (is_type ds x && is_object ds x) (nat_le (depth_of ds x) 256) h)) (le-leb (depth_behind x) 257 (omega arith))
+    also (is_valid_type ds x) (nat_le (depth_behind x) 257) (front (is_valid_type ds x) (is_object ds x) (front (is_valid_type ds x && is_object ds x) (nat_le (depth_of ds x) 256) h)) (le-leb (depth_behind x) 257 (omega arith))
 
 -- ---- sizes
 

@@ -22,7 +22,7 @@ use Rattle.c_declared_types.specs.declared.declared.DeclaredType.TheVariants as 
 use Rattle.c_type_rules.specs.declared.typed.TypedExpression.{TypedExpression}
 use Rattle.c_type_rules.specs.Rulings.{Ruling}
 use Rattle.c_type_rules.specs.Types.{points_to_struct}
-use Rattle.c_type_rules.specs.Values.{integer_type, integer, is_same}
+use Rattle.c_type_rules.specs.Values.{type_of_integer, integer, is_same}
 use Rattle.c_type_rules.specs.Arithmetic as arithmetic
 use Rattle.c_type_rules.specs.Comparisons as comparisons
 use Rattle.c_type_rules.specs.Conversions as conversions
@@ -50,7 +50,7 @@ W ty = IsTrue (is_whole (type_view ty))
 abbrev pub V : TypedExpression → Type 0
 V a = IsTrue (is_whole (type_view a.ty))
 
-pub integer_whole : (s : IntegerType) → W (integer_type s)
+pub integer_whole : (s : IntegerType) → W (type_of_integer s)
 unfolding opens
 integer_whole i.Char = refl
 integer_whole i.UnsignedChar = refl
@@ -92,7 +92,7 @@ dereference_whole : (ds : List StructDef) (at : ℕ) (a : TypedExpression) (q : 
 dereference_whole ds at a None h k = tt
 dereference_whole ds at a (Some x) h k = led_whole ds a.ty x h k
 
-pub unary_whole : (ds : List StructDef) (at : ℕ) (op : UnaryOp) (a : TypedExpression) → V a → IfOk (operators.unary ds at op a) V
+pub unary_whole : (ds : List StructDef) (at : ℕ) (op : UnaryOp) (a : TypedExpression) → V a → IfOk (operators.unary_ruling ds at op a) V
 unary_whole ds at u.Increment a h = step_whole ds at u.Increment a h
 unary_whole ds at u.Decrement a h = step_whole ds at u.Decrement a h
 unary_whole ds at u.Address a h = given V (places.is_somewhere a.place) _ _ (λ s. pointer_whole a.ty h) (λ s. tt)
@@ -114,7 +114,7 @@ shift_whole at op x y None r = tt
 shift_whole at op x y (Some s) None = tt
 shift_whole at op x y (Some s) (Some k) = integer_whole (promote s)
 
-sum_whole : (ds : List StructDef) (at : ℕ) (x y : TypedExpression) → V x → V y → IfOk (arithmetic.sum ds at x y) V
+sum_whole : (ds : List StructDef) (at : ℕ) (x y : TypedExpression) → V x → V y → IfOk (arithmetic.addition ds at x y) V
 sum_whole ds at x y h g =
     given V (points_to_object ds (type_view x.ty)) _ _
     (λ p. given V (is_integer (type_view y.ty)) _ _ (λ n. h) (λ n. tt))
@@ -122,7 +122,7 @@ sum_whole ds at x y h g =
     (λ q. given V (is_integer (type_view x.ty)) _ _ (λ n. g) (λ n. tt))
     (λ q. arithmetic_whole at b.Add x y (integer x) (integer y)))
 
-difference_whole : (ds : List StructDef) (at : ℕ) (x y : TypedExpression) → V x → V y → IfOk (arithmetic.difference ds at x y) V
+difference_whole : (ds : List StructDef) (at : ℕ) (x y : TypedExpression) → V x → V y → IfOk (arithmetic.subtraction ds at x y) V
 difference_whole ds at x y h g =
     given V (points_to_object ds (type_view x.ty)) _ _
     (λ p. given V (is_integer (type_view y.ty)) _ _ (λ n. h)
@@ -147,7 +147,7 @@ equality_whole at op x y na nb (Some s) (Some k) = integer_whole i.Int
 equality_whole at op x y na nb (Some s) None = equal_whole at op x y (meet x.ty y.ty na nb)
 equality_whole at op x y na nb None r = equal_whole at op x y (meet x.ty y.ty na nb)
 
-between_whole : (ds : List StructDef) (at : ℕ) (op : BinaryOp) (x y : TypedExpression) → V x → V y → IfOk (binaries.between ds at op x y) V
+between_whole : (ds : List StructDef) (at : ℕ) (op : BinaryOp) (x y : TypedExpression) → V x → V y → IfOk (binaries.binary_operation ds at op x y) V
 between_whole ds at b.LogicalOr x y h g = logical_whole at b.LogicalOr x y
 between_whole ds at b.LogicalAnd x y h g = logical_whole at b.LogicalAnd x y
 between_whole ds at b.Or x y h g = arithmetic_whole at b.Or x y (integer x) (integer y)
@@ -167,7 +167,7 @@ between_whole ds at b.Multiply x y h g = arithmetic_whole at b.Multiply x y (int
 between_whole ds at b.Divide x y h g = arithmetic_whole at b.Divide x y (integer x) (integer y)
 between_whole ds at b.Remainder x y h g = arithmetic_whole at b.Remainder x y (integer x) (integer y)
 
-pub binary_whole : (ds : List StructDef) (at : ℕ) (op : BinaryOp) (x y : TypedExpression) → V x → V y → IfOk (binaries.binary ds at op x y) V
+pub binary_whole : (ds : List StructDef) (at : ℕ) (op : BinaryOp) (x y : TypedExpression) → V x → V y → IfOk (binaries.binary_ruling ds at op x y) V
 binary_whole ds at op x y h g = between_whole ds at op (decay x) (decay y) (decay_whole x h) (decay_whole y g)
 
 element_whole : (ds : List StructDef) (at : ℕ) (x y : TypedExpression) (ty : t.CType) (is_index : Bool) (q : Option t.CType) → W ty → IfSome q (Leads ds (type_view ty)) → IfOk (places.element_by_index at x y is_index q) V
@@ -209,7 +209,7 @@ on_whole at (Err f) x y h g = tt
 on_whole at (Ok c) x y h g =
     choice_whole at c (decay x) (decay y) (is_null_for (decay y).ty (decay x)) (is_null_for (decay x).ty (decay y)) (integer (decay x)) (integer (decay y)) (decay_whole x h) (decay_whole y g)
 
-pub conditional_whole : (at : ℕ) (c x y : TypedExpression) → V x → V y → IfOk (binaries.conditional at c x y) V
+pub conditional_whole : (at : ℕ) (c x y : TypedExpression) → V x → V y → IfOk (binaries.conditional_ruling at c x y) V
 conditional_whole at c x y h g = on_whole at (binaries.condition_tree c) x y h g
 
 -- ---- assignments
@@ -228,7 +228,7 @@ moved_whole ds at op x y (Some s) (Some k) h = h
 compound_whole : (ds : List StructDef) (at : ℕ) (op : AssignOp) (x y : TypedExpression) → V x → IfOk (assignments.compound ds at op x y) V
 compound_whole ds at op x y h = given V (places.is_assignable x) _ _ (λ s. moved_whole ds at op x y (integer x) (integer y) h) (λ s. tt)
 
-value_whole : (ds : List StructDef) (at : ℕ) (op : AssignOp) (x y : TypedExpression) → V x → IfOk (assigned.with_value ds at op x y) V
+value_whole : (ds : List StructDef) (at : ℕ) (op : AssignOp) (x y : TypedExpression) → V x → IfOk (assigned.assign_rvalue ds at op x y) V
 value_whole ds at o.Set x y h = given V (places.is_assignable x) _ _ (λ s. set_whole at x (conversions.value_for_type x.ty y (is_null_for x.ty y)) h) (λ s. tt)
 value_whole ds at o.Multiply x y h = compound_whole ds at o.Multiply x y h
 value_whole ds at o.Divide x y h = compound_whole ds at o.Divide x y h
@@ -275,13 +275,13 @@ abbrev pub AreWhole : List TypedExpression → Type 0
 AreWhole [] = Unit {0}
 AreWhole (a ∷ rest) = V a × AreWhole rest
 
-gathered_whole : (xs : List TypedExpression) (g : CommaOperands) → W g.last → AreWhole xs → W (commas.gathered_from g xs).last
+gathered_whole : (xs : List TypedExpression) (g : CommaOperands) → W g.last → AreWhole xs → W (commas.comma_operands g xs).last
 gathered_whole [] g h k = h
-gathered_whole (a ∷ rest) g h k = gathered_whole rest (commas.with_value (decay a) g) (decay_whole a k.0) k.1
+gathered_whole (a ∷ rest) g h k = gathered_whole rest (commas.with_operand (decay a) g) (decay_whole a k.0) k.1
 
 void_whole : W t.Void
 unfolding opens
 void_whole = refl
 
-pub comma_whole : (at : ℕ) (xs : List TypedExpression) → AreWhole xs → V (commas.comma at xs)
-comma_whole at xs h = gathered_whole xs commas.nothing void_whole h
+pub comma_whole : (at : ℕ) (xs : List TypedExpression) → AreWhole xs → V (commas.comma_value at xs)
+comma_whole at xs h = gathered_whole xs commas.no_operands void_whole h

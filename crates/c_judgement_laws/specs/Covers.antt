@@ -78,7 +78,8 @@ AreInMemory c (number ∷ rest) = IsTrue (may_be_memory (slice_get c.locals numb
 
 -- an object of so many bytes, as a string literal is
 abbrev pub IsTextObject : Context → (number length : ℕ) → Type 0
-IsTextObject c number size = IsTrue (has_global_type c.structs (slice_get c.globals number) (type_view (text_type size)))
+IsTextObject c number size =
+    IsTrue (has_global_type c.structs (slice_get c.globals number) (type_view (text_type size)))
 
 -- the texts are objects, from a number on
 abbrev pub HaveTexts : Context → (number : ℕ) → List (List ℕ) → Type 0

@@ -15,7 +15,7 @@ use Rattle.c_checks.specs.declared.env.Env.{Env}
 use Rattle.c_checks.specs.declared.notes.Notes.{Notes}
 use Rattle.c_checks.specs.Checks.{note_fault}
 use Rattle.c_checks.specs.Scopes.{meaning_of}
-use Rattle.c_judgements.specs.Operators.{apply_prefix, between, assignment, element, choice, cast, size_of_value, size_of_name, behind, commas}
+use Rattle.c_judgements.specs.Operators.{apply_prefix, binary_check, assignment_check, subscript_check, choice_check, cast_check, size_of_value, size_of_name, postfix_check, commas}
 use Rattle.c_judgements.specs.Names.{name_of}
 use Rattle.c_judgements.specs.Texts.{string}
 use Rattle.c_judgements.specs.Calls.{call_by_meaning}
@@ -38,29 +38,30 @@ abbrev pub BetweenIsJudged : Type 0
 BetweenIsJudged =
     (c : Context) → IsLawfulContext c → (env : Env) (at : ℕ) (op : BinaryOp) (a b : TypedExpression) (n : Notes) →
     IsJudgedOperand c env n a → IsJudgedOperand c env n b → Judges c (HasNames c env)
-    (IsJudged c) n (between at op a b n)
+    (IsJudged c) n (binary_check at op a b n)
 
 abbrev pub AssignmentIsJudged : Type 0
 AssignmentIsJudged =
     (c : Context) → IsLawfulContext c → (env : Env) (at : ℕ) (op : AssignOp) (a b : TypedExpression) (n : Notes) →
     IsJudgedOperand c env n a → IsJudgedOperand c env n b → Judges c (HasNames c env)
-    (IsJudged c) n (assignment at op a b n)
+    (IsJudged c) n (assignment_check at op a b n)
 
 abbrev pub ElementIsJudged : Type 0
 ElementIsJudged =
     (c : Context) → IsLawfulContext c → (env : Env) (at : ℕ) (a b : TypedExpression) (n : Notes) →
-    IsJudgedOperand c env n a → IsJudgedOperand c env n b → Judges c (HasNames c env) (IsJudged c) n (element at a b n)
+    IsJudgedOperand c env n a → IsJudgedOperand c env n b → Judges c (HasNames c env)
+    (IsJudged c) n (subscript_check at a b n)
 
 abbrev pub ChoiceIsJudged : Type 0
 ChoiceIsJudged =
     (c : Context) → IsLawfulContext c → (env : Env) (at : ℕ) (q a b : TypedExpression) (n : Notes) →
     IsJudgedOperand c env n q → IsJudgedOperand c env n a → IsJudgedOperand c env n b →
-    Judges c (HasNames c env) (IsJudged c) n (choice at q a b n)
+    Judges c (HasNames c env) (IsJudged c) n (choice_check at q a b n)
 
 abbrev pub StepIsJudged : Type 0
 StepIsJudged =
     (c : Context) → IsLawfulContext c → (env : Env) (at : ℕ) (op : StepOp) (a : TypedExpression) (n : Notes) →
-    IsJudgedOperand c env n a → Judges c (HasNames c env) (IsJudged c) n (behind at op a n)
+    IsJudgedOperand c env n a → Judges c (HasNames c env) (IsJudged c) n (postfix_check at op a n)
 
 abbrev pub CommaIsJudged : Type 0
 CommaIsJudged =
@@ -74,7 +75,7 @@ abbrev pub CastIsJudged : Type 0
 CastIsJudged =
     (c : Context) → IsLawfulContext c → (env : Env) (at : ℕ) (to : DeclaredType) (a : TypedExpression) (n : Notes) →
     (HasNames c env → Knows c n → IsFitType c to) → IsJudgedOperand c env n a →
-    Judges c (HasNames c env) (IsJudged c) n (cast at to a n)
+    Judges c (HasNames c env) (IsJudged c) n (cast_check at to a n)
 
 abbrev pub SizeIsJudged : Type 0
 SizeIsJudged =

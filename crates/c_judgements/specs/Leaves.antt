@@ -13,7 +13,7 @@ use Rattle.c_typed_tree.specs.declared.types.CType as c
 use Rattle.c_typed_tree.specs.declared.types.StructDef.{StructDef}
 use Rattle.c_type_faults.specs.declared.faults.Kind.{Kind}
 use Rattle.c_type_faults.specs.declared.faults.Kind.TheVariants.{UnknownName, Redeclared, BadType}
-use Rattle.c_type_rules.specs.Values.{integer_type}
+use Rattle.c_type_rules.specs.Values.{type_of_integer}
 use Rattle.c_checks.specs.declared.env.Env.{Env}
 use Rattle.c_checks.specs.declared.meanings.NameMeaning.{NameMeaning}
 use Rattle.c_checks.specs.declared.meanings.NameMeaning.TheVariants as m
@@ -27,30 +27,30 @@ use Rattle.c_checks.specs.Scopes.{meaning_of}
 -- `char` is signed, so `signed char` is the same type
 abbrev pub basic : BasicType → c.CType
 basic b.Void = c.Void
-basic b.Char = integer_type i.Char
-basic b.SignedChar = integer_type i.Char
-basic b.UnsignedChar = integer_type i.UnsignedChar
-basic b.Short = integer_type i.Short
-basic b.UnsignedShort = integer_type i.UnsignedShort
-basic b.Int = integer_type i.Int
-basic b.Signed = integer_type i.Int
-basic b.Unsigned = integer_type i.UnsignedInt
-basic b.Long = integer_type i.Long
-basic b.UnsignedLong = integer_type i.UnsignedLong
+basic b.Char = type_of_integer i.Char
+basic b.SignedChar = type_of_integer i.Char
+basic b.UnsignedChar = type_of_integer i.UnsignedChar
+basic b.Short = type_of_integer i.Short
+basic b.UnsignedShort = type_of_integer i.UnsignedShort
+basic b.Int = type_of_integer i.Int
+basic b.Signed = type_of_integer i.Int
+basic b.Unsigned = type_of_integer i.UnsignedInt
+basic b.Long = type_of_integer i.Long
+basic b.UnsignedLong = type_of_integer i.UnsignedLong
 
 abbrev pub no_type : ℕ → Kind → Check (Option DeclaredType)
 no_type at kind = fault at kind
 
 -- a typedef name (6.7.7)
-abbrev pub named_type : ℕ → Option NameMeaning → Check (Option DeclaredType)
-named_type at None n = no_type at UnknownName n
-named_type at (Some m.Faulty) n = (None, n)
-named_type at (Some (m.Undefined number)) n = no_type at BadType n
-named_type at (Some (m.Local number ty)) n = no_type at BadType n
-named_type at (Some (m.Object number ty)) n = no_type at BadType n
-named_type at (Some (m.Constant word)) n = no_type at BadType n
-named_type at (Some (m.Function callee result parameters)) n = no_type at BadType n
-named_type at (Some (m.Typedef ty)) n = (Some ty, n)
+abbrev pub typedef_type : ℕ → Option NameMeaning → Check (Option DeclaredType)
+typedef_type at None n = no_type at UnknownName n
+typedef_type at (Some m.Faulty) n = (None, n)
+typedef_type at (Some (m.Undefined number)) n = no_type at BadType n
+typedef_type at (Some (m.Local number ty)) n = no_type at BadType n
+typedef_type at (Some (m.Object number ty)) n = no_type at BadType n
+typedef_type at (Some (m.Constant word)) n = no_type at BadType n
+typedef_type at (Some (m.Function callee result parameters)) n = no_type at BadType n
+typedef_type at (Some (m.Typedef ty)) n = (Some ty, n)
 
 -- ---- tags (6.7.2.3), which are all of file scope: one that is new is declared
 
@@ -59,7 +59,7 @@ tag_named found = option_map (λ r. r.1) found
 
 -- an enum is `int`
 abbrev pub int_type : Option DeclaredType
-int_type = Some (d.Value (integer_type i.Int))
+int_type = Some (d.Value (type_of_integer i.Int))
 
 abbrev pub enum_tagged : ℕ → List ℕ → Option Tag → Check (Option DeclaredType)
 enum_tagged at name None n = (int_type, with_tag name g.Enum n)
@@ -74,15 +74,16 @@ enum_type at None n = (int_type, n)
 enum_type at (Some name) n = tagged_enum at name n
 
 -- a struct whose members are not known
-abbrev pub incomplete : List ℕ → StructDef
-incomplete name = record { tag = name; complete = false; members = []; size = 0; align = 0; depth = 0 }
+abbrev pub incomplete_struct : List ℕ → StructDef
+incomplete_struct name = record { tag = name; complete = false; members = []; size = 0; align = 0; depth = 0 }
 
 abbrev pub struct_numbered : (number : ℕ) → Option DeclaredType
 struct_numbered number = Some (d.Value (c.Struct number))
 
 abbrev pub new_struct_type : List ℕ → Check (Option DeclaredType)
 new_struct_type name n =
-    and_then (new_struct (incomplete name) n) (λ number o. (struct_numbered number, with_tag name (g.Struct number) o))
+    and_then (new_struct (incomplete_struct name) n)
+    (λ number o. (struct_numbered number, with_tag name (g.Struct number) o))
 
 abbrev pub struct_tagged : ℕ → List ℕ → Option Tag → Check (Option DeclaredType)
 struct_tagged at name None n = new_struct_type name n
@@ -108,7 +109,7 @@ struct_type at (Some name) n = tagged_struct at name n
 
 unfoldable pub leaf : Env → ℕ → t.TypeNode → Check (Option DeclaredType)
 leaf env at (t.Basic words) n = (Some (d.Value (basic words)), n)
-leaf env at (t.Named name) n = named_type at (meaning_of env name) n
+leaf env at (t.Named name) n = typedef_type at (meaning_of env name) n
 leaf env at (t.Enum' place tag constants) n = enum_type place tag n
 leaf env at (t.Struct' place tag members) n = struct_type place tag n
 leaf env at (t.Pointer' _ (k.more_of-TypeNode x k.end_of-TypeNode)) n = leaf env at x n

@@ -13,8 +13,8 @@ abbrev pub join_spellings : (spellings : List (List ℕ)) → List ℕ
 join_spellings [] = []
 join_spellings (s ∷ ss) = text_bytes s ++ join_spellings ss
 
-abbrev pub bytes_of : (spellings : List (List ℕ)) → List ℕ
-bytes_of spellings = join_spellings spellings ++ 0 ∷ []
+abbrev pub spelling_bytes : (spellings : List (List ℕ)) → List ℕ
+spelling_bytes spellings = join_spellings spellings ++ 0 ∷ []
 
 -- its array is no larger than the data may be
 abbrev pub string_of : ℕ → (bytes : List ℕ) → Check (Option TypedExpression)
@@ -24,4 +24,4 @@ string_of at bytes n =
     else fault at BadType n
 
 abbrev pub string : ℕ → (spellings : List (List ℕ)) → Check (Option TypedExpression)
-string at spellings n = string_of at (bytes_of spellings) n
+string at spellings n = string_of at (spelling_bytes spellings) n

@@ -80,7 +80,7 @@ fn named_type(
     at: u32,
     meaning: Option<&NameMeaning>,
 ) -> Result<Option<DeclaredType>, AllocError>
-    ensures { Finds (spec.named_type at (option_copied meaning.entry) notes.old) result notes.new }
+    ensures { Finds (spec.typedef_type at (option_copied meaning.entry) notes.old) result notes.new }
 {
     match meaning {
         None => no_type(notes, at, Kind::UnknownName),
@@ -146,7 +146,7 @@ fn enum_type<'a>(
 
 /// A struct whose members are not known.
 pub fn incomplete(alloc: Global, name: &[u8]) -> Result<StructDef, AllocError>
-    ensures { IfOk result (λ r. r ≡ spec.incomplete name.now) }
+    ensures { IfOk result (λ r. r ≡ spec.incomplete_struct name.now) }
 {
     Ok(StructDef {
         tag: Name::from_slice(alloc, name)?,

@@ -16,7 +16,7 @@ pub(crate) fn faulty(
     at: u32,
     kind: Kind,
 ) -> Result<Option<TypedExpression>, AllocError>
-    ensures { Finds (spec.faulty at kind notes.old) result notes.new }
+    ensures { Finds (spec.name_fault at kind notes.old) result notes.new }
 {
     note(notes, at, kind)?;
     Ok(None)

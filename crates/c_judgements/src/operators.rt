@@ -1,7 +1,7 @@
 //! Operators, by their operands.
 
 ghost use Rattle.std.specs.Prelude.{◌≡◌, OnOk};
-ghost use Rattle.c_checks.specs.Checks.{Finds, each, both};
+ghost use Rattle.c_checks.specs.Checks.{Finds, each, both_parts};
 ghost use Rattle.c_judgements.specs.Operators as spec;
 
 use c_checks::{Notes, note, note_fault, take_address};
@@ -72,7 +72,7 @@ pub fn between(
     a: Option<TypedExpression>,
     b: Option<TypedExpression>,
 ) -> Result<Option<TypedExpression>, AllocError>
-    ensures { Finds (both a b (spec.between at op) notes.old) result notes.new }
+    ensures { Finds (both_parts a b (spec.binary_check at op) notes.old) result notes.new }
 {
     match a {
         None => Ok(None),
@@ -95,7 +95,7 @@ pub fn assignment(
     a: Option<TypedExpression>,
     b: Option<TypedExpression>,
 ) -> Result<Option<TypedExpression>, AllocError>
-    ensures { Finds (both a b (spec.assignment at op) notes.old) result notes.new }
+    ensures { Finds (both_parts a b (spec.assignment_check at op) notes.old) result notes.new }
 {
     match a {
         None => Ok(None),
@@ -117,7 +117,7 @@ pub fn element(
     a: Option<TypedExpression>,
     b: Option<TypedExpression>,
 ) -> Result<Option<TypedExpression>, AllocError>
-    ensures { Finds (both a b (spec.element at) notes.old) result notes.new }
+    ensures { Finds (both_parts a b (spec.subscript_check at) notes.old) result notes.new }
 {
     match a {
         None => Ok(None),
@@ -140,7 +140,7 @@ fn arms(
     a: Option<TypedExpression>,
     b: Option<TypedExpression>,
 ) -> Result<Option<TypedExpression>, AllocError>
-    ensures { Finds (both a b (spec.choice at c) notes.old) result notes.new }
+    ensures { Finds (both_parts a b (spec.choice_check at c) notes.old) result notes.new }
 {
     match a {
         None => Ok(None),
@@ -163,7 +163,7 @@ pub fn choice(
     a: Option<TypedExpression>,
     b: Option<TypedExpression>,
 ) -> Result<Option<TypedExpression>, AllocError>
-    ensures { Finds (spec.choice_of at c a b notes.old) result notes.new }
+    ensures { Finds (spec.choice_of_parts at c a b notes.old) result notes.new }
 {
     match c {
         None => Ok(None),
@@ -179,7 +179,7 @@ pub fn cast(
     to: Option<DeclaredType>,
     a: Option<TypedExpression>,
 ) -> Result<Option<TypedExpression>, AllocError>
-    ensures { Finds (both to a (spec.cast at) notes.old) result notes.new }
+    ensures { Finds (both_parts to a (spec.cast_check at) notes.old) result notes.new }
 {
     match to {
         None => Ok(None),
@@ -237,7 +237,7 @@ pub fn behind(
     op: StepOp,
     a: Option<TypedExpression>,
 ) -> Result<Option<TypedExpression>, AllocError>
-    ensures { Finds (each a (spec.behind at op) notes.old) result notes.new }
+    ensures { Finds (each a (spec.postfix_check at op) notes.old) result notes.new }
 {
     match a {
         None => Ok(None),

@@ -42,7 +42,7 @@ pub fn character(
 
 /// The bytes that string literals side by side stand for, with the zero at their end.
 pub fn bytes_of(alloc: Global, spellings: &[Name]) -> Result<Seq<u8>, AllocError>
-    ensures { IfOk result (λ r. r ≡ spec.bytes_of spellings.now) }
+    ensures { IfOk result (λ r. r ≡ spec.spelling_bytes spellings.now) }
 {
     let mut bytes = Vec::new(alloc);
     for spelling in spellings {

@@ -2,7 +2,7 @@
 //! 6.7.6).
 
 ghost use Rattle.std.specs.Prelude.{◌≡◌, IfOk};
-ghost use Rattle.c_checks.specs.Checks.{Finds, each, both};
+ghost use Rattle.c_checks.specs.Checks.{Finds, each, both_parts};
 ghost use Rattle.c_judgements.specs.Types as spec;
 
 use crate::leaves::no_type;
@@ -26,7 +26,7 @@ fn there(
     at: u32,
     made: Option<DeclaredType>,
 ) -> Result<Option<DeclaredType>, AllocError>
-    ensures { Finds (spec.there at made notes.old) result notes.new }
+    ensures { Finds (spec.required_type at made notes.old) result notes.new }
 {
     match made {
         None => no_type(notes, at, Kind::BadType),
@@ -79,7 +79,7 @@ pub fn array(
     length: Option<Option<u64>>,
     element: Option<DeclaredType>,
 ) -> Result<Option<DeclaredType>, AllocError>
-    ensures { Finds (both length element (spec.array at) notes.old) result notes.new }
+    ensures { Finds (both_parts length element (spec.array at) notes.old) result notes.new }
 {
     match length {
         None => Ok(None),
@@ -100,7 +100,7 @@ pub fn function(
     parameters: Option<Seq<CType>>,
     of: Option<DeclaredType>,
 ) -> Result<Option<DeclaredType>, AllocError>
-    ensures { Finds (both parameters of (spec.function at) notes.old) result notes.new }
+    ensures { Finds (both_parts parameters of (spec.function at) notes.old) result notes.new }
 {
     match parameters {
         None => Ok(None),

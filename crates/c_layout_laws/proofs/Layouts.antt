@@ -10,7 +10,7 @@ use Rattle.c_typed_tree.specs.declared.types.Member.{Member}
 use Rattle.c_typed_tree.specs.Types.{PlainType, Void, Int, Pointer, Array, Struct}
 use Rattle.c_typed_tree.specs.View.{type_view}
 use Rattle.c_typed_tree.specs.Layout.{is_object, is_complete, size_of, align_of, struct_align, aligned_up, MembersLieFrom, end_from, greatest_align}
-use Rattle.c_typed_tree.specs.Typing.{is_type, depth_of, struct_depth, most_depth}
+use Rattle.c_typed_tree.specs.Typing.{is_valid_type, depth_of, struct_depth, most_depth}
 use Rattle.c_typed_tree.specs.Lawful.{IsLawfulStruct, IsStruct, IsCompleteStruct, is_object_type, greatest_depth}
 use Rattle.c_struct_layout.proofs.Rounding.{aligned_up_ge}
 use Rattle.c_layout_laws.specs.Laws.{is_alignment}
@@ -74,7 +74,7 @@ module _ (ds : List StructDef) where
 
     -- what is to be shown of each type
     abbrev Aligned : PlainType → Type 0
-    Aligned ty = IsTrue (is_type ds ty) → IsTrue (is_object ds ty) → IsTrue (is_alignment (align_of ds ty))
+    Aligned ty = IsTrue (is_valid_type ds ty) → IsTrue (is_object ds ty) → IsTrue (is_alignment (align_of ds ty))
 
     module _ (k : ℕ) (below : (ty : PlainType) → depth_of ds ty ≤ k → Aligned ty) where
       members_aligned : (ms : List Member) → greatest_depth ds ms ≤ k → IsTrue (list_all (λ (m : Member). is_object_type ds (type_view m.ty)) ms) → IsTrue (is_alignment (greatest_align ds ms))
@@ -83,9 +83,9 @@ module _ (ds : List StructDef) where
           let own = type_view m.ty in
           let all = list_all (λ (m : Member). is_object_type ds (type_view m.ty)) ms in
           let this = front (is_object_type ds own) all h in
-          let both = front (is_type ds own && is_object ds own) (nat_le (depth_of ds own) most_depth) this in
+          let both = front (is_valid_type ds own && is_object ds own) (nat_le (depth_of ds own) most_depth) this in
           greater_aligned (align_of ds own) (greatest_align ds ms)
-          (below own (omega (arith, d)) (front (is_type ds own) (is_object ds own) both) (back (is_type ds own) (is_object ds own) both))
+          (below own (omega (arith, d)) (front (is_valid_type ds own) (is_object ds own) both) (back (is_valid_type ds own) (is_object ds own) both))
           (members_aligned ms (omega (arith, d)) (back (is_object_type ds own) all h))
 
       struct_aligned : (n : ℕ) (d : Option StructDef) → slice_get ds n ≡ d → struct_depth d ≤ suc k → IsTrue (is_complete d) → IsTrue (is_alignment (struct_align d))
@@ -100,7 +100,7 @@ module _ (ds : List StructDef) where
       one_more (Int n s) h t o = integer_aligned n s t
       one_more (Pointer x) h t o = refl
       one_more (Array x n) h t o =
-          one_more x (omega (arith, h)) (front (is_type ds x) (is_object ds (Array x n)) t)
+          one_more x (omega (arith, h)) (front (is_valid_type ds x) (is_object ds (Array x n)) t)
           (front (is_object ds x) (nat_le 1 n) (front (is_object ds x && nat_le 1 n) (nat_le (size_of ds x * n) MOST_DATA) o))
       one_more (Struct n) h t o = struct_aligned n (slice_get ds n) refl h o
 

@@ -5,7 +5,7 @@ use Rattle.c_typed_tree.specs.declared.types.Member.{Member}
 use Rattle.c_typed_tree.specs.Types.{PlainType}
 use Rattle.c_typed_tree.specs.View.{type_view}
 use Rattle.c_typed_tree.specs.Layout.{is_object, size_of, align_of}
-use Rattle.c_typed_tree.specs.Typing.{is_type}
+use Rattle.c_typed_tree.specs.Typing.{is_valid_type}
 use Rattle.c_typed_tree.specs.Lawful.{IsLawfulStruct}
 
 -- an alignment in bytes
@@ -15,7 +15,7 @@ is_alignment a = a == 1 || a == 2 || a == 4 || a == 8
 -- each type of objects has an alignment
 abbrev pub TypesAreAligned : Type 0
 TypesAreAligned =
-    (ds : List StructDef) → All (IsLawfulStruct ds) ds → (ty : PlainType) → IsTrue (is_type ds ty) →
+    (ds : List StructDef) → All (IsLawfulStruct ds) ds → (ty : PlainType) → IsTrue (is_valid_type ds ty) →
     IsTrue (is_object ds ty) → IsTrue (is_alignment (align_of ds ty))
 
 -- the size of a complete struct is a multiple of its alignment

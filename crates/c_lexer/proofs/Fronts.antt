@@ -10,13 +10,13 @@ use Rattle.c_lexer.specs.declared.token.TokenKind.TheVariants as k
 use Rattle.c_lexer.specs.declared.piece.Piece.{Piece}
 use Rattle.c_lexer.specs.declared.piece.Piece.TheVariants as p
 use Rattle.c_lexer.specs.declared.piece.Cut.{Cut}
-use Rattle.c_lexer.specs.Bytes.{is_blank, is_digit, is_letter, is_word, is_run, is_inner}
+use Rattle.c_lexer.specs.Bytes.{is_blank, is_digit, is_letter, is_word_byte, is_run, is_inner}
 use Rattle.c_lexer.specs.Marks.{mark1, mark2, mark3, mark_of}
 use Rattle.c_lexer.specs.Words.{kind_of_word}
 use Rattle.c_lexer.specs.Numbers.{is_number}
 use Rattle.c_lexer.specs.Literals.{char_end, text_end}
 use Rattle.c_lexer.specs.Blanks.{close_at, is_linemarker}
-use Rattle.c_lexer.specs.Pieces.{is_at, is_comment, when, mark_piece, piece_of, IsLongest, is_none, first_passes, is_fault, Begins}
+use Rattle.c_lexer.specs.Pieces.{is_at, is_comment, piece_if, mark_piece, piece_of, IsLongest, is_none, first_passes, is_fault, Begins}
 use Rattle.c_lexer.specs.model.Front as model
 use Rattle.c_lexer.proofs.Options.{by_test, not_both}
 use Rattle.c_lexer.proofs.Runs.{all_within, all_over, first_run}
@@ -63,7 +63,7 @@ front_longest c k s n x front le is over = record {
 
 -- a front, and a run of bytes that pass a test
 run_longest : (c : List ℕ → List ℕ) (k : ℕ) (s : List ℕ) (f : ℕ → Bool) (g : List ℕ → Bool) (x : List ℕ → Piece) → IsFront c k
-    → ((t : List ℕ) → piece_of (c t) ≡ when (list_all f t && g t) (x t)) → g (take (prefix_len f s) s) ≡ true
+    → ((t : List ℕ) → piece_of (c t) ≡ piece_if (list_all f t && g t) (x t)) → g (take (prefix_len f s) s) ≡ true
     → IsLongest (c s) (prefix_len f s + k) (x (take (prefix_len f s) s))
 run_longest c k s f g x front h good =
     let n : ℕ = prefix_len f s in
@@ -76,7 +76,7 @@ same_at n = eq-eqb n n refl
 
 -- a front, and bytes up to an end
 end_longest : (c : List ℕ → List ℕ) (k : ℕ) (s : List ℕ) (end : List ℕ → Option ℕ) (x : Piece) (m : ℕ) → IsFront c k
-    → ((t : List ℕ) → piece_of (c t) ≡ when (is_at (end t) (length t)) x) → EndsAt end s m → IsLongest (c s) (m + k) x
+    → ((t : List ℕ) → piece_of (c t) ≡ piece_if (is_at (end t) (length t)) x) → EndsAt end s m → IsLongest (c s) (m + k) x
 end_longest c k s end x m front h e = front_longest c k s m x front e.within
     (h (take m s) ∙ rw (e.stays m (omega arith), length-take-le m s e.within, same_at m) refl)
     (λ j lt le.
@@ -84,7 +84,7 @@ end_longest c k s end x m front h e = front_longest c k s m x front e.within
     h (take j s) ∙ rw (e.stays j (omega arith), length-take-le j s le, other) refl)
 
 end_answers : (first : Bool) (c : List ℕ → List ℕ) (k : ℕ) (s : List ℕ) (end : List ℕ → Option ℕ) (x : Piece) → IsFront c k
-    → ((t : List ℕ) → piece_of (c t) ≡ when (is_at (end t) (length t)) x) → ((m : ℕ) → end s ≡ Some m → EndsAt end s m)
+    → ((t : List ℕ) → piece_of (c t) ≡ piece_if (is_at (end t) (length t)) x) → ((m : ℕ) → end s ≡ Some m → EndsAt end s m)
     → is_fault first (c s) ≡ is_none (end s) → Answers first (c s) (model.cut_to_end k x (end s))
 end_answers first c k s end x front h ends fault = of_end (end s) refl
   where
@@ -115,40 +115,40 @@ unfolding is_fault
 no_fault first b s d far =
     rw (d, far 46 (omega arith) (omega arith), far 39 (omega arith) (omega arith), far 34 (omega arith) (omega arith), far 35 (omega arith) (omega arith), far 47 (omega arith) (omega arith)) refl
 
-blank_piece : (b : ℕ) (s : List ℕ) → is_blank b ≡ true → piece_of (b ∷ s) ≡ when (list_all is_blank s) p.Blank
+blank_piece : (b : ℕ) (s : List ℕ) → is_blank b ≡ true → piece_of (b ∷ s) ≡ piece_if (list_all is_blank s) p.Blank
 unfolding piece_of
 blank_piece b s is = rw is refl
 
 blank_answers : (first : Bool) (b : ℕ) (s : List ℕ) → is_blank b ≡ true → Answers first (b ∷ s) (Some (record { piece = p.Blank; len = prefix_len is_blank (b ∷ s) }))
 blank_answers first b s is =
-    let h : (t : List ℕ) → piece_of (b ∷ t) ≡ when (list_all is_blank t && true) p.Blank = λ t. blank_piece b t is ∙ ap (λ z. when z p.Blank) (and_true (list_all is_blank t)) in
+    let h : (t : List ℕ) → piece_of (b ∷ t) ≡ piece_if (list_all is_blank t && true) p.Blank = λ t. blank_piece b t is ∙ ap (λ z. piece_if z p.Blank) (and_true (list_all is_blank t)) in
     let low = far_blank b is in
     subst (λ n. Begins first (b ∷ s) n p.Blank) (first_run is_blank b s is) (record {
       piece = run_longest (λ t. b ∷ t) 1 s is_blank (λ t. true) (λ t. p.Blank) (one_front b) h refl;
       sound = no_fault first b s (no_digit_blank b is) (λ c lo hi. ne_eqb b c (λ e. omega arith));
     })
 
-word_piece : (b : ℕ) (s : List ℕ) → is_blank b ≡ false → is_letter b ≡ true → piece_of (b ∷ s) ≡ when (list_all is_word s) (p.Token (kind_of_word (b ∷ s)))
+word_piece : (b : ℕ) (s : List ℕ) → is_blank b ≡ false → is_letter b ≡ true → piece_of (b ∷ s) ≡ piece_if (list_all is_word_byte s) (p.Token (kind_of_word (b ∷ s)))
 unfolding piece_of
 word_piece b s other is = rw (other, is) refl
 
-letter_words : (b : ℕ) → is_letter b ≡ true → is_word b ≡ true
+letter_words : (b : ℕ) → is_letter b ≡ true → is_word_byte b ≡ true
 letter_words b h = rw h refl
 
 word_answers : (first : Bool) (b : ℕ) (s : List ℕ) → is_blank b ≡ false → is_letter b ≡ true → Answers first (b ∷ s) (model.word_at (b ∷ s))
 unfolding model.word_at
 word_answers first b s other is =
     let x : List ℕ → Piece = λ t. p.Token (kind_of_word (b ∷ t)) in
-    let h : (t : List ℕ) → piece_of (b ∷ t) ≡ when (list_all is_word t && true) (x t) = λ t. word_piece b t other is ∙ ap (λ z. when z (x t)) (and_true (list_all is_word t)) in
+    let h : (t : List ℕ) → piece_of (b ∷ t) ≡ piece_if (list_all is_word_byte t && true) (x t) = λ t. word_piece b t other is ∙ ap (λ z. piece_if z (x t)) (and_true (list_all is_word_byte t)) in
     let high = far_letter b is in
-    let n : ℕ = prefix_len is_word s in
+    let n : ℕ = prefix_len is_word_byte s in
     let found : Begins first (b ∷ s) (n + 1) (p.Token (kind_of_word (take (n + 1) (b ∷ s)))) = record {
-      piece = subst (λ t. IsLongest (b ∷ s) (n + 1) (p.Token (kind_of_word t))) (sym ((one_front b).takes n s)) (run_longest (λ t. b ∷ t) 1 s is_word (λ t. true) x (one_front b) h refl);
+      piece = subst (λ t. IsLongest (b ∷ s) (n + 1) (p.Token (kind_of_word t))) (sym ((one_front b).takes n s)) (run_longest (λ t. b ∷ t) 1 s is_word_byte (λ t. true) x (one_front b) h refl);
       sound = no_fault first b s (no_digit_letter b is) (λ c lo hi. ne_eqb b c (λ e. omega arith));
     } in
-    subst (λ m. Begins first (b ∷ s) m (p.Token (kind_of_word (take m (b ∷ s))))) (first_run is_word b s (letter_words b is)) found
+    subst (λ m. Begins first (b ∷ s) m (p.Token (kind_of_word (take m (b ∷ s))))) (first_run is_word_byte b s (letter_words b is)) found
 
-number_piece : (b : ℕ) (s : List ℕ) → is_blank b ≡ false → is_letter b ≡ false → is_digit b ≡ true → piece_of (b ∷ s) ≡ when (list_all is_run s && is_number (b ∷ s)) (p.Token k.Number)
+number_piece : (b : ℕ) (s : List ℕ) → is_blank b ≡ false → is_letter b ≡ false → is_digit b ≡ true → piece_of (b ∷ s) ≡ piece_if (list_all is_run s && is_number (b ∷ s)) (p.Token k.Number)
 unfolding piece_of
 number_piece b s bl le is = rw (bl, le, is) refl
 
@@ -177,7 +177,7 @@ number_answers first b s bl le d =
 
 -- ---- literals and linemarkers
 
-char_piece : (s : List ℕ) → piece_of (39 ∷ s) ≡ when (is_at (char_end s) (length s)) (p.Token k.Char)
+char_piece : (s : List ℕ) → piece_of (39 ∷ s) ≡ piece_if (is_at (char_end s) (length s)) (p.Token k.Char)
 unfolding piece_of
 char_piece s = refl
 
@@ -188,7 +188,7 @@ char_fault first s = refl
 char_answers : (first : Bool) (s : List ℕ) → Answers first (39 ∷ s) (model.cut_to_end 1 (p.Token k.Char) (char_end s))
 char_answers first s = end_answers first (λ t. 39 ∷ t) 1 s char_end (p.Token k.Char) (one_front 39) char_piece (char_ends s) (char_fault first s)
 
-text_piece : (s : List ℕ) → piece_of (34 ∷ s) ≡ when (is_at (text_end s) (length s)) (p.Token k.Text)
+text_piece : (s : List ℕ) → piece_of (34 ∷ s) ≡ piece_if (is_at (text_end s) (length s)) (p.Token k.Text)
 unfolding piece_of
 text_piece s = refl
 
@@ -199,7 +199,7 @@ text_fault first s = refl
 text_answers : (first : Bool) (s : List ℕ) → Answers first (34 ∷ s) (model.cut_to_end 1 (p.Token k.Text) (text_end s))
 text_answers first s = end_answers first (λ t. 34 ∷ t) 1 s text_end (p.Token k.Text) (one_front 34) text_piece (text_ends s) (text_fault first s)
 
-marker_piece : (s : List ℕ) → piece_of (35 ∷ s) ≡ when (list_all is_inner s && is_linemarker s) p.Blank
+marker_piece : (s : List ℕ) → piece_of (35 ∷ s) ≡ piece_if (list_all is_inner s && is_linemarker s) p.Blank
 unfolding piece_of
 marker_piece s = refl
 
@@ -224,9 +224,9 @@ marker_answers first s =
 
 -- ---- comments
 
-line_piece : (s : List ℕ) → piece_of (47 ∷ 47 ∷ s) ≡ when (list_all is_inner s && true) p.Blank
+line_piece : (s : List ℕ) → piece_of (47 ∷ 47 ∷ s) ≡ piece_if (list_all is_inner s && true) p.Blank
 unfolding piece_of is_comment mark_of mark2 mark3
-line_piece s = by_test (λ o. o ≡ when (list_all is_inner s && true) p.Blank) (list_all is_inner s) (Some p.Blank) (mark_piece (47 ∷ 47 ∷ s)) (λ yes. rw yes refl) (λ no. rw no (no_mark s))
+line_piece s = by_test (λ o. o ≡ piece_if (list_all is_inner s && true) p.Blank) (list_all is_inner s) (Some p.Blank) (mark_piece (47 ∷ 47 ∷ s)) (λ yes. rw yes refl) (λ no. rw no (no_mark s))
   where
     no_mark : (s : List ℕ) → mark_piece (47 ∷ 47 ∷ s) ≡ None
     no_mark [] = refl
@@ -237,9 +237,9 @@ line_fault : (first : Bool) (s : List ℕ) → is_fault first (47 ∷ 47 ∷ s) 
 unfolding is_fault
 line_fault first s = refl
 
-comment_piece : (s : List ℕ) → piece_of (47 ∷ 42 ∷ s) ≡ when (is_at (close_at s) (length s)) p.Blank
+comment_piece : (s : List ℕ) → piece_of (47 ∷ 42 ∷ s) ≡ piece_if (is_at (close_at s) (length s)) p.Blank
 unfolding piece_of is_comment mark_of mark2 mark3
-comment_piece s = by_test (λ o. o ≡ when (is_at (close_at s) (length s)) p.Blank) (is_at (close_at s) (length s)) (Some p.Blank) (mark_piece (47 ∷ 42 ∷ s)) (λ yes. rw yes refl) (λ no. rw no (no_mark s))
+comment_piece s = by_test (λ o. o ≡ piece_if (is_at (close_at s) (length s)) p.Blank) (is_at (close_at s) (length s)) (Some p.Blank) (mark_piece (47 ∷ 42 ∷ s)) (λ yes. rw yes refl) (λ no. rw no (no_mark s))
   where
     no_mark : (s : List ℕ) → mark_piece (47 ∷ 42 ∷ s) ≡ None
     no_mark [] = refl

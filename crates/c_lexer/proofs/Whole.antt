@@ -10,13 +10,13 @@ use Rattle.c_lexer.specs.declared.token.Token.{Token}
 use Rattle.c_lexer.specs.declared.token.LexFault.{LexFault}
 use Rattle.c_lexer.specs.declared.piece.Piece.{Piece}
 use Rattle.c_lexer.specs.declared.piece.Piece.TheVariants as p
-use Rattle.c_lexer.specs.Bytes.{is_blank, is_digit, is_letter, is_word, is_run, is_inner}
+use Rattle.c_lexer.specs.Bytes.{is_blank, is_digit, is_letter, is_word_byte, is_run, is_inner}
 use Rattle.c_lexer.specs.Marks.{mark_of}
 use Rattle.c_lexer.specs.Words.{keyword_of, kind_by}
 use Rattle.c_lexer.specs.Numbers.{is_number}
 use Rattle.c_lexer.specs.Literals.{char_end, text_end}
 use Rattle.c_lexer.specs.Blanks.{is_linemarker}
-use Rattle.c_lexer.specs.Pieces.{is_at, is_comment, when, mark_piece, piece_of, Cuts, Lexeme, lexeme, lexemes, Pieces, Tokens, IsStuck, FaultAt}
+use Rattle.c_lexer.specs.Pieces.{is_at, is_comment, piece_if, mark_piece, piece_of, Cuts, Lexeme, lexeme, lexemes, Pieces, Tokens, IsStuck, FaultAt}
 use Rattle.c_lexer.specs.Steps.{TextPlace, IsEndToken, LexerGives, Refuses}
 use Rattle.c_lexer.proofs.Options.{by_test}
 use Rattle.c_lexer.proofs.Walk.{pieces-append}
@@ -26,7 +26,7 @@ use Rattle.c_lexer.proofs.Walk.{pieces-append}
 abbrev IsNoEnd : Option Piece → Type 0
 IsNoEnd o = o ≡ Some (p.Token k.End) → ⊥
 
-when_no_end : (b : Bool) (x : Piece) → IsNoEnd (Some x) → IsNoEnd (when b x)
+when_no_end : (b : Bool) (x : Piece) → IsNoEnd (Some x) → IsNoEnd (piece_if b x)
 when_no_end b x other = by_test IsNoEnd b (Some x) None (λ yes. other) (λ no. none_no_end)
   where
     none_no_end : IsNoEnd None
@@ -52,16 +52,16 @@ mark_no_end (Some m) e = cc
 piece_no_end : (s : List ℕ) → IsNoEnd (piece_of s)
 unfolding piece_of
 piece_no_end [] = λ e. cc
-piece_no_end (b ∷ s) = by_test IsNoEnd (is_blank b) (when (list_all is_blank s) p.Blank) _ (λ yes. when_no_end (list_all is_blank s) p.Blank blank_no_end)
-    (λ no_b. by_test IsNoEnd (is_letter b) (when (list_all is_word s) (p.Token (kind_by (keyword_of (b ∷ s))))) _
-    (λ yes. when_no_end (list_all is_word s) (p.Token (kind_by (keyword_of (b ∷ s)))) (some_no_end (kind_by (keyword_of (b ∷ s))) (word_no_end (keyword_of (b ∷ s)))))
-    (λ no_l. by_test IsNoEnd (is_digit b) (when (list_all is_run s && is_number (b ∷ s)) (p.Token k.Number)) _
+piece_no_end (b ∷ s) = by_test IsNoEnd (is_blank b) (piece_if (list_all is_blank s) p.Blank) _ (λ yes. when_no_end (list_all is_blank s) p.Blank blank_no_end)
+    (λ no_b. by_test IsNoEnd (is_letter b) (piece_if (list_all is_word_byte s) (p.Token (kind_by (keyword_of (b ∷ s))))) _
+    (λ yes. when_no_end (list_all is_word_byte s) (p.Token (kind_by (keyword_of (b ∷ s)))) (some_no_end (kind_by (keyword_of (b ∷ s))) (word_no_end (keyword_of (b ∷ s)))))
+    (λ no_l. by_test IsNoEnd (is_digit b) (piece_if (list_all is_run s && is_number (b ∷ s)) (p.Token k.Number)) _
     (λ yes. when_no_end (list_all is_run s && is_number (b ∷ s)) (p.Token k.Number) (some_no_end k.Number (λ e. cc)))
-    (λ no_d. by_test IsNoEnd (eqb b 39) (when (is_at (char_end s) (length s)) (p.Token k.Char)) _
+    (λ no_d. by_test IsNoEnd (eqb b 39) (piece_if (is_at (char_end s) (length s)) (p.Token k.Char)) _
     (λ yes. when_no_end (is_at (char_end s) (length s)) (p.Token k.Char) (some_no_end k.Char (λ e. cc)))
-    (λ no_c. by_test IsNoEnd (eqb b 34) (when (is_at (text_end s) (length s)) (p.Token k.Text)) _
+    (λ no_c. by_test IsNoEnd (eqb b 34) (piece_if (is_at (text_end s) (length s)) (p.Token k.Text)) _
     (λ yes. when_no_end (is_at (text_end s) (length s)) (p.Token k.Text) (some_no_end k.Text (λ e. cc)))
-    (λ no_t. by_test IsNoEnd (eqb b 35) (when (list_all is_inner s && is_linemarker s) p.Blank) _
+    (λ no_t. by_test IsNoEnd (eqb b 35) (piece_if (list_all is_inner s && is_linemarker s) p.Blank) _
     (λ yes. when_no_end (list_all is_inner s && is_linemarker s) p.Blank blank_no_end)
     (λ no_m. by_test IsNoEnd (b == 47 && is_comment s) (Some p.Blank) (mark_piece (b ∷ s)) (λ yes. blank_no_end) (λ no. mark_no_end (mark_of (b ∷ s)))))))))
 

@@ -46,16 +46,16 @@ is_named [] = false
 is_named (b ∷ s) = b == 34 && numbers_behind s (name_end s)
 
 -- one or more spaces or tabs, or one or more digits, and then what passes the test
-abbrev pub behind : (ℕ → Bool) → (List ℕ → Bool) → List ℕ → Bool
-behind f test s = let n = prefix_len f s in not (n == 0) && test (drop n s)
+abbrev pub has_run_then : (ℕ → Bool) → (List ℕ → Bool) → List ℕ → Bool
+has_run_then f test s = let n = prefix_len f s in not (n == 0) && test (drop n s)
 
 unfoldable pub is_marker_end : List ℕ → Bool
 is_marker_end [] = true
-is_marker_end (b ∷ s) = behind is_gap is_named (b ∷ s)
+is_marker_end (b ∷ s) = has_run_then is_gap is_named (b ∷ s)
 
 -- behind the `#` of a linemarker: a number, and optionally a name with numbers, to the end of the line
 unfoldable pub is_linemarker : List ℕ → Bool
-is_linemarker s = behind is_gap (behind is_digit is_marker_end) s
+is_linemarker s = has_run_then is_gap (has_run_then is_digit is_marker_end) s
 
 -- only spaces and tabs stand before the place on its line, where these bytes stand before it in the text
 unfoldable pub is_line_start : List ℕ → Bool

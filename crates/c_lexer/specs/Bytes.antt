@@ -27,9 +27,9 @@ abbrev pub is_letter : ℕ → Bool
 is_letter b = (nat_le 65 b && nat_le b 90) || (nat_le 97 b && nat_le b 122) || b == 95
 
 -- what a name goes on with
-abbrev pub is_word : ℕ → Bool
-is_word b = is_letter b || is_digit b
+abbrev pub is_word_byte : ℕ → Bool
+is_word_byte b = is_letter b || is_digit b
 
 -- what a run of digits, letters and points is made of
 abbrev pub is_run : ℕ → Bool
-is_run b = is_word b || b == 46
+is_run b = is_word_byte b || b == 46

@@ -6,7 +6,7 @@ use Rattle.c_lexer.specs.declared.token.TokenKind.{TokenKind}
 use Rattle.c_lexer.specs.declared.token.TokenKind.TheVariants as k
 use Rattle.c_lexer.specs.declared.piece.Piece.{Piece}
 use Rattle.c_lexer.specs.declared.piece.Piece.TheVariants as p
-use Rattle.c_lexer.specs.Bytes.{is_blank, is_digit, is_letter, is_word, is_run, is_inner}
+use Rattle.c_lexer.specs.Bytes.{is_blank, is_digit, is_letter, is_word_byte, is_run, is_inner}
 use Rattle.c_lexer.specs.Marks.{mark_of}
 use Rattle.c_lexer.specs.Words.{kind_of_word}
 use Rattle.c_lexer.specs.Numbers.{is_number}
@@ -22,8 +22,8 @@ unfoldable pub is_comment : List ℕ → Bool
 is_comment [] = false
 is_comment (b ∷ s) = if b == 42 then is_at (close_at s) (length s) else b == 47 && list_all is_inner s
 
-abbrev pub when : Bool → Piece → Option Piece
-when b x = if b then Some x else None
+abbrev pub piece_if : Bool → Piece → Option Piece
+piece_if b x = if b then Some x else None
 
 abbrev pub mark_piece : List ℕ → Option Piece
 mark_piece s = option_map (λ mark. p.Token (k.Mark mark)) (mark_of s)
@@ -31,12 +31,12 @@ mark_piece s = option_map (λ mark. p.Token (k.Mark mark)) (mark_of s)
 -- The piece that these bytes spell: a run of blanks, a comment, a linemarker or a token.
 unfoldable pub piece_of : List ℕ → Option Piece
 piece_of [] = None
-piece_of (b ∷ s) = if is_blank b then when (list_all is_blank s) p.Blank
-    else if is_letter b then when (list_all is_word s) (p.Token (kind_of_word (b ∷ s)))
-    else if is_digit b then when (list_all is_run s && is_number (b ∷ s)) (p.Token k.Number)
-    else if b == 39 then when (is_at (char_end s) (length s)) (p.Token k.Char)
-    else if b == 34 then when (is_at (text_end s) (length s)) (p.Token k.Text)
-    else if b == 35 then when (list_all is_inner s && is_linemarker s) p.Blank
+piece_of (b ∷ s) = if is_blank b then piece_if (list_all is_blank s) p.Blank
+    else if is_letter b then piece_if (list_all is_word_byte s) (p.Token (kind_of_word (b ∷ s)))
+    else if is_digit b then piece_if (list_all is_run s && is_number (b ∷ s)) (p.Token k.Number)
+    else if b == 39 then piece_if (is_at (char_end s) (length s)) (p.Token k.Char)
+    else if b == 34 then piece_if (is_at (text_end s) (length s)) (p.Token k.Text)
+    else if b == 35 then piece_if (list_all is_inner s && is_linemarker s) p.Blank
     else if b == 47 && is_comment s then Some p.Blank
     else mark_piece (b ∷ s)
 

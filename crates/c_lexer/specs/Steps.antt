@@ -12,8 +12,8 @@ pub record TextPlace : Type 0 where
   pub text : List ℕ
   pub at : ℕ
 
-abbrev pub place_code : Coded TextPlace
-place_code =
+abbrev pub coded_place : Coded TextPlace
+coded_place =
     code_by (List ℕ × ℕ) (coded× (coded_list coded_ℕ) coded_ℕ)
     (λ p. (p.text, p.at)) (λ p. record { text = p.0; at = p.1 }) (λ _. refl)
 

@@ -99,7 +99,7 @@ fn is_marker_end(s: &[u8]) -> bool
 
 fn is_marker_number(s: &[u8]) -> bool
     requires { length s.now < 2 ^ 62 }
-    ensures { result ≡ spec.behind bytes.is_digit spec.is_marker_end s.now }
+    ensures { result ≡ spec.has_run_then bytes.is_digit spec.is_marker_end s.now }
 {
     let n = digit_len(s);
     n != 0 && is_marker_end(&s[n..])

@@ -48,7 +48,7 @@ pub fn is_letter(b: u8) -> bool
 
 /// Whether the byte can go on a word: a letter, `_` or a digit (C99 6.4.2.1).
 pub fn is_word(b: u8) -> bool
-    ensures { result ≡ spec.is_word b }
+    ensures { result ≡ spec.is_word_byte b }
 {
     is_letter(b) || is_digit(b)
 }
@@ -110,7 +110,7 @@ pub fn hex_len(s: &[u8]) -> usize
 
 /// How many bytes stand in front that can go on a word.
 pub fn word_len(s: &[u8]) -> usize
-    ensures value { result ≡ prefix_len spec.is_word s.now }
+    ensures value { result ≡ prefix_len spec.is_word_byte s.now }
     ensures within { result ≤ length s.now }
 {
     s.iter().take_while(|b| is_word(**b)).count()

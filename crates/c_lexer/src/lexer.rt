@@ -18,11 +18,11 @@ pub struct Lexer<'a> {
 impl<'a> Model for Lexer<'a> {
     ghost use Rattle.std.specs.Prelude.{◌≤◌, ◌^◌, length};
     ghost use Rattle.c_lexer.specs.Limits.{text_limit};
-    ghost use Rattle.c_lexer.specs.Steps.{TextPlace, place_code};
+    ghost use Rattle.c_lexer.specs.Steps.{TextPlace, coded_place};
 
     ghost Value = { TextPlace };
 
-    ghost coded = { place_code };
+    ghost coded = { coded_place };
 
     ghost view = { λ l. record { text = l.text.now; at = l.at } };
 

@@ -6,8 +6,8 @@ use Rattle.c_lexer.specs.Bytes.{is_octal, is_hex}
 use Rattle.c_lexer.specs.Limits.{text_limit}
 use Rattle.c_lexer.specs.Literals.{value_in, byte, item, simple_value, octal_item, hex_item, escape_at, item_at}
 use Rattle.c_lexer.specs.declared.literals.Item.{Item}
-use Rattle.c_literals.specs.Texts.{with_item, bytes_behind, text_bytes}
-use Rattle.c_judgements.specs.Texts.{join_spellings, bytes_of}
+use Rattle.c_literals.specs.Texts.{with_item_byte, bytes_behind, text_bytes}
+use Rattle.c_judgements.specs.Texts.{join_spellings, spelling_bytes}
 use Rattle.c_initial_value_laws.specs.Cells.{AreBytes}
 
 -- ---- values of items
@@ -83,7 +83,7 @@ pub bytes_append : (a b : List ℕ) → AreBytes a → AreBytes b → AreBytes (
 bytes_append [] b h g = g
 bytes_append (x ∷ a) b h g = (h.0, bytes_append a b h.1 g)
 
-with_bytes : (o : Option Item) (next : ℕ → List ℕ) → SomeItem o → ((skip : ℕ) → AreBytes (next skip)) → AreBytes (with_item o next)
+with_bytes : (o : Option Item) (next : ℕ → List ℕ) → SomeItem o → ((skip : ℕ) → AreBytes (next skip)) → AreBytes (with_item_byte o next)
 with_bytes None next h g = tt
 with_bytes (Some i) next h g = (h, g (i.len - 1))
 
@@ -102,5 +102,5 @@ joined_bytes [] h = tt
 joined_bytes (s ∷ ss) h =
     bytes_append (text_bytes s) (join_spellings ss) (literal_bytes s (All-head AreBytes s ss h)) (joined_bytes ss (All-tail AreBytes s ss h))
 
-pub texts_bytes : (spellings : List (List ℕ)) → All AreBytes spellings → AreBytes (bytes_of spellings)
+pub texts_bytes : (spellings : List (List ℕ)) → All AreBytes spellings → AreBytes (spelling_bytes spellings)
 texts_bytes spellings h = bytes_append (join_spellings spellings) (0 ∷ []) (joined_bytes spellings h) (omega arith, tt)

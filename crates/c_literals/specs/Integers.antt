@@ -29,8 +29,8 @@ abbrev pub takes : (decimal unsigned long : Bool) → ℕ → IntegerType → Bo
 takes decimal unsigned long n t = is_allowed decimal unsigned long t && fits t (pos n)
 
 -- the type is the first that takes the value, of `int`, `unsigned int`, `long`, `unsigned long`
-abbrev pub type_of : (decimal unsigned long : Bool) → ℕ → Option IntegerType
-type_of decimal unsigned long n =
+abbrev pub constant_type : (decimal unsigned long : Bool) → ℕ → Option IntegerType
+constant_type decimal unsigned long n =
     if takes decimal unsigned long n Int then Some Int
     else if takes decimal unsigned long n UnsignedInt then Some UnsignedInt
     else if takes decimal unsigned long n Long then Some Long
@@ -54,7 +54,7 @@ abbrev pub literal_of_type : ℕ → IntegerType → IntegerLiteral
 literal_of_type n t = record { ty = t; word = extension t n }
 
 abbrev pub literal : (decimal : Bool) → (suffix : List ℕ) → ℕ → Option IntegerLiteral
-literal decimal suffix n = option_map (literal_of_type n) (type_of decimal (has_u suffix) (has_l suffix) n)
+literal decimal suffix n = option_map (literal_of_type n) (constant_type decimal (has_u suffix) (has_l suffix) n)
 
 -- digits in a base, and the suffix behind them
 abbrev pub literal_in : (base : ℕ) → (is_digit : ℕ → Bool) → List ℕ → Option IntegerLiteral
@@ -66,18 +66,18 @@ literal_in base p s =
 abbrev pub is_x : ℕ → Bool
 is_x b = b == 120 || b == 88
 
-abbrev pub is_hexadecimal : List ℕ → Bool
-is_hexadecimal [] = false
-is_hexadecimal (z ∷ []) = false
-is_hexadecimal (z ∷ x ∷ s) = z == 48 && is_x x
+abbrev pub is_hex_constant : List ℕ → Bool
+is_hex_constant [] = false
+is_hex_constant (z ∷ []) = false
+is_hex_constant (z ∷ x ∷ s) = z == 48 && is_x x
 
 abbrev pub is_octal_constant : List ℕ → Bool
 is_octal_constant [] = false
 is_octal_constant (z ∷ s) = z == 48
 
 -- what an integer constant stands for; None where no type of its list holds the value
-abbrev pub integer : List ℕ → Option IntegerLiteral
-integer s =
-    if is_hexadecimal s then literal_in 16 is_hex (drop 2 s)
+abbrev pub integer_literal : List ℕ → Option IntegerLiteral
+integer_literal s =
+    if is_hex_constant s then literal_in 16 is_hex (drop 2 s)
     else if is_octal_constant s then literal_in 8 is_octal s
     else literal_in 10 is_digit s

@@ -5,15 +5,15 @@ use Rattle.c_lexer.specs.Literals.{item_at}
 use Rattle.c_lexer.specs.declared.literals.Item.{Item}
 
 -- the byte of an item in front, and those of the items behind it
-abbrev pub with_item : Option Item → (ℕ → List ℕ) → List ℕ
-with_item None next = []
-with_item (Some i) next = i.value ∷ next (i.len - 1)
+abbrev pub with_item_byte : Option Item → (ℕ → List ℕ) → List ℕ
+with_item_byte None next = []
+with_item_byte (Some i) next = i.value ∷ next (i.len - 1)
 
 -- the bytes that items stand for, up to the closing quote, which is no item; the first `skip` bytes belong to an item
 -- before
 abbrev pub bytes_behind : (skip : ℕ) → List ℕ → List ℕ
 bytes_behind skip [] = []
-bytes_behind zero (b ∷ s) = with_item (item_at 34 (b ∷ s)) (λ skip. bytes_behind skip s)
+bytes_behind zero (b ∷ s) = with_item_byte (item_at 34 (b ∷ s)) (λ skip. bytes_behind skip s)
 bytes_behind (suc skip) (b ∷ s) = bytes_behind skip s
 
 -- the bytes that a string literal stands for, without the zero at its end. A spelling that is longer than any text

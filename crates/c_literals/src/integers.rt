@@ -81,7 +81,7 @@ fn takes(ty: IntegerType, decimal: bool, unsigned: bool, long: bool, n: u64) -> 
 
 /// The first type that takes the value.
 fn type_of(decimal: bool, unsigned: bool, long: bool, n: u64) -> Option<IntegerType>
-    ensures { result ≡ spec.type_of decimal unsigned long n }
+    ensures { result ≡ spec.constant_type decimal unsigned long n }
 {
     if takes(IntegerType::Int, decimal, unsigned, long, n) {
         return Some(IntegerType::Int);
@@ -142,7 +142,7 @@ fn decimal(s: &[u8]) -> Option<IntegerLiteral>
 
 /// What an integer constant stands for, from its spelling; `None` where no type of its list holds the value.
 pub fn integer(spelling: &[u8]) -> Option<IntegerLiteral>
-    ensures { result ≡ spec.integer spelling.now }
+    ensures { result ≡ spec.integer_literal spelling.now }
 {
     match spelling {
         [b'0', b'x' | b'X', rest @ ..] => hexadecimal(rest),

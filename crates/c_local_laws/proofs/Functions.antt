@@ -13,23 +13,23 @@ use Rattle.c_checks.specs.Checks.{walk}
 use Rattle.c_checks.specs.Scopes.{enter}
 use Rattle.c_judgements.specs.Types.{JudgementState}
 use Rattle.c_statement_rules.specs.Jumps.{no_jumps}
-use Rattle.c_statement_rules.specs.Locals.{memory_at, with_addressed}
+use Rattle.c_statement_rules.specs.Locals.{memory_local_at, with_addressed}
 use Rattle.c_statements.specs.Statements.{statement}
 use Rattle.c_statements.specs.declared.functions.FunctionType.{FunctionType}
-use Rattle.c_statements.specs.Functions.{declared_parameters, parameters_of, result_of, typed_function, function}
+use Rattle.c_statements.specs.Functions.{declared_parameters, parameters_of, result_of, typed_function, judge_function}
 use Rattle.c_local_laws.specs.Laws.{DeclaresItsLocals}
 use Rattle.c_local_laws.proofs.Numbers.{Declares, declares_none, count_of, walk_says}
 use Rattle.c_local_laws.proofs.Statements.{stmt_here, stmts_here, stmts_push, statement_says}
 
 -- ---- locals whose address was taken are as many as before
 
-memory_length : (number : ℕ) (o : Option Local) (ls : List Local) → length (memory_at number o ls) ≡ length ls
+memory_length : (number : ℕ) (o : Option Local) (ls : List Local) → length (memory_local_at number o ls) ≡ length ls
 memory_length number None ls = refl
 memory_length number (Some l) ls = length-set ls number _
 
 addressed_length : (numbers : List ℕ) (ls : List Local) → length (with_addressed numbers ls) ≡ length ls
 addressed_length [] ls = refl
-addressed_length (n ∷ ns) ls = addressed_length ns (memory_at n (slice_get ls n) ls) ∙ memory_length n (slice_get ls n) ls
+addressed_length (n ∷ ns) ls = addressed_length ns (memory_local_at n (slice_get ls n) ls) ∙ memory_length n (slice_get ls n) ls
 
 -- ---- functions
 
@@ -47,7 +47,7 @@ typed_says name (Some ty) true params ls (Some list) h = record {
   declares = λ k. ap (declarations k) (view_block list) ∙ (h k).due;
 }
 
-pub function_says : (d : Declaration) (of : Option FunctionType) (list : List Stmt) (s : JudgementState) → IfSome (function d of list s).0 DeclaresItsLocals
+pub function_says : (d : Declaration) (of : Option FunctionType) (list : List Stmt) (s : JudgementState) → IfSome (judge_function d of list s).0 DeclaresItsLocals
 function_says d of list s =
     let p = declared_parameters of (parameters_of d.ty) ([], (enter s.0, s.1)) in
     let f = walk (statement (result_of of) no_jumps) list (Some []) p.1 in

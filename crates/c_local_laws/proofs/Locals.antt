@@ -16,7 +16,7 @@ use Rattle.c_typed_tree.specs.declared.statements.TFirst.{TFirst}
 use Rattle.c_typed_tree.specs.Declarations.{declarations_here, first_declarations}
 use Rattle.c_typed_tree.specs.View.{local_view, first_view}
 use Rattle.c_type_rules.specs.declared.typed.TypedExpression.{TypedExpression}
-use Rattle.c_checks.specs.Checks.{walk, each, both}
+use Rattle.c_checks.specs.Checks.{walk, each, both_parts}
 use Rattle.c_type_faults.specs.declared.faults.Kind.TheVariants.{Redeclared}
 use Rattle.c_checks.specs.Notes.{with_fault}
 use Rattle.c_checks.specs.Scopes.{stands_here}
@@ -27,7 +27,7 @@ use Rattle.c_statement_rules.specs.declared.locals.NewLocal.{NewLocal}
 use Rattle.c_statement_rules.specs.Objects.{object_type}
 use Rattle.c_statement_rules.specs.Forms.{first_locals, first_value}
 use Rattle.c_statement_rules.specs.Locals.{BodyState, with_notes, local_of_type, local_named, with_initialiser, initialiser, local_with_value, without_initialiser}
-use Rattle.c_statements.specs.Parts.{type_of, initialiser_of, local_of, first_of, value_of}
+use Rattle.c_statements.specs.Parts.{judge_type, initialiser_of, local_of, first_of, full_value}
 use Rattle.c_local_laws.proofs.Numbers.{Declares, Is, declares_as, declares_none, due_one, count_of, walk_says}
 
 abbrev pub here : (k : ℕ) → TLocal → ℕ
@@ -65,7 +65,7 @@ with_value_says : (k number : ℕ) (r : Option TExpr) → Is (count_of (here k) 
 with_value_says k number None = tt
 with_value_says k number (Some x) = refl
 
-initialised_says : (k : ℕ) (new : Option NewLocal) (a : Option TypedExpression) (n : Notes) → Is (count_of (here k) (both new a local_with_value n).0) (count_of (new_here k) new)
+initialised_says : (k : ℕ) (new : Option NewLocal) (a : Option TypedExpression) (n : Notes) → Is (count_of (here k) (both_parts new a local_with_value n).0) (count_of (new_here k) new)
 initialised_says k None a n = tt
 initialised_says k (Some new) None n = tt
 initialised_says k (Some new) (Some a) n = with_value_says k new.number (initialiser new.ty a n).0
@@ -81,7 +81,7 @@ init_says k new (Some x) w a h = declares_as k a (length w.0) _ _ (initialised_s
 
 pub local_says : (k : ℕ) (d : tree.LocalDeclarator) (w : BodyState) → Declares k (length w.0) (length (local_of d w).1.0) (count_of (here k) (local_of d w).0)
 local_says k d w =
-    let ty = type_of d.declaration.at d.declaration.ty w.1 in
+    let ty = judge_type d.declaration.at d.declaration.ty w.1 in
     let s = each ty.0 (object_type d.declaration.at) ty.1.1 in
     let new = local_named d.declaration.at d.declaration.name s.0 (w.0, (ty.1.0, s.1)) in
     init_says k new.0 d.init new.1 (length w.0) (named_says k d.declaration.at d.declaration.name s.0 (w.0, (ty.1.0, s.1)))
@@ -107,7 +107,7 @@ first_locals_says k (Some ls) = refl
 
 pub first_says : (k : ℕ) (p : ForFirst) (w : BodyState) → Declares k (length w.0) (length (first_of p w).1.0) (count_of (first_here k) (first_of p w).0)
 first_says k g.Nothing w = declares_none k (length w.0)
-first_says k (g.Value x) w = declares_as k (length w.0) (length w.0) (Some 0) _ (first_value_says k (value_of x w.1).0) (declares_none k (length w.0))
+first_says k (g.Value x) w = declares_as k (length w.0) (length w.0) (Some 0) _ (first_value_says k (full_value x w.1).0) (declares_none k (length w.0))
 first_says k (g.Locals ds) w =
     declares_as k (length w.0) _ _ _ (first_locals_says k (walk local_of ds (Some []) w).0)
     (walk_says k local_of (here k) (locals_here k) (locals_push k) (local_says k) ds (Some []) w (length w.0) (declares_none k (length w.0)))

@@ -23,7 +23,7 @@ use Rattle.c_primary_rules.specs.declared.switches.SwitchValue.{SwitchValue}
 use Rattle.c_type_rules.specs.declared.typed.TypedExpression.{TypedExpression}
 use Rattle.c_operators.specs.Null.{take_value}
 use Rattle.c_checks.specs.declared.notes.Notes.{Notes}
-use Rattle.c_checks.specs.Checks.{append_part, both, note_fault, and_then, pure}
+use Rattle.c_checks.specs.Checks.{append_part, both_parts, note_fault, and_then, pure}
 use Rattle.c_judgements.specs.Types.{JudgementState}
 use Rattle.c_expressions.specs.Expressions.{judge}
 use Rattle.c_statement_rules.specs.declared.jumps.Jumps.{Jumps}
@@ -32,7 +32,7 @@ use Rattle.c_statement_rules.specs.Labels.{no_labels}
 use Rattle.c_statement_rules.specs.Values.{return_of, bad_return, return_value}
 use Rattle.c_statement_rules.specs.Locals.{BodyState}
 use Rattle.c_statement_rules.specs.Forms.{if_else, while_loop, do_loop, for_loop, switch, section_under, switch_type, block, expression_statement, local_statement}
-use Rattle.c_statements.specs.Parts.{condition_of, value_of, operand_of, optional_condition, optional_value, return_statement, local_of, first_of, label_of}
+use Rattle.c_statements.specs.Parts.{condition_of, full_value, operand_of, optional_condition, optional_value, return_statement, local_of, first_of, label_of}
 use Rattle.c_statements.specs.Statements.{SwitchState, in_scope, statement, statement_row, else_held, section_row}
 use Rattle.c_local_laws.proofs.Numbers.{Declares, Is, plus, declares_on, declares_as, declares_none, count_of, part_count}
 use Rattle.c_local_laws.proofs.Locals.{here, first_here, local_says, first_says}
@@ -143,7 +143,7 @@ module _ (k : ℕ) where
   return_of_count None = tt
   return_of_count (Some x) = refl
 
-  return_value_count : (at : ℕ) (ty : CType) (a : Option TypedExpression) (n : Notes) → Is (count_of stmt_here (both (Some ty) a (return_value at) n).0) (Some 0)
+  return_value_count : (at : ℕ) (ty : CType) (a : Option TypedExpression) (n : Notes) → Is (count_of stmt_here (both_parts (Some ty) a (return_value at) n).0) (Some 0)
   return_value_count at ty None n = tt
   return_value_count at ty (Some a) n = by (is_void (type_view ty))
     where
@@ -189,7 +189,7 @@ module _ (k : ℕ) (of : Option CType) where
     statement_says j (s.Break at) w = declares_as k (length w.0) (length w.0) (Some 0) _ (break_count k j at w.1.1) (declares_none k (length w.0))
     statement_says j (s.Continue at) w = declares_as k (length w.0) (length w.0) (Some 0) _ (continue_count k j at w.1.1) (declares_none k (length w.0))
     statement_says j (s.Return at x) w = declares_as k (length w.0) (length w.0) (Some 0) _ (return_count k of at x w.1) (declares_none k (length w.0))
-    statement_says j (s.Expression x) w = declares_as k (length w.0) (length w.0) (Some 0) _ (value_count k (value_of x w.1).0) (declares_none k (length w.0))
+    statement_says j (s.Expression x) w = declares_as k (length w.0) (length w.0) (Some 0) _ (value_count k (full_value x w.1).0) (declares_none k (length w.0))
     statement_says j s.Empty w = declares_as k (length w.0) (length w.0) (Some 0) _ (empty_count k) (declares_none k (length w.0))
     statement_says j (s.Local d) w =
         let l = local_of d w in

@@ -5,12 +5,12 @@ ghost use Rattle.c_tree.specs.declared.types.Declaration.{Declaration};
 ghost use Rattle.c_tree.specs.declared.statements.Stmt.{Stmt};
 ghost use Rattle.c_judgements.specs.Types.{JudgementState};
 ghost use Rattle.c_statements.specs.declared.functions.FunctionType.{FunctionType};
-ghost use Rattle.c_statements.specs.Functions.{function};
+ghost use Rattle.c_statements.specs.Functions.{judge_function};
 ghost use Rattle.c_local_laws.specs.Laws.{DeclaresItsLocals};
 
 /// The parameters of a function that is judged are its first locals; its body declares none of them, and each other one
 /// exactly once.
 pub fn locals_are_declared_once()
     ensures { (d : Declaration) (of : Option FunctionType) (list : List Stmt) (s : JudgementState)
-        → IfSome (function d of list s).0 DeclaresItsLocals }
+        → IfSome (judge_function d of list s).0 DeclaresItsLocals }
 {}

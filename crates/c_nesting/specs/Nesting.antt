@@ -49,10 +49,10 @@ pub data GroupItem : Type 0 where
   group : ℕ → Bool → GroupItem
 
 -- Behind a `;`, a `,` and a group that a `}` closes a segment ends ..
-abbrev pub ends : GroupItem → Bool
-ends (token Separates) = true
-ends (token _) = false
-ends (group value brace) = brace
+abbrev pub ends_segment : GroupItem → Bool
+ends_segment (token Separates) = true
+ends_segment (token _) = false
+ends_segment (group value brace) = brace
 
 -- .. except before `else`. (Behind an item stands the next item, or a bracket that closes the group, or nothing.)
 abbrev pub begins_else : List GroupItem → Bool
@@ -66,7 +66,8 @@ add_to_first item (segment ∷ segments) = (item ∷ segment) ∷ segments
 abbrev pub segments : List GroupItem → List (List GroupItem)
 segments [] = []
 segments (item ∷ items) =
-    if ends item && not (begins_else items) then (item ∷ []) ∷ segments items else add_to_first item (segments items)
+    if ends_segment item && not (begins_else items) then (item ∷ []) ∷ segments items
+    else add_to_first item (segments items)
 
 -- ---- costs
 
@@ -76,25 +77,25 @@ count_of_item (token Counts) = 1
 count_of_item (token _) = 0
 count_of_item (group value brace) = 1
 
-abbrev pub value_of : GroupItem → ℕ
-value_of (token role) = 0
-value_of (group value brace) = value
+abbrev pub item_value : GroupItem → ℕ
+item_value (token role) = 0
+item_value (group value brace) = value
 
 abbrev pub count : List GroupItem → ℕ
 count [] = 0
 count (item ∷ items) = count_of_item item + count items
 
 -- 0 where there is none
-abbrev pub greatest : List ℕ → ℕ
-greatest [] = 0
-greatest (n ∷ ns) = max n (greatest ns)
+abbrev pub maximum : List ℕ → ℕ
+maximum [] = 0
+maximum (n ∷ ns) = max n (maximum ns)
 
-abbrev pub cost : List GroupItem → ℕ
-cost segment = count segment + greatest (map value_of segment)
+abbrev pub segment_cost : List GroupItem → ℕ
+segment_cost segment = count segment + maximum (map item_value segment)
 
 -- the greatest cost of the segments: the value of the group that these items stand in
-abbrev pub value : List GroupItem → ℕ
-value items = greatest (map cost (segments items))
+abbrev pub group_value : List GroupItem → ℕ
+group_value items = maximum (map segment_cost (segments items))
 
 -- ---- groups
 
@@ -106,9 +107,9 @@ pub data Levels : Type 0 where
   closed : List GroupItem → Role → Levels → Levels
 
 -- the items of the group that is open
-abbrev pub inner : Levels → List GroupItem
-inner (open_to_end items) = items
-inner (closed items bracket outer) = items
+abbrev pub inner_items : Levels → List GroupItem
+inner_items (open_to_end items) = items
+inner_items (closed items bracket outer) = items
 
 abbrev pub is_brace : Role → Bool
 is_brace ClosesBrace = true
@@ -120,33 +121,33 @@ brace (open_to_end items) = false
 brace (closed items bracket outer) = is_brace bracket
 
 -- what follows behind the bracket that closes it
-abbrev pub around : Levels → Levels
-around (open_to_end items) = open_to_end []
-around (closed items bracket outer) = outer
+abbrev pub levels_around : Levels → Levels
+levels_around (open_to_end items) = open_to_end []
+levels_around (closed items bracket outer) = outer
 
 abbrev pub prepend : GroupItem → Levels → Levels
 prepend item (open_to_end items) = open_to_end (item ∷ items)
 prepend item (closed items bracket outer) = closed (item ∷ items) bracket outer
 
 -- one token more, in front
-abbrev pub place : Role → Levels → Levels
-place Opens rest = prepend (group (value (inner rest)) (brace rest)) (around rest)
-place Closes rest = closed [] Closes rest
-place ClosesBrace rest = closed [] ClosesBrace rest
-place role rest = prepend (token role) rest
+abbrev pub place_token : Role → Levels → Levels
+place_token Opens rest = prepend (group (group_value (inner_items rest)) (brace rest)) (levels_around rest)
+place_token Closes rest = closed [] Closes rest
+place_token ClosesBrace rest = closed [] ClosesBrace rest
+place_token role rest = prepend (token role) rest
 
 abbrev pub levels : List Role → Levels
 levels [] = open_to_end []
-levels (role ∷ roles) = place role (levels roles)
+levels (role ∷ roles) = place_token role (levels roles)
 
 -- What stands outside all groups. A bracket that closes no group is a token there.
-abbrev pub outside : Levels → List GroupItem
-outside (open_to_end items) = items
-outside (closed items bracket rest) = items ++ token bracket ∷ outside rest
+abbrev pub outer_items : Levels → List GroupItem
+outer_items (open_to_end items) = items
+outer_items (closed items bracket rest) = items ++ token bracket ∷ outer_items rest
 
 -- the greatest cost of the segments outside all groups
 abbrev pub nesting : List Role → ℕ
-nesting roles = value (outside (levels roles))
+nesting roles = group_value (outer_items (levels roles))
 
 abbrev pub role_of_lexeme : Lexeme → Role
 role_of_lexeme t = role_of t.kind

@@ -2,7 +2,7 @@
 use Rattle.std.proofs.Common.{◌≡◌, ℕ, Bool, true, false, ◌&&◌, IsTrue, List, [], ◌∷◌, ◌++◌, refl, ap, ◌∙◌, append_assoc}
 use Rattle.std.specs.List.{list_all}
 use Rattle.c_checks.specs.declared.notes.Notes.{Notes}
-use Rattle.c_judgements.specs.Leaves.{incomplete}
+use Rattle.c_judgements.specs.Leaves.{incomplete_struct}
 use Rattle.c_note_laws.specs.Steps.{is_sized, NoteSteps}
 use Rattle.c_note_laws.specs.Laws.{StandsFirst, OnlyAdds}
 
@@ -47,4 +47,4 @@ steps_add {n = n} (NoteSteps.Aside inner) =
     let a = steps_add inner in
     record { structs = a.structs; faults = a.faults; texts = itself n.texts; first = a.first; sized = λ h. h }
 steps_add {n = n} (NoteSteps.AddsEnum name) = record { structs = itself n.structs; faults = itself n.faults; texts = itself n.texts; first = refl; sized = λ h. h }
-steps_add {n = n} (NoteSteps.AddsStruct name) = record { structs = one_more n.structs (incomplete name); faults = itself n.faults; texts = itself n.texts; first = refl; sized = λ h. h }
+steps_add {n = n} (NoteSteps.AddsStruct name) = record { structs = one_more n.structs (incomplete_struct name); faults = itself n.faults; texts = itself n.texts; first = refl; sized = λ h. h }

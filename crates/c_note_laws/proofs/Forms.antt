@@ -11,7 +11,7 @@ use Rattle.c_typed_tree.specs.declared.expressions.TExpr.{TExpr}
 use Rattle.c_typed_tree.specs.Typing.{most_depth}
 use Rattle.c_typed_tree.specs.View.{type_view}
 use Rattle.c_declared_types.specs.declared.declared.DeclaredType.{DeclaredType}
-use Rattle.c_declared_types.specs.Declarators.{parameter_of}
+use Rattle.c_declared_types.specs.Declarators.{adjusted_parameter}
 use Rattle.c_declared_types.specs.Depth.{is_declarable, is_deep_at_most}
 use Rattle.c_type_faults.specs.declared.faults.Kind.TheVariants.{BadType, Redeclared, BadOperand, UnknownName, NotFunction}
 use Rattle.c_type_rules.specs.declared.typed.PlaceKind.{PlaceKind}
@@ -20,9 +20,9 @@ use Rattle.c_type_rules.specs.declared.typed.TypedExpression.{TypedExpression}
 use Rattle.c_type_rules.specs.Rulings.{Ruling}
 use Rattle.c_type_rules.specs.Conversions.{decay}
 use Rattle.c_primary_rules.specs.Primary.{text}
-use Rattle.c_primary_rules.specs.Commas.{comma}
+use Rattle.c_primary_rules.specs.Commas.{comma_value}
 use Rattle.c_primary_rules.specs.Calls.{count_arguments}
-use Rattle.c_operators.specs.Unary.{unary}
+use Rattle.c_operators.specs.Unary.{unary_ruling}
 use Rattle.c_operators.specs.Null.{take_value}
 use Rattle.c_scopes.specs.Names.{find}
 use Rattle.c_checks.specs.declared.env.Env.{Env}
@@ -32,18 +32,18 @@ use Rattle.c_checks.specs.declared.meanings.Tag.{Tag}
 use Rattle.c_checks.specs.declared.meanings.Tag.TheVariants as g
 use Rattle.c_checks.specs.declared.meanings.UntaggedStruct.{UntaggedStruct}
 use Rattle.c_checks.specs.declared.notes.Notes.{Notes}
-use Rattle.c_checks.specs.Checks.{pure, and_then, each, both, append_part, note_fault, fault}
+use Rattle.c_checks.specs.Checks.{pure, and_then, each, both_parts, append_part, note_fault, fault}
 use Rattle.c_checks.specs.Notes.{with_address, new_text}
-use Rattle.c_checks.specs.Scopes.{with_name, meaning_of, stands_here}
+use Rattle.c_checks.specs.Scopes.{with_meaning, meaning_of, stands_here}
 use Rattle.c_judgements.specs.declared.members.MemberMeaning.{MemberMeaning}
 use Rattle.c_judgements.specs.declared.members.MemberMeaning.TheVariants as q
-use Rattle.c_judgements.specs.Operators.{taken_by, apply_prefix, choice_of, are_two_or_more, commas_between, commas}
+use Rattle.c_judgements.specs.Operators.{taken_by, apply_prefix, choice_of_parts, are_two_or_more, commas_between, commas}
 use Rattle.c_judgements.specs.Names.{name_of}
-use Rattle.c_judgements.specs.Texts.{join_spellings, bytes_of, string_of, string}
+use Rattle.c_judgements.specs.Texts.{join_spellings, spelling_bytes, string_of, string}
 use Rattle.c_judgements.specs.Calls.{argument, convert_arguments, call_passing, call_of, call_by_meaning}
 use Rattle.c_judgements.specs.Members.{member_of, struct_number, target_number, field_in, field_named, arrow_in, arrow_named}
-use Rattle.c_judgements.specs.Leaves.{no_type, named_type, tag_named, enum_tagged, enum_type, struct_numbered, struct_tagged, struct_at, struct_type, leaf}
-use Rattle.c_judgements.specs.Types.{JudgementState, within, there, type_named, no_parameter, within_depth, parameter_type, parameter_meaning, declared_parameter, parameter_declared}
+use Rattle.c_judgements.specs.Leaves.{no_type, typedef_type, tag_named, enum_tagged, enum_type, struct_numbered, struct_tagged, struct_at, struct_type, leaf}
+use Rattle.c_judgements.specs.Types.{JudgementState, in_env, required_type, type_named, no_parameter, within_depth, parameter_type, parameter_meaning, declared_parameter, parameter_declared}
 use Rattle.c_note_laws.specs.Steps.{NoteSteps}
 use Rattle.c_note_laws.specs.Steps.NoteSteps.{Stays, Follows, AddsFault, AddsUse, ListsAddresses, AddsText, AddsEnum, AddsStruct}
 
@@ -60,7 +60,7 @@ pub each_adds : {A B : Type 0} (o : Option A) (f : A → Notes → Option B × N
 each_adds None f n h = Stays
 each_adds (Some a) f n h = h a
 
-pub both_adds : {A B D : Type 0} (o : Option A) (q : Option B) (f : A → B → Notes → Option D × Notes) (n : Notes) → ((a : A) (b : B) → NoteSteps n (f a b n).1) → NoteSteps n (both o q f n).1
+pub both_adds : {A B D : Type 0} (o : Option A) (q : Option B) (f : A → B → Notes → Option D × Notes) (n : Notes) → ((a : A) (b : B) → NoteSteps n (f a b n).1) → NoteSteps n (both_parts o q f n).1
 both_adds None q f n h = Stays
 both_adds (Some a) None f n h = Stays
 both_adds (Some a) (Some b) f n h = h a b
@@ -84,9 +84,9 @@ taken_adds u.Invert stands n = Stays
 taken_adds u.Not stands n = Stays
 
 pub prefix_adds : (at : ℕ) (op : UnaryOp) (a : TypedExpression) (n : Notes) → NoteSteps n (apply_prefix at op a n).1
-prefix_adds at op a n = adds_then n (taken_by op a.place n) (apply_prefix at op a n).1 (taken_adds op a.place n) (ruled (unary n.structs at op a) (taken_by op a.place n))
+prefix_adds at op a n = adds_then n (taken_by op a.place n) (apply_prefix at op a n).1 (taken_adds op a.place n) (ruled (unary_ruling n.structs at op a) (taken_by op a.place n))
 
-pub choice_adds : (at : ℕ) (c a b : Option TypedExpression) (n : Notes) → NoteSteps n (choice_of at c a b n).1
+pub choice_adds : (at : ℕ) (c a b : Option TypedExpression) (n : Notes) → NoteSteps n (choice_of_parts at c a b n).1
 choice_adds at None a b n = Stays
 choice_adds at (Some c) None b n = Stays
 choice_adds at (Some c) (Some a) None n = Stays
@@ -95,7 +95,7 @@ choice_adds at (Some c) (Some a) (Some b) n = ruled _ n
 between_adds : (at : ℕ) (l : List TypedExpression) (n : Notes) → NoteSteps n (commas_between at l n).1
 between_adds at l n = choose (are_two_or_more l)
   where
-    choose : (b : Bool) → NoteSteps n (if b then (Some (comma at l), n) else fault at BadOperand n).1
+    choose : (b : Bool) → NoteSteps n (if b then (Some (comma_value at l), n) else fault at BadOperand n).1
     choose true = Stays
     choose false = AddsFault at BadOperand
 
@@ -122,7 +122,7 @@ text_adds at bytes n some = choose (nat_le (length bytes) MOST_DATA) refl
     choose false e = AddsFault at BadType
 
 pub string_adds : (at : ℕ) (spellings : List (List ℕ)) (n : Notes) → NoteSteps n (string at spellings n).1
-string_adds at spellings n = text_adds at (bytes_of spellings) n (ended (join_spellings spellings))
+string_adds at spellings n = text_adds at (spelling_bytes spellings) n (ended (join_spellings spellings))
   where
     longer : (k : ℕ) → 1 ≤ suc k
     longer k = omega arith
@@ -173,7 +173,7 @@ arrow_adds at name a n = arrow_adds_in at (decay a) (member_of n (target_number 
 
 -- ---- specifiers
 
-named_adds : (at : ℕ) (o : Option NameMeaning) (n : Notes) → NoteSteps n (named_type at o n).1
+named_adds : (at : ℕ) (o : Option NameMeaning) (n : Notes) → NoteSteps n (typedef_type at o n).1
 named_adds at None n = AddsFault at UnknownName
 named_adds at (Some m.Faulty) n = Stays
 named_adds at (Some (m.Undefined number)) n = AddsFault at BadType
@@ -221,7 +221,7 @@ leaf_adds env at (t.Takes' _ (k.more_of-TypeNode x k.end_of-TypeNode) _ paramete
 
 -- ---- declarators
 
-pub there_adds : (at : ℕ) (o : Option DeclaredType) (n : Notes) → NoteSteps n (there at o n).1
+pub there_adds : (at : ℕ) (o : Option DeclaredType) (n : Notes) → NoteSteps n (required_type at o n).1
 there_adds at None n = AddsFault at BadType
 there_adds at (Some x) n = Stays
 
@@ -244,11 +244,11 @@ declared_adds : (at : ℕ) (name : Option (List ℕ)) (o : Option CType) (s : Ju
 declared_adds at None o s = Stays
 declared_adds at (Some name) o s = choose (stands_here s.0 (find name s.0.names))
   where
-    choose : (b : Bool) → NoteSteps s.1 (if b then within s.0 (no_parameter at Redeclared s.1) else (o, (with_name name (parameter_meaning o) s.0, s.1))).1.1
+    choose : (b : Bool) → NoteSteps s.1 (if b then in_env s.0 (no_parameter at Redeclared s.1) else (o, (with_meaning name (parameter_meaning o) s.0, s.1))).1.1
     choose true = AddsFault at Redeclared
     choose false = Stays
 
 pub parameter_adds : (at : ℕ) (name : Option (List ℕ)) (of : Option DeclaredType) (s : JudgementState) → NoteSteps s.1 (parameter_declared at name of s).1.1
 parameter_adds at name of s =
     let r = each of (parameter_type at) s.1 in
-    adds_then s.1 r.1 (parameter_declared at name of s).1.1 (each_adds of (parameter_type at) s.1 (λ x. within_adds at (parameter_of x) s.1)) (declared_adds at name r.0 (s.0, r.1))
+    adds_then s.1 r.1 (parameter_declared at name of s).1.1 (each_adds of (parameter_type at) s.1 (λ x. within_adds at (adjusted_parameter x) s.1)) (declared_adds at name r.0 (s.0, r.1))

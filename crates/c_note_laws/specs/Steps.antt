@@ -5,8 +5,8 @@ use Rattle.data_object.specs.declared.TheConstants.{MOST_DATA}
 use Rattle.c_type_faults.specs.declared.faults.Kind.{Kind}
 use Rattle.c_checks.specs.declared.meanings.Tag.TheVariants as g
 use Rattle.c_checks.specs.declared.notes.Notes.{Notes}
-use Rattle.c_checks.specs.Notes.{with_fault, with_use, with_taken, new_text, apart, rejoin, new_struct, with_tag}
-use Rattle.c_judgements.specs.Leaves.{incomplete}
+use Rattle.c_checks.specs.Notes.{with_fault, with_use, with_taken, new_text, nothing_taken, rejoin, new_struct, with_tag}
+use Rattle.c_judgements.specs.Leaves.{incomplete_struct}
 
 -- a text has its closing zero at least, and is no larger than the data may be
 abbrev pub is_sized : (text : List ℕ) → Bool
@@ -21,7 +21,7 @@ pub data NoteSteps : (n later : Notes) → Type 0 where
   ListsAddresses : {n : Notes} (addressed : List ℕ) → NoteSteps n (with_taken addressed n.texts n)
   AddsText : {n : Notes} (bytes : List ℕ) → IsTrue (is_sized bytes) → NoteSteps n (new_text bytes n).1
   -- what an operand that is not evaluated takes is forgotten
-  Aside : {n m : Notes} → NoteSteps (apart n) m → NoteSteps n (rejoin n.addressed n.texts m)
+  Aside : {n m : Notes} → NoteSteps (nothing_taken n) m → NoteSteps n (rejoin n.addressed n.texts m)
   AddsEnum : {n : Notes} (name : List ℕ) → NoteSteps n (with_tag name g.Enum n)
   AddsStruct : {n : Notes} (name : List ℕ) →
-      NoteSteps n (with_tag name (g.Struct (length n.structs)) (new_struct (incomplete name) n).1)
+      NoteSteps n (with_tag name (g.Struct (length n.structs)) (new_struct (incomplete_struct name) n).1)

@@ -12,12 +12,12 @@ use Rattle.c_typed_tree.specs.declared.units.TypedFn.{TypedFn}
 use Rattle.c_checks.specs.declared.env.Env.{Env}
 use Rattle.c_checks.specs.declared.meanings.NameMeaning.{NameMeaning}
 use Rattle.c_checks.specs.declared.meanings.NameMeaning.TheVariants as m
-use Rattle.c_checks.specs.Scopes.{with_name, meaning_of}
+use Rattle.c_checks.specs.Scopes.{with_meaning, meaning_of}
 use Rattle.c_unit_names.specs.declared.names.NameDeclaration.{NameDeclaration}
 use Rattle.c_unit_names.specs.declared.names.UnitNames.{UnitNames}
 use Rattle.c_unit_names.specs.UnitNames.{object_name, function_name, value_name, first_meaning}
 use Rattle.c_declarations.specs.declared.walk.UnitSoFar.{UnitSoFar}
-use Rattle.c_declarations.specs.Walk.{with_names, object_at, function_at, add_function}
+use Rattle.c_declarations.specs.Walk.{with_names, object_number, function_at, add_function}
 use Rattle.c_declarations.specs.Functions.{function_declared}
 use Rattle.c_declarations.specs.Objects.{object_declared}
 use Rattle.c_found_unit_laws.specs.Externals.{typedef_of}
@@ -37,10 +37,10 @@ is_none (Some a) e = no_true (sym e)
 abbrev named_by : (q name : List ℕ) → NameMeaning → Env → Bool → Option (ℕ × NameMeaning)
 named_by q name x env b = if b then Some (length env.names, x) else find q env.names
 
-pub own_meaning : (name : List ℕ) (x : NameMeaning) (env : Env) → meaning_of (with_name name x env) name ≡ Some x
+pub own_meaning : (name : List ℕ) (x : NameMeaning) (env : Env) → meaning_of (with_meaning name x env) name ≡ Some x
 own_meaning name x env = ap (λ (b : Bool). option_map (λ r. r.1) (named_by name name x env b)) ((bytes_eq-Decides name name).1 refl)
 
-pub other_meaning : (q name : List ℕ) (x : NameMeaning) (env : Env) → bytes_eq q name ≡ false → meaning_of (with_name name x env) q ≡ meaning_of env q
+pub other_meaning : (q name : List ℕ) (x : NameMeaning) (env : Env) → bytes_eq q name ≡ false → meaning_of (with_meaning name x env) q ≡ meaning_of env q
 other_meaning q name x env e = ap (λ (b : Bool). option_map (λ r. r.1) (named_by q name x env b)) e
 
 not_same : (q name : List ℕ) → (q ≡ name → ⊥) → bytes_eq q name ≡ false
@@ -80,7 +80,7 @@ AreDistinct (e ∷ ns) = (find e.name ns ≡ None) × AreDistinct ns
 
 module _ (name : List ℕ) (x : NameMeaning) (env : Env) where
   abbrev Later : Env
-  Later = with_name name x env
+  Later = with_meaning name x env
 
   first_skipped : (e : Entry (Unit {0})) (ns : NameSet) (b : Bool) → bytes_eq name e.name ≡ b → (if b then Some (length ns, e.value) else find name ns) ≡ None → (name ≡ e.name → ⊥) × (find name ns ≡ None)
   first_skipped e ns true g h = none_some h
@@ -175,7 +175,7 @@ module _ (ds : Definitions) (apart : AreDistinct ds.objects) where
   declared_counts name new (Again old e may) h = h
 
   -- what is no object changes no number
-  plain_count : (name : List ℕ) (x : NameMeaning) (env : Env) → meaning_of env name ≡ None → is_object (Some x) ≡ false → count (with_name name x env) ds.objects ≡ count env ds.objects
+  plain_count : (name : List ℕ) (x : NameMeaning) (env : Env) → meaning_of env name ≡ None → is_object (Some x) ≡ false → count (with_meaning name x env) ds.objects ≡ count env ds.objects
   plain_count name x env free e =
       count_with name x env free ds.objects apart (λ t. no_true (sym e ∙ t)) ∙ (ap (λ (b : Bool). one_if b + count env ds.objects) e ∙ zero-add (count env ds.objects))
 
@@ -196,8 +196,8 @@ module _ (ds : Definitions) (apart : AreDistinct ds.objects) where
   steps_count (DefinesFunction {u = u} {names = names} {later = later} e of list n made g same) h =
       same_names later (added_names (function_at later e.name) made (with_names names u)) (declared_counts e.name (function_declared true (declared_as of)) g h)
   steps_count (DeclaresObject {u = u} {names = names} {later = later} name ty has_value g) h =
-      same_names later (added_body (object_at later name) name ty (with_names names u)) (declared_counts name (object_declared ty has_value) g h)
-  steps_count (KeepsCells {u = u} {env = env} name cells) h = same_names env (filled_names (object_at env name) cells u) h
+      same_names later (added_body (object_number later name) name ty (with_names names u)) (declared_counts name (object_declared ty has_value) g h)
+  steps_count (KeepsCells {u = u} {env = env} name cells) h = same_names env (filled_names (object_number env name) cells u) h
 
 -- ---- all names, and none
 

@@ -11,12 +11,12 @@ use Rattle.c_typed_tree.specs.declared.units.TypedFn.{TypedFn}
 use Rattle.c_checks.specs.declared.env.Env.{Env}
 use Rattle.c_checks.specs.declared.meanings.NameMeaning.{NameMeaning}
 use Rattle.c_checks.specs.declared.meanings.NameMeaning.TheVariants as m
-use Rattle.c_checks.specs.Scopes.{with_name, meaning_of}
+use Rattle.c_checks.specs.Scopes.{with_meaning, meaning_of}
 use Rattle.c_unit_names.specs.declared.names.NameDeclaration.{NameDeclaration}
 use Rattle.c_unit_names.specs.declared.names.UnitNames.{UnitNames}
 use Rattle.c_unit_names.specs.UnitNames.{is_same_declared, may_follow, object_name, function_name, value_name, first_meaning, with_declared, with_value}
 use Rattle.c_declarations.specs.declared.walk.UnitSoFar.{UnitSoFar}
-use Rattle.c_declarations.specs.Walk.{with_names, object_at, function_at, add_function}
+use Rattle.c_declarations.specs.Walk.{with_names, object_number, function_at, add_function}
 use Rattle.c_declarations.specs.Functions.{function_declared}
 use Rattle.c_declarations.specs.Objects.{object_declared}
 use Rattle.c_found_unit_laws.specs.Externals.{typedef_of}
@@ -134,16 +134,16 @@ module _ (ds : Definitions) where
   MeansObjects u env = (q : List ℕ) → IsTrue (declares_object q u) → IsTrue (is_some (find q ds.objects)) → IsTrue (is_object (meaning_of env q))
 
   first_means : (name : List ℕ) (new : NameDeclaration) (u : UnitNames) (env : Env) → meaning_of env name ≡ None → MeansObjects u env
-      → MeansObjects (with_declared name new (first_meaning ds name new u).1) (with_name name (first_meaning ds name new u).0 env)
+      → MeansObjects (with_declared name new (first_meaning ds name new u).1) (with_meaning name (first_meaning ds name new u).0 env)
   first_means name new u env free h q k g = choose (bytes_eq q name) refl k
     where
       r : NameMeaning × UnitNames
       r = first_meaning ds name new u
 
-      choose : (b : Bool) → bytes_eq q name ≡ b → IsTrue (is_of_object_in (if b then Some (length r.1.declared, new) else find q r.1.declared)) → IsTrue (is_object (meaning_of (with_name name r.0 env) q))
+      choose : (b : Bool) → bytes_eq q name ≡ b → IsTrue (is_of_object_in (if b then Some (length r.1.declared, new) else find q r.1.declared)) → IsTrue (is_object (meaning_of (with_meaning name r.0 env) q))
       choose true e k =
           let same = (bytes_eq-Decides q name).0 e in
-          ap is_object (ap (meaning_of (with_name name r.0 env)) same ∙ own_meaning name r.0 env) ∙ first_object ds name new u k (subst (λ n. IsTrue (is_some (find n ds.objects))) same g)
+          ap is_object (ap (meaning_of (with_meaning name r.0 env)) same ∙ own_meaning name r.0 env) ∙ first_object ds name new u k (subst (λ n. IsTrue (is_some (find n ds.objects))) same g)
       choose false e k = ap is_object (other_meaning q name r.0 env e) ∙ h q (ap (λ xs. is_of_object_in (find q xs)) (sym (declared_same ds name new u)) ∙ k) g
 
   again_means : (name : List ℕ) (new : NameDeclaration) (u : UnitNames) (env : Env) (old : ℕ × NameDeclaration) (has_value : Bool) → find name u.declared ≡ Some old → IsTrue (may_follow old.1 new) → MeansObjects u env
@@ -165,10 +165,10 @@ module _ (ds : Definitions) where
   same_names : (later : Env) {v w : UnitNames} → v ≡ w → MeansObjects w later → MeansObjects v later
   same_names later e h q k g = h q (ap (declares_object q) (sym e) ∙ k) g
 
-  constant_means : (name : List ℕ) (word : ℕ) (u : UnitNames) (env : Env) → find name env.names ≡ None → MeansObjects u env → MeansObjects u (with_name name (m.Constant word) env)
+  constant_means : (name : List ℕ) (word : ℕ) (u : UnitNames) (env : Env) → find name env.names ≡ None → MeansObjects u env → MeansObjects u (with_meaning name (m.Constant word) env)
   constant_means name word u env e h q k l = choose (bytes_eq q name) refl
     where
-      choose : (b : Bool) → bytes_eq q name ≡ b → IsTrue (is_object (meaning_of (with_name name (m.Constant word) env) q))
+      choose : (b : Bool) → bytes_eq q name ≡ b → IsTrue (is_object (meaning_of (with_meaning name (m.Constant word) env) q))
       choose true same = no_true (sym (ap is_object (ap (meaning_of env) ((bytes_eq-Decides q name).0 same) ∙ free_name name env e)) ∙ h q k l)
       choose false same = ap is_object (other_meaning q name (m.Constant word) env same) ∙ h q k l
 
@@ -182,8 +182,8 @@ module _ (ds : Definitions) where
   steps_mean (DefinesFunction {u = u} {names = names} {later = later} e of list n made g same) h =
       same_names later (added_names (function_at later e.name) made (with_names names u)) (declared_means e.name (function_declared true (declared_as of)) g h)
   steps_mean (DeclaresObject {u = u} {names = names} {later = later} name ty has_value g) h =
-      same_names later (added_body (object_at later name) name ty (with_names names u)) (declared_means name (object_declared ty has_value) g h)
-  steps_mean (KeepsCells {u = u} {env = env} name cells) h = same_names env (filled_names (object_at env name) cells u) h
+      same_names later (added_body (object_number later name) name ty (with_names names u)) (declared_means name (object_declared ty has_value) g h)
+  steps_mean (KeepsCells {u = u} {env = env} name cells) h = same_names env (filled_names (object_number env name) cells u) h
 
   -- ---- a declaration that is there stays
 
@@ -212,5 +212,5 @@ module _ (ds : Definitions) where
   steps_keep_object q (DefinesFunction {u = u} {names = names} {later = later} e of list n made g same) h =
       ap (declares_object q) (added_names (function_at later e.name) made (with_names names u)) ∙ declared_keeps q e.name (function_declared true (declared_as of)) g h
   steps_keep_object q (DeclaresObject {u = u} {names = names} {later = later} name ty has_value g) h =
-      ap (declares_object q) (added_body (object_at later name) name ty (with_names names u)) ∙ declared_keeps q name (object_declared ty has_value) g h
-  steps_keep_object q (KeepsCells {u = u} {env = env} name cells) h = ap (declares_object q) (filled_names (object_at env name) cells u) ∙ h
+      ap (declares_object q) (added_body (object_number later name) name ty (with_names names u)) ∙ declared_keeps q name (object_declared ty has_value) g h
+  steps_keep_object q (KeepsCells {u = u} {env = env} name cells) h = ap (declares_object q) (filled_names (object_number env name) cells u) ∙ h

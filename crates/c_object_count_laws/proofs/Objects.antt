@@ -18,16 +18,16 @@ use Rattle.c_checks.specs.declared.notes.Notes.{Notes}
 use Rattle.c_checks.specs.Notes.{with_fault}
 use Rattle.c_judgements.specs.Types.{JudgementState}
 use Rattle.c_tag_bodies.specs.Bodies.{TagScope}
-use Rattle.c_tag_bodies.specs.Members.{is_member}
+use Rattle.c_tag_bodies.specs.Members.{is_member_type}
 use Rattle.c_initialisers.specs.Unfit.{judge_init}
 use Rattle.c_initialisers.specs.Initialisers.{object_cells, length_given}
 use Rattle.c_unit_names.specs.declared.names.UnitNames.{UnitNames}
-use Rattle.c_unit_names.specs.UnitNames.{object_name, first_meaning, with_value, declaration}
+use Rattle.c_unit_names.specs.UnitNames.{object_name, first_meaning, with_value, judge_declaration}
 use Rattle.c_declarations.specs.declared.walk.UnitSoFar.{UnitSoFar}
-use Rattle.c_declarations.specs.Walk.{UnitWalk, with_names, declare, is_main, main_checked, object_at, add_object, keep_cells}
-use Rattle.c_declarations.specs.Objects.{no_object, object_type, type_there, array_type, init_judged, init_filled, object_declared, object_of, array_object, value_object}
+use Rattle.c_declarations.specs.Walk.{UnitWalk, with_names, declare, is_main, main_checked, object_number, add_object, keep_cells}
+use Rattle.c_declarations.specs.Objects.{no_object_type, object_type, type_there, array_type, init_judged, init_filled, object_declared, object_by_type, array_object, value_object}
 use Rattle.c_declarations.specs.Functions.{optional_refused}
-use Rattle.c_found_unit_laws.specs.Externals.{prototype, object_with, type_of, external}
+use Rattle.c_found_unit_laws.specs.Externals.{prototype, object_with, declarator_type, walk_external}
 use Rattle.c_found_laws.specs.Laws.{is_sound, Tells, IsFound}
 use Rattle.c_found_laws.proofs.Forms.{tells_none, tells_fault, tells_as, tells_both}
 use Rattle.c_found_unit_laws.specs.Steps.{DeclaresName, First, Again}
@@ -53,10 +53,10 @@ checked_tells env (Some s.Static) at name n = choose (is_main name)
     choose false = tells_none (env, n) tt
 
 type_tells : (env : Env) (at : ℕ) (ty : CType) (n : Notes) → Tells (IsFound (object_type at ty n).0) (env, n) (env, (object_type at ty n).1)
-type_tells env at ty n = choose (is_member n.structs ty)
+type_tells env at ty n = choose (is_member_type n.structs ty)
   where
     either : Bool → Option CType × Notes
-    either b = if b then (Some ty, n) else no_object at n
+    either b = if b then (Some ty, n) else no_object_type at n
 
     choose : (b : Bool) → Tells (IsFound (either b).0) (env, n) (env, (either b).1)
     choose true = tells_none (env, n) refl
@@ -78,7 +78,7 @@ filled_tells name ty (Some v) w = tells_as w.1 (object_cells ty v w.1).1 (λ h. 
 
 kept_names : (env : Env) (name : List ℕ) (o : Option (List DataCell)) (u : UnitSoFar) → (keep_cells env name o u).names ≡ u.names
 kept_names env name None u = refl
-kept_names env name (Some cells) u = filled_names (object_at env name) cells u
+kept_names env name (Some cells) u = filled_names (object_number env name) cells u
 
 init_names : (name : List ℕ) (ty : CType) (init : Option Init) (w : UnitWalk) → (init_filled name ty init w).0.names ≡ w.0.names
 init_names name ty None w = refl
@@ -96,17 +96,17 @@ declared_object ds name ty has_value (Again {u = u} old e may) =
 -- ---- declarations of objects
 
 module _ (ds : Definitions) (at : ℕ) (name : List ℕ) (storage : Option Storage) (init : Option Init) where
-  of_declares : (o : Option CType) (s : JudgementState) (w : UnitWalk) → Tells (IsFound o) s w.1 → (let v = object_of ds at name storage init o w in Tells (IsTrue (declares_object name v.0.names)) s v.1)
+  of_declares : (o : Option CType) (s : JudgementState) (w : UnitWalk) → Tells (IsFound o) s w.1 → (let v = object_by_type ds at name storage init o w in Tells (IsTrue (declares_object name v.0.names)) s v.1)
   of_declares None s w h =
       let mid = declare ds at name None w in
       tells_both s mid.1 (init_judged init mid.1) (λ y z. y) (tells_refused s w.1 mid.1.0 h) (judged_tells init mid.1)
   of_declares (Some ty) s w h =
       let n = main_checked storage at name w.1.1 in
-      let r = declaration ds at name (Some (object_declared ty (is_some init))) w.0.names (w.1.0, n) in
+      let r = judge_declaration ds at name (Some (object_declared ty (is_some init))) w.0.names (w.1.0, n) in
       let u = add_object r.1.0 name ty (with_names r.0 w.0) in
       let v = init_filled name ty init (u, r.1) in
       tells_both s r.1 v.1
-      (λ y z. ap (declares_object name) (init_names name ty init (u, r.1) ∙ added_body (object_at r.1.0 name) name ty (with_names r.0 w.0)) ∙ declared_object ds name ty (is_some init) y)
+      (λ y z. ap (declares_object name) (init_names name ty init (u, r.1) ∙ added_body (object_number r.1.0 name) name ty (with_names r.0 w.0)) ∙ declared_object ds name ty (is_some init) y)
       (tells_both s (w.1.0, n) r.1 (λ y z. z) (tells_both s w.1 (w.1.0, n) (λ y z. z) h (checked_tells w.1.0 storage at name w.1.1))
       (declaration_tells ds at name (object_declared ty (is_some init)) w.0.names (w.1.0, n) (object_sound ty (is_some (find name ds.objects)) w.0.names)))
       (filled_tells name ty init (u, r.1))
@@ -140,5 +140,5 @@ module _ (ds : Definitions) (e : Declaration) (storage : Option Storage) (init :
       true_false : {X : Type 0} → true ≡ false → X
       true_false e = let clash : ⊥ = cc in absurd clash
 
-  pub external_declares : (t : UnitSoFar × TagScope) → (let v = external ds (x.Object e storage init) t in Tells (is_function_found (type_of e t.1).0 ≡ false → IsTrue (declares_object e.name v.0.names)) t.1.1 v.1.1)
-  external_declares t = let r = type_of e t.1 in object_declares r.0 t.1.1 (t.0, r.1.1) (declared_tells e.at e.ty t.1)
+  pub external_declares : (t : UnitSoFar × TagScope) → (let v = walk_external ds (x.Object e storage init) t in Tells (is_function_found (declarator_type e t.1).0 ≡ false → IsTrue (declares_object e.name v.0.names)) t.1.1 v.1.1)
+  external_declares t = let r = declarator_type e t.1 in object_declares r.0 t.1.1 (t.0, r.1.1) (declared_tells e.at e.ty t.1)

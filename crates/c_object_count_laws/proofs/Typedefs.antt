@@ -15,7 +15,7 @@ use Rattle.c_tree.specs.declared.declarations.FunctionEnd.TheVariants as f
 use Rattle.c_tree.specs.declared.declarations.External.{External}
 use Rattle.c_tree.specs.declared.declarations.External.TheVariants as x
 use Rattle.c_definitions.specs.declared.names.Definitions.{Definitions}
-use Rattle.c_definitions.specs.Definitions.{NameSet, is_function, typedef_seen, object_seen, function_seen, see}
+use Rattle.c_definitions.specs.Definitions.{NameSet, is_function, typedef_seen, object_seen, function_seen, add_external}
 use Rattle.c_definitions.specs.Definitions as defined
 use Rattle.c_declared_types.specs.declared.declared.DeclaredType.{DeclaredType}
 use Rattle.c_declared_types.specs.declared.declared.DeclaredType.TheVariants as d
@@ -33,22 +33,22 @@ use Rattle.c_checks.specs.declared.meanings.Tag.{Tag}
 use Rattle.c_checks.specs.declared.meanings.Tag.TheVariants as g
 use Rattle.c_checks.specs.declared.meanings.UntaggedStruct.{UntaggedStruct}
 use Rattle.c_checks.specs.declared.notes.Notes.{Notes}
-use Rattle.c_checks.specs.Checks.{each, both}
-use Rattle.c_checks.specs.Scopes.{with_name, meaning_of}
-use Rattle.c_judgements.specs.Leaves.{named_type, tag_named, enum_tagged, enum_type, struct_numbered, struct_tagged, struct_at, struct_type, leaf, no_type}
-use Rattle.c_judgements.specs.Types.{JudgementState, there, pointer, array, type_named}
+use Rattle.c_checks.specs.Checks.{each, both_parts}
+use Rattle.c_checks.specs.Scopes.{with_meaning, meaning_of}
+use Rattle.c_judgements.specs.Leaves.{typedef_type, tag_named, enum_tagged, enum_type, struct_numbered, struct_tagged, struct_at, struct_type, leaf, no_type}
+use Rattle.c_judgements.specs.Types.{JudgementState, required_type, pointer, array, type_named}
 use Rattle.c_expressions.specs.Expressions.{derive, length_held}
 use Rattle.c_tag_bodies.specs.Bodies.{TagScope, bodies, declared_type}
 use Rattle.c_tag_bodies.specs.Enums.{constant_meaning}
 use Rattle.c_initialisers.specs.Initialisers.{length_given}
 use Rattle.c_unit_names.specs.declared.names.NameDeclaration.{NameDeclaration}
 use Rattle.c_unit_names.specs.declared.names.UnitNames.{UnitNames}
-use Rattle.c_unit_names.specs.UnitNames.{object_name, function_name, value_name, first_meaning, meaning_before, first_by, follows, known_by, faulty_by, declaration}
+use Rattle.c_unit_names.specs.UnitNames.{object_name, function_name, value_name, first_meaning, meaning_before, first_by, follows, known_by, faulty_by, judge_declaration}
 use Rattle.c_declarations.specs.declared.walk.UnitSoFar.{UnitSoFar}
-use Rattle.c_declarations.specs.Walk.{UnitWalk, in_notes, with_notes, main_checked, declare, with_object}
-use Rattle.c_declarations.specs.Objects.{no_object, object_type, array_type, object_declared, init_judged, init_filled, object_of}
-use Rattle.c_declarations.specs.Functions.{function_type, function_declared, function_of, function_with_type, optional_refused}
-use Rattle.c_found_unit_laws.specs.Externals.{typedef_of, typedef_declared, prototype, object_with, with_main_in, with_definition, type_of_function, definition, function_with, end_judged, function_typed, type_of, external}
+use Rattle.c_declarations.specs.Walk.{UnitWalk, in_notes, with_notes, main_checked, declare, with_unit_object}
+use Rattle.c_declarations.specs.Objects.{no_object_type, object_type, array_type, object_declared, init_judged, init_filled, object_by_type}
+use Rattle.c_declarations.specs.Functions.{function_type, function_declared, function_by_type, function_with_type, optional_refused}
+use Rattle.c_found_unit_laws.specs.Externals.{typedef_of, typedef_declared, prototype, object_with, with_main_in, with_definition, type_of_function, definition, external_function, end_judged, function_typed, declarator_type, walk_external}
 use Rattle.c_type_faults.specs.declared.faults.Kind.TheVariants.{BadType}
 use Rattle.c_type_laws.proofs.Truth.{no_true}
 use Rattle.c_found_unit_laws.specs.Steps.{is_function_type}
@@ -78,16 +78,16 @@ is_function_found (Some ty) = is_function_type ty
 abbrev pub AreKnown : NameSet → Env → Type 0
 AreKnown ns env = (q : List ℕ) → IsTrue (is_function_name (meaning_of env q)) → IsTrue (is_some (find q ns))
 
-pub more_known : (ns : NameSet) (name : List ℕ) (v : NameMeaning) (env : Env) → (IsTrue (is_function_name (Some v)) → IsTrue (is_some (find name ns))) → AreKnown ns env → AreKnown ns (with_name name v env)
+pub more_known : (ns : NameSet) (name : List ℕ) (v : NameMeaning) (env : Env) → (IsTrue (is_function_name (Some v)) → IsTrue (is_some (find name ns))) → AreKnown ns env → AreKnown ns (with_meaning name v env)
 more_known ns name v env own h q g = choose (bytes_eq q name) refl
   where
     choose : (b : Bool) → bytes_eq q name ≡ b → IsTrue (is_some (find q ns))
     choose true e =
         let same = (bytes_eq-Decides q name).0 e in
-        subst (λ n. IsTrue (is_some (find n ns))) (sym same) (own (sym (ap is_function_name (ap (meaning_of (with_name name v env)) same ∙ own_meaning name v env)) ∙ g))
+        subst (λ n. IsTrue (is_some (find n ns))) (sym same) (own (sym (ap is_function_name (ap (meaning_of (with_meaning name v env)) same ∙ own_meaning name v env)) ∙ g))
     choose false e = h q (sym (ap is_function_name (other_meaning q name v env e)) ∙ g)
 
-constant_known : (ns : NameSet) (name : List ℕ) (value : Option ℕ) (env : Env) → AreKnown ns env → AreKnown ns (with_name name (constant_meaning value) env)
+constant_known : (ns : NameSet) (name : List ℕ) (value : Option ℕ) (env : Env) → AreKnown ns env → AreKnown ns (with_meaning name (constant_meaning value) env)
 constant_known ns name None env h = more_known ns name m.Faulty env (λ k. no_true k) h
 constant_known ns name (Some word) env h = more_known ns name (m.Constant word) env (λ k. no_true k) h
 
@@ -100,7 +100,7 @@ same_known ns e h = subst (AreKnown ns) (sym e) h
 
 -- ---- the type of a declaration
 
-named_found : (at : ℕ) (o : Option NameMeaning) (n : Notes) → IsTrue (is_function_found (named_type at o n).0) → IsTrue (is_function_name o)
+named_found : (at : ℕ) (o : Option NameMeaning) (n : Notes) → IsTrue (is_function_found (typedef_type at o n).0) → IsTrue (is_function_name o)
 named_found at None n h = no_true h
 named_found at (Some m.Faulty) n h = no_true h
 named_found at (Some (m.Undefined number)) n h = no_true h
@@ -136,7 +136,7 @@ struct_found : {X : Type 0} (at : ℕ) (tag : Option (List ℕ)) (n : Notes) →
 struct_found at None n h = no_untagged at n.untagged n h
 struct_found at (Some name) n h = no_struct at name (tag_named (find name n.tags)) n h
 
-there_found : {X : Type 0} (at : ℕ) (o : Option DeclaredType) (n : Notes) → (IsTrue (is_function_found o) → X) → IsTrue (is_function_found (there at o n).0) → X
+there_found : {X : Type 0} (at : ℕ) (o : Option DeclaredType) (n : Notes) → (IsTrue (is_function_found o) → X) → IsTrue (is_function_found (required_type at o n).0) → X
 there_found at None n f h = no_true h
 there_found at (Some ty) n f h = f h
 
@@ -163,7 +163,7 @@ no_array {X} structs (d.Value ty) (Some n) h = choose (is_object structs (type_v
 no_array structs (d.Unsized element) count h = no_true h
 no_array structs (d.Function of tys) count h = no_true h
 
-array_found : {X : Type 0} (at : ℕ) (count : Option (Option ℕ)) (o : Option DeclaredType) (n : Notes) → IsTrue (is_function_found (both count o (array at) n).0) → X
+array_found : {X : Type 0} (at : ℕ) (count : Option (Option ℕ)) (o : Option DeclaredType) (n : Notes) → IsTrue (is_function_found (both_parts count o (array at) n).0) → X
 array_found at None o n h = no_true h
 array_found at (Some count) None n h = no_true h
 array_found at (Some count) (Some ty) n h = there_found at (array_of n.structs ty count) n (no_array n.structs ty count) h
@@ -244,7 +244,7 @@ module _ (ns : NameSet) (ds : Definitions) (at : ℕ) (name : List ℕ) where
   known_by_known (Some None) new u s own h = h
   known_by_known (Some (Some has_value)) new u s own h = h
 
-  declaration_known : (o : Option NameDeclaration) (u : UnitNames) (s : JudgementState) → IfSome o IsKnown → AreKnown ns s.0 → AreKnown ns (declaration ds at name o u s).1.0
+  declaration_known : (o : Option NameDeclaration) (u : UnitNames) (s : JudgementState) → IfSome o IsKnown → AreKnown ns s.0 → AreKnown ns (judge_declaration ds at name o u s).1.0
   declaration_known None u s own h = faulty_known (meaning_of s.0 name) s.0 h
   declaration_known (Some new) u s own h = known_by_known (follows (find name u.declared) new) new u s own h
 
@@ -268,14 +268,14 @@ module _ (ns : NameSet) (ds : Definitions) (at : ℕ) (name : List ℕ) where
   not_known : {X : Type 0} → IsTrue false → X
   not_known h = no_true h
 
-  of_known : (storage : Option Storage) (init : Option i.Init) (o : Option CType) (w : UnitWalk) → AreKnown ns w.1.0 → AreKnown ns (object_of ds at name storage init o w).1.0
+  of_known : (storage : Option Storage) (init : Option i.Init) (o : Option CType) (w : UnitWalk) → AreKnown ns w.1.0 → AreKnown ns (object_by_type ds at name storage init o w).1.0
   of_known storage init None w h = same_known ns (judged_leaves init (declare ds at name None w).1) (declaration_known ns ds at name None w.0.names w.1 tt h)
   of_known storage init (Some ty) w h =
       let v = declare ds at name (Some (object_declared ty (is_some init))) (with_notes (main_checked storage at name w.1.1) w) in
-      same_known ns (filled_leaves name ty init (with_object name ty v))
+      same_known ns (filled_leaves name ty init (with_unit_object name ty v))
       (declaration_known ns ds at name (Some (object_declared ty (is_some init))) w.0.names (w.1.0, main_checked storage at name w.1.1) not_known h)
 
-  function_known : (storage : Option Storage) (has_body : Bool) (o : Option DeclaredType) (w : UnitWalk) → AreKnown ns w.1.0 → AreKnown ns (function_of ds at name storage has_body o w).1.0
+  function_known : (storage : Option Storage) (has_body : Bool) (o : Option DeclaredType) (w : UnitWalk) → AreKnown ns w.1.0 → AreKnown ns (function_by_type ds at name storage has_body o w).1.0
   function_known storage has_body None w h = declaration_known ns ds at name None w.0.names w.1 tt h
   function_known storage has_body (Some ty) w h =
       declaration_known ns ds at name (Some (function_declared has_body ty)) w.0.names (w.1.0, main_checked storage at name w.1.1) not_known h
@@ -286,7 +286,7 @@ module _ (ns : NameSet) (ds : Definitions) (at : ℕ) (name : List ℕ) where
   object_known : (storage : Option Storage) (init : Option i.Init) (o : Option DeclaredType) (w : UnitWalk) → AreKnown ns w.1.0 → AreKnown ns (object_with ds at name storage init o w).1.0
   object_known storage init None w h = same_known ns (judged_leaves init (declare ds at name None w).1) (declaration_known ns ds at name None w.0.names w.1 tt h)
   object_known storage init (Some (d.Value ty)) w h = let r = in_notes w (object_type at ty w.1.1) in of_known storage init r.0 r.1 h
-  object_known storage None (Some (d.Unsized element)) w h = let r = in_notes w (no_object at w.1.1) in of_known storage None r.0 r.1 h
+  object_known storage None (Some (d.Unsized element)) w h = let r = in_notes w (no_object_type at w.1.1) in of_known storage None r.0 r.1 h
   object_known storage (Some v) (Some (d.Unsized element)) w h = let r = in_notes w (array_type at element (length_given element v) w.1.1) in of_known storage (Some v) r.0 r.1 h
   object_known storage init (Some (d.Function of tys)) w h =
       same_known ns (refused_leaves init (prototype ds at name storage (d.Function of tys) w).1) (prototype_known storage (d.Function of tys) w h)
@@ -319,7 +319,7 @@ module _ (ns : NameSet) (ds : Definitions) (e : Declaration) (storage : Option S
       let v = function_with_type ds e.at e.name storage true r in
       same_known ns (function_env e (type_of_function r.0) list v.1) (function_known ns ds e.at e.name storage true r.0 r.1 h)
 
-  with_known : (end : FunctionEnd) (ty : DeclaredType) (w : UnitWalk) → AreKnown ns w.1.0 → AreKnown ns (function_with ds e storage end ty w).1.0
+  with_known : (end : FunctionEnd) (ty : DeclaredType) (w : UnitWalk) → AreKnown ns w.1.0 → AreKnown ns (external_function ds e storage end ty w).1.0
   with_known f.Nothing ty w h = prototype_known ns ds e.at e.name storage ty w h
   with_known (f.Init init) ty w h = same_known ns (judge_init_leaves init (prototype ds e.at e.name storage ty w).1) (prototype_known ns ds e.at e.name storage ty w h)
   with_known (f.Body list) ty w h = definition_known list ty w h
@@ -330,14 +330,14 @@ module _ (ns : NameSet) (ds : Definitions) (e : Declaration) (storage : Option S
 
 -- ---- the names that definitions know
 
-found_in : (name : List ℕ) (ns : NameSet) → IsTrue (is_some (find name (defined.with_name name ns)))
+found_in : (name : List ℕ) (ns : NameSet) → IsTrue (is_some (find name (defined.add_to_names name ns)))
 found_in name ns = choose (is_some (find name ns)) refl
   where
     choose : (b : Bool) → is_some (find name ns) ≡ b → IsTrue (is_some (find name (if b then ns else record { name = name; value = tt {0} } ∷ ns)))
     choose true e = e
     choose false e = ap (λ (b : Bool). is_some (if b then Some (length ns, tt {0}) else find name ns)) ((bytes_eq-Decides name name).1 refl)
 
-more_in : (q name : List ℕ) (ns : NameSet) → IsTrue (is_some (find q ns)) → IsTrue (is_some (find q (defined.with_name name ns)))
+more_in : (q name : List ℕ) (ns : NameSet) → IsTrue (is_some (find q ns)) → IsTrue (is_some (find q (defined.add_to_names name ns)))
 more_in q name ns h = choose (is_some (find name ns))
   where
     either : (b : Bool) → IsTrue (is_some (if b then Some (length ns, tt {0}) else find q ns))
@@ -362,30 +362,30 @@ function_types_same e (f.Init init) d = refl
 function_types_same e (f.Body list) d = refl
 
 module _ (ds : Definitions) where
-  typedef_seen_known : (e : Declaration) (d : Definitions) (s : UnitSoFar × TagScope) → AreKnown d.function_types s.1.1.0 → AreKnown (typedef_seen e d).function_types (external ds (x.Typedef e) s).1.1.0
+  typedef_seen_known : (e : Declaration) (d : Definitions) (s : UnitSoFar × TagScope) → AreKnown d.function_types s.1.1.0 → AreKnown (typedef_seen e d).function_types (walk_external ds (x.Typedef e) s).1.1.0
   typedef_seen_known e d s h = choose (is_function d.function_types e.ty) refl
     where
       r : Option DeclaredType × TagScope
-      r = type_of e s.1
+      r = declarator_type e s.1
 
       after : UnitWalk
       after = typedef_declared ds e.at e.name r.0 (s.0, r.1.1)
 
       choose : (b : Bool) → is_function d.function_types e.ty ≡ b → AreKnown (if b then defined.with_function_type e.name d else d).function_types after.1.0
       choose true g =
-          let ns = defined.with_name e.name d.function_types in
+          let ns = defined.add_to_names e.name d.function_types in
           typedef_known ns ds e.at e.name r.0 (s.0, r.1.1) (λ k. found_in e.name d.function_types) (λ q k. more_in q e.name d.function_types (type_known d.function_types e.at e.ty s.1 h q k))
       choose false g =
           typedef_known d.function_types ds e.at e.name r.0 (s.0, r.1.1) (λ k. no_true (sym g ∙ type_found d.function_types e.at e.ty s.1 h k)) (type_known d.function_types e.at e.ty s.1 h)
 
-  pub external_known : (e : External) (d : Definitions) (s : UnitSoFar × TagScope) → AreKnown d.function_types s.1.1.0 → AreKnown (see e d).function_types (external ds e s).1.1.0
+  pub external_known : (e : External) (d : Definitions) (s : UnitSoFar × TagScope) → AreKnown d.function_types s.1.1.0 → AreKnown (add_external e d).function_types (walk_external ds e s).1.1.0
   external_known (x.Typedef e) d s h = typedef_seen_known e d s h
   external_known (x.Object e storage init) d s h =
-      let r = type_of e s.1 in
-      subst (λ ns. AreKnown ns (external ds (x.Object e storage init) s).1.1.0) (sym (object_types e storage init d))
+      let r = declarator_type e s.1 in
+      subst (λ ns. AreKnown ns (walk_external ds (x.Object e storage init) s).1.1.0) (sym (object_types e storage init d))
       (object_known d.function_types ds e.at e.name storage init r.0 (s.0, r.1.1) (type_known d.function_types e.at e.ty s.1 h))
   external_known (x.Function e storage end) d s h =
-      let r = type_of e s.1 in
-      subst (λ ns. AreKnown ns (external ds (x.Function e storage end) s).1.1.0) (sym (function_types_same e end d))
+      let r = declarator_type e s.1 in
+      subst (λ ns. AreKnown ns (walk_external ds (x.Function e storage end) s).1.1.0) (sym (function_types_same e end d))
       (typed_known d.function_types ds e storage end r.0 (s.0, r.1.1) (type_known d.function_types e.at e.ty s.1 h))
   external_known (x.Tags storage ty) d s h = type_known d.function_types 0 ty s.1 h

@@ -12,7 +12,7 @@ use Rattle.c_tree.specs.declared.declarations.External.{External}
 use Rattle.c_tree.specs.declared.declarations.External.TheVariants as x
 use Rattle.c_tree.specs.declared.declarations.TranslationUnit.{TranslationUnit}
 use Rattle.c_definitions.specs.declared.names.Definitions.{Definitions}
-use Rattle.c_definitions.specs.Definitions.{NameSet, is_function, is_definition, typedef_seen, object_seen, function_seen, see, defined_behind, definitions, nothing_defined, with_function_type, with_object}
+use Rattle.c_definitions.specs.Definitions.{NameSet, is_function, is_definition, typedef_seen, object_seen, function_seen, add_external, defined_behind, definitions, nothing_defined, with_function_type, with_object}
 use Rattle.c_definitions.specs.Definitions as defined
 use Rattle.c_declared_types.specs.declared.declared.DeclaredType.TheVariants as d
 use Rattle.c_typed_tree.specs.declared.types.CType.{CType}
@@ -26,8 +26,8 @@ use Rattle.c_tag_bodies.specs.Bodies.{TagScope}
 use Rattle.c_unit_names.specs.declared.names.NameDeclaration.{NameDeclaration}
 use Rattle.c_unit_names.specs.declared.names.UnitNames.{UnitNames}
 use Rattle.c_declarations.specs.declared.walk.UnitSoFar.{UnitSoFar}
-use Rattle.c_found_unit_laws.specs.Externals.{type_of, external, externals}
-use Rattle.c_found_unit_laws.specs.Units.{no_names, builtin_declared, builtins, start, whole_unit}
+use Rattle.c_found_unit_laws.specs.Externals.{declarator_type, walk_external, externals}
+use Rattle.c_found_unit_laws.specs.Units.{no_names, builtin_declared, builtins, unit_start, whole_unit}
 use Rattle.c_type_laws.proofs.Truth.{no_true}
 use Rattle.c_found_laws.specs.Laws.{Tells}
 use Rattle.c_found_laws.proofs.Forms.{tells_none, tells_as, tells_both}
@@ -50,7 +50,7 @@ HoldsObject d (x.Tags storage ty) names = Unit {0}
 -- each by what was defined before it
 abbrev AllObjects : Definitions → List External → UnitNames → Type 0
 AllObjects d [] names = Unit {0}
-AllObjects d (e ∷ es) names = HoldsObject d e names × AllObjects (see e d) es names
+AllObjects d (e ∷ es) names = HoldsObject d e names × AllObjects (add_external e d) es names
 
 tells_pair : {X Y : Type 0} (s v : JudgementState) → Tells X s v → Tells Y s v → Tells (X × Y) s v
 tells_pair s v h g = record { before = h.before; stays = h.stays; found = λ t k. (h.found t k, g.found t k) }
@@ -60,13 +60,13 @@ module _ (ds : Definitions) where
   not_found true c h e = no_true (sym e ∙ h refl)
   not_found false c h e = refl
 
-  external_holds : (d : Definitions) (e : External) (t : UnitSoFar × TagScope) → AreKnown d.function_types t.1.1.0 → (let v = external ds e t in Tells (HoldsObject d e v.0.names) t.1.1 v.1.1)
-  external_holds d (x.Typedef e) t h = let v = external ds (x.Typedef e) t in tells_as t.1.1 v.1.1 (λ y. tt) (external_tells ds (x.Typedef e) t)
+  external_holds : (d : Definitions) (e : External) (t : UnitSoFar × TagScope) → AreKnown d.function_types t.1.1.0 → (let v = walk_external ds e t in Tells (HoldsObject d e v.0.names) t.1.1 v.1.1)
+  external_holds d (x.Typedef e) t h = let v = walk_external ds (x.Typedef e) t in tells_as t.1.1 v.1.1 (λ y. tt) (external_tells ds (x.Typedef e) t)
   external_holds d (x.Object e storage init) t h =
-      let v = external ds (x.Object e storage init) t in
-      tells_as t.1.1 v.1.1 (λ y none. y (not_found (is_function_found (type_of e t.1).0) (is_function d.function_types e.ty) (type_found d.function_types e.at e.ty t.1 h) none)) (external_declares ds e storage init t)
-  external_holds d (x.Function e storage end) t h = let v = external ds (x.Function e storage end) t in tells_as t.1.1 v.1.1 (λ y. tt) (external_tells ds (x.Function e storage end) t)
-  external_holds d (x.Tags storage ty) t h = let v = external ds (x.Tags storage ty) t in tells_as t.1.1 v.1.1 (λ y. tt) (external_tells ds (x.Tags storage ty) t)
+      let v = walk_external ds (x.Object e storage init) t in
+      tells_as t.1.1 v.1.1 (λ y none. y (not_found (is_function_found (declarator_type e t.1).0) (is_function d.function_types e.ty) (type_found d.function_types e.at e.ty t.1 h) none)) (external_declares ds e storage init t)
+  external_holds d (x.Function e storage end) t h = let v = walk_external ds (x.Function e storage end) t in tells_as t.1.1 v.1.1 (λ y. tt) (external_tells ds (x.Function e storage end) t)
+  external_holds d (x.Tags storage ty) t h = let v = walk_external ds (x.Tags storage ty) t in tells_as t.1.1 v.1.1 (λ y. tt) (external_tells ds (x.Tags storage ty) t)
 
   holds_later : (d : Definitions) (e : External) {u v : UnitSoFar} {env later : Env} → UnitSteps ds u env v later → HoldsObject d e u.names → HoldsObject d e v.names
   holds_later d (x.Typedef e) steps h = tt
@@ -77,19 +77,19 @@ module _ (ds : Definitions) where
   externals_hold : (d : Definitions) (es : List External) (t : UnitSoFar × TagScope) → AreKnown d.function_types t.1.1.0 → (let v = externals ds es t in Tells (t.1.1.0.outside ≡ 0 → AllObjects d es v.0.names) t.1.1 v.1.1)
   externals_hold d [] t h = tells_none t.1.1 (λ file. tt)
   externals_hold d (e ∷ es) t h =
-      let u = external ds e t in
+      let u = walk_external ds e t in
       let v = externals ds es u in
       tells_both t.1.1 u.1.1 v.1.1
       (λ y z file. let inside = steps_outside ds (y.1 file).0 ∙ file in (holds_later d e (z.0 inside).0 y.0, z.1 inside))
       (tells_pair t.1.1 u.1.1 (external_holds d e t h) (external_tells ds e t))
-      (tells_pair u.1.1 v.1.1 (externals_tell ds es u) (externals_hold (see e d) es u (external_known ds e d t h)))
+      (tells_pair u.1.1 v.1.1 (externals_tell ds es u) (externals_hold (add_external e d) es u (external_known ds e d t h)))
 
 -- ---- what is defined
 
 abbrev HasObjects : NameSet → UnitNames → Type 0
 HasObjects ns names = (q : List ℕ) → IsTrue (is_some (find q ns)) → IsTrue (declares_object q names)
 
-defined_here : (q name : List ℕ) (ns : NameSet) (names : UnitNames) → IsTrue (declares_object name names) → (IsTrue (is_some (find q ns)) → IsTrue (declares_object q names)) → IsTrue (is_some (find q (defined.with_name name ns))) → IsTrue (declares_object q names)
+defined_here : (q name : List ℕ) (ns : NameSet) (names : UnitNames) → IsTrue (declares_object name names) → (IsTrue (is_some (find q ns)) → IsTrue (declares_object q names)) → IsTrue (is_some (find q (defined.add_to_names name ns))) → IsTrue (declares_object q names)
 defined_here q name ns names h g = either (is_some (find name ns))
   where
     own : (b : Bool) → bytes_eq q name ≡ b → IsTrue (is_some (if b then Some (length ns, tt {0}) else find q ns)) → IsTrue (declares_object q names)
@@ -120,7 +120,7 @@ object_seen_holds e storage init d names h g = either (is_function d.function_ty
     either false none true = λ q. defined_here q e.name d.objects names (h none) (g q)
     either false none false = g
 
-seen_holds : (e : External) (d : Definitions) (names : UnitNames) → HoldsObject d e names → HasObjects d.objects names → HasObjects (see e d).objects names
+seen_holds : (e : External) (d : Definitions) (names : UnitNames) → HoldsObject d e names → HasObjects d.objects names → HasObjects (add_external e d).objects names
 seen_holds (x.Typedef e) d names h g = subst (λ ns. HasObjects ns names) (sym (typedef_same e d)) g
 seen_holds (x.Object e storage init) d names h g = object_seen_holds e storage init d names h g
 seen_holds (x.Function e storage end) d names h g = subst (λ ns. HasObjects ns names) (sym (function_same e end d)) g
@@ -128,10 +128,10 @@ seen_holds (x.Tags storage ty) d names h g = g
 
 all_objects : (es : List External) (d : Definitions) (names : UnitNames) → AllObjects d es names → HasObjects d.objects names → HasObjects (defined_behind es d).objects names
 all_objects [] d names h g = g
-all_objects (e ∷ es) d names h g = all_objects es (see e d) names h.1 (seen_holds e d names h.0 g)
+all_objects (e ∷ es) d names h g = all_objects es (add_external e d) names h.1 (seen_holds e d names h.0 g)
 
 -- each name once
-name_distinct : (name : List ℕ) (ns : NameSet) → AreDistinct ns → AreDistinct (defined.with_name name ns)
+name_distinct : (name : List ℕ) (ns : NameSet) → AreDistinct ns → AreDistinct (defined.add_to_names name ns)
 name_distinct name ns h = choose (is_some (find name ns)) refl
   where
     choose : (b : Bool) → is_some (find name ns) ≡ b → AreDistinct (if b then ns else record { name = name; value = tt {0} } ∷ ns)
@@ -146,7 +146,7 @@ object_distinct e storage init d h = either (is_function d.function_types e.ty) 
     either false true = name_distinct e.name d.objects h
     either false false = h
 
-seen_distinct : (e : External) (d : Definitions) → AreDistinct d.objects → AreDistinct (see e d).objects
+seen_distinct : (e : External) (d : Definitions) → AreDistinct d.objects → AreDistinct (add_external e d).objects
 seen_distinct (x.Typedef e) d h = subst AreDistinct (sym (typedef_same e d)) h
 seen_distinct (x.Object e storage init) d h = object_distinct e storage init d h
 seen_distinct (x.Function e storage end) d h = subst AreDistinct (sym (function_same e end d)) h
@@ -154,7 +154,7 @@ seen_distinct (x.Tags storage ty) d h = h
 
 all_distinct : (es : List External) (d : Definitions) → AreDistinct d.objects → AreDistinct (defined_behind es d).objects
 all_distinct [] d h = h
-all_distinct (e ∷ es) d h = all_distinct es (see e d) (seen_distinct e d h)
+all_distinct (e ∷ es) d h = all_distinct es (add_external e d) (seen_distinct e d h)
 
 -- ---- before the first declaration
 
@@ -192,12 +192,12 @@ all_builtins =
 -- ---- at the end
 
 abbrev Ended : TranslationUnit → UnitSoFar × TagScope
-Ended unit = externals (definitions unit.externals) unit.externals (start (definitions unit.externals))
+Ended unit = externals (definitions unit.externals) unit.externals (unit_start (definitions unit.externals))
 
 all_hold : (unit : TranslationUnit) → (whole_unit unit).1.1.1.faults ≡ [] → AllObjects nothing_defined unit.externals (Ended unit).0.names
 all_hold unit e =
     let ds = definitions unit.externals in
-    (externals_hold ds nothing_defined unit.externals (start ds) (λ q h. no_true (sym (all_builtins.typedefs q) ∙ h))).found (clean_unit unit e) (refl, refl) refl
+    (externals_hold ds nothing_defined unit.externals (unit_start ds) (λ q h. no_true (sym (all_builtins.typedefs q) ∙ h))).found (clean_unit unit e) (refl, refl) refl
 
 pub objects_counted : (unit : TranslationUnit) → (whole_unit unit).1.1.1.faults ≡ [] → (whole_unit unit).0.names.objects ≡ length (definitions unit.externals).objects
 objects_counted unit e =

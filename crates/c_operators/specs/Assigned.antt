@@ -9,21 +9,21 @@ use Rattle.c_type_rules.specs.Conversions.{decay}
 use Rattle.c_place_rules.specs.Assignments.{set, compound}
 use Rattle.c_operators.specs.Null.{is_null_for}
 
-abbrev pub set_to : ℕ → (left right : TypedExpression) → Ruling TypedExpression
-set_to at x y = set at x y (is_null_for x.ty y)
+abbrev pub set_with_null : ℕ → (left right : TypedExpression) → Ruling TypedExpression
+set_with_null at x y = set at x y (is_null_for x.ty y)
 
-abbrev pub with_value : List StructDef → ℕ → AssignOp → (left right : TypedExpression) → Ruling TypedExpression
-with_value ds at o.Set x y = set_to at x y
-with_value ds at o.Multiply x y = compound ds at o.Multiply x y
-with_value ds at o.Divide x y = compound ds at o.Divide x y
-with_value ds at o.Remainder x y = compound ds at o.Remainder x y
-with_value ds at o.Add x y = compound ds at o.Add x y
-with_value ds at o.Subtract x y = compound ds at o.Subtract x y
-with_value ds at o.ShiftLeft x y = compound ds at o.ShiftLeft x y
-with_value ds at o.ShiftRight x y = compound ds at o.ShiftRight x y
-with_value ds at o.And x y = compound ds at o.And x y
-with_value ds at o.Xor x y = compound ds at o.Xor x y
-with_value ds at o.Or x y = compound ds at o.Or x y
+abbrev pub assign_rvalue : List StructDef → ℕ → AssignOp → (left right : TypedExpression) → Ruling TypedExpression
+assign_rvalue ds at o.Set x y = set_with_null at x y
+assign_rvalue ds at o.Multiply x y = compound ds at o.Multiply x y
+assign_rvalue ds at o.Divide x y = compound ds at o.Divide x y
+assign_rvalue ds at o.Remainder x y = compound ds at o.Remainder x y
+assign_rvalue ds at o.Add x y = compound ds at o.Add x y
+assign_rvalue ds at o.Subtract x y = compound ds at o.Subtract x y
+assign_rvalue ds at o.ShiftLeft x y = compound ds at o.ShiftLeft x y
+assign_rvalue ds at o.ShiftRight x y = compound ds at o.ShiftRight x y
+assign_rvalue ds at o.And x y = compound ds at o.And x y
+assign_rvalue ds at o.Xor x y = compound ds at o.Xor x y
+assign_rvalue ds at o.Or x y = compound ds at o.Or x y
 
 abbrev pub assign : List StructDef → ℕ → AssignOp → (left right : TypedExpression) → Ruling TypedExpression
-assign ds at op x y = with_value ds at op x (decay y)
+assign ds at op x y = assign_rvalue ds at op x (decay y)

@@ -7,19 +7,19 @@ use Rattle.c_typed_tree.specs.declared.types.StructDef.{StructDef}
 use Rattle.c_type_faults.specs.declared.faults.Kind.TheVariants.{BadOperand, BadConversion}
 use Rattle.c_type_rules.specs.declared.typed.TypedExpression.{TypedExpression}
 use Rattle.c_type_rules.specs.Rulings.{Ruling, fault}
-use Rattle.c_type_rules.specs.Conversions.{decay, cast}
+use Rattle.c_type_rules.specs.Conversions.{decay, cast_ruling}
 use Rattle.c_place_rules.specs.Members.{size}
 use Rattle.c_operators.specs.Null.{is_null_for}
 
 abbrev pub cast_of : ℕ → CType → TypedExpression → Ruling TypedExpression
-cast_of at to a = cast at to a (is_null_for to a)
+cast_of at to a = cast_ruling at to a (is_null_for to a)
 
-abbrev pub cast_value : ℕ → CType → TypedExpression → Ruling TypedExpression
-cast_value at to a = cast_of at to (decay a)
+abbrev pub cast_to_value : ℕ → CType → TypedExpression → Ruling TypedExpression
+cast_to_value at to a = cast_of at to (decay a)
 
 -- there are no casts to arrays and functions
 abbrev pub cast_to : ℕ → DeclaredType → TypedExpression → Ruling TypedExpression
-cast_to at (d.Value ty) a = cast_value at ty a
+cast_to at (d.Value ty) a = cast_to_value at ty a
 cast_to at (d.Unsized element) a = fault at BadConversion
 cast_to at (d.Function result parameters) a = fault at BadConversion
 

@@ -10,13 +10,13 @@ use Rattle.c_type_rules.specs.declared.typed.TypedExpression.{TypedExpression}
 use Rattle.c_type_rules.specs.Rulings.{Ruling}
 use Rattle.c_type_rules.specs.Conversions.{decay, value_for_type}
 
-abbrev pub is_null : TypedExpression → Bool
-is_null a =
+abbrev pub is_null_value : TypedExpression → Bool
+is_null_value a =
     if is_integer (type_view a.ty) then is_null_constant (expr_view a.tree) else is_null_void (expr_view a.tree)
 
 -- it is asked where a type is a pointer's
 abbrev pub is_null_for : CType → TypedExpression → Bool
-is_null_for to a = if is_pointer (type_view to) then is_null a else false
+is_null_for to a = if is_pointer (type_view to) then is_null_value a else false
 
 -- a value where one of a type is wanted: an argument, an initialiser, the operand of `return` (6.5.16.1)
 abbrev pub value_or_null : CType → TypedExpression → Ruling TExpr

@@ -17,7 +17,7 @@ fn set_to(
     a: TypedExpression,
     b: TypedExpression,
 ) -> Result<TypedExpression, Refusal>
-    ensures { RuleGives (spec.set_to at a b) result }
+    ensures { RuleGives (spec.set_with_null at a b) result }
 {
     let null = is_null_for(&a.ty, &b);
     set(alloc, at, a, b, null)
@@ -32,7 +32,7 @@ fn with_value(
     a: TypedExpression,
     b: TypedExpression,
 ) -> Result<TypedExpression, Refusal>
-    ensures { RuleGives (spec.with_value structs.now at op a b) result }
+    ensures { RuleGives (spec.assign_rvalue structs.now at op a b) result }
 {
     match op {
         AssignOp::Set => set_to(alloc, at, a, b),

@@ -36,7 +36,7 @@ fn between(
     a: TypedExpression,
     b: TypedExpression,
 ) -> Result<TypedExpression, Refusal>
-    ensures { RuleGives (spec.between structs.now at op a b) result }
+    ensures { RuleGives (spec.binary_operation structs.now at op a b) result }
 {
     match op {
         BinaryOp::LogicalOr => logical(alloc, at, BinaryOp::LogicalOr, a, b),
@@ -69,7 +69,7 @@ pub fn binary(
     a: TypedExpression,
     b: TypedExpression,
 ) -> Result<TypedExpression, Refusal>
-    ensures { RuleGives (spec.binary structs.now at op a b) result }
+    ensures { RuleGives (spec.binary_ruling structs.now at op a b) result }
 {
     let left = decay(alloc, a)?;
     let right = decay(alloc, b)?;
@@ -124,7 +124,7 @@ pub fn conditional(
     a: TypedExpression,
     b: TypedExpression,
 ) -> Result<TypedExpression, Refusal>
-    ensures { RuleGives (spec.conditional at c a b) result }
+    ensures { RuleGives (spec.conditional_ruling at c a b) result }
 {
     match condition_tree(alloc, c) {
         Ok(condition) => between_arms(alloc, at, condition, a, b),

@@ -18,7 +18,7 @@ fn cast_value(
     to: CType,
     a: TypedExpression,
 ) -> Result<TypedExpression, Refusal>
-    ensures { RuleGives (spec.cast_value at to a) result }
+    ensures { RuleGives (spec.cast_to_value at to a) result }
 {
     let value = decay(alloc, a)?;
     let null = is_null_for(&to, &value);

@@ -13,7 +13,7 @@ use c_typed_tree::{CType, TExpr};
 use std::alloc::Global;
 
 fn is_null(a: &TypedExpression) -> bool
-    ensures { result ≡ spec.is_null a.now }
+    ensures { result ≡ spec.is_null_value a.now }
 {
     if is_integer(&a.ty) {
         return is_null_constant(&a.tree);

@@ -18,7 +18,7 @@ fn led_to(
     at: u32,
     a: TypedExpression,
 ) -> Result<TypedExpression, Refusal>
-    ensures { RuleGives (spec.led_to structs.now at a) result }
+    ensures { RuleGives (spec.indirection structs.now at a) result }
 {
     let value = decay(alloc, a)?;
     dereference(alloc, structs, at, value)
@@ -51,7 +51,7 @@ pub fn unary(
     op: UnaryOp,
     a: TypedExpression,
 ) -> Result<TypedExpression, Refusal>
-    ensures { RuleGives (spec.unary structs.now at op a) result }
+    ensures { RuleGives (spec.unary_ruling structs.now at op a) result }
 {
     match op {
         UnaryOp::Increment => step_before(alloc, structs, at, UnaryOp::Increment, a),

@@ -8,9 +8,9 @@ use Rattle.c_tree.specs.declared.declarations.Storage.{Storage}
 use Rattle.c_tree.specs.declared.declarations.External.{External}
 use Rattle.c_tree.specs.declared.declarations.External.TheVariants as x
 use Rattle.c_grammar.specs.declared.shapes.Naming.TheVariants as nm
-use Rattle.c_grammar.specs.Types.{bare}
+use Rattle.c_grammar.specs.Types.{without_body}
 use Rattle.c_grammar.specs.Units.{with_type}
-use Rattle.c_grammar.specs.Tokens.{TypeNames, is_mark, kind_at, behind}
+use Rattle.c_grammar.specs.Tokens.{TypeNames, is_mark, kind_at, token_tail}
 use Rattle.c_grammar.specs.Parser.{ParseOutcome, Parser, and_then, pure}
 use Rattle.c_grammar.specs.ParseExpr.{declarator}
 use Rattle.c_grammar.specs.ParseSpecifiers.{declaration}
@@ -25,12 +25,12 @@ then_then (Err r) f g = refl
 
 pub typedefs_turn : (s : TypeNames) (depth n at : ℕ) (ty : TypeNode) (found : List External) (ts : List Lexeme) → at < n
     → typedefs_from s depth (n - at) ty found ts ≡ and_then (typedef_declarator s depth ty ts) (λ q r.
-    if is_mark p.Comma (kind_at r) then typedefs_from q.1 depth (n - (at + 1)) (bare ty) (found ++ q.0 ∷ []) (behind r)
+    if is_mark p.Comma (kind_at r) then typedefs_from q.1 depth (n - (at + 1)) (without_body ty) (found ++ q.0 ∷ []) (token_tail r)
     else Ok ((found ++ q.0 ∷ [], q.1), r))
 unfolding typedefs_from typedef_declarator
 typedefs_turn s depth n at ty found ts below = turn (λ m. typedefs_from s depth m ty found ts) n at below
     ∙ then_then (declaration s depth nm.Required ty ts) (λ d. pure (x.Typedef d, with_type s d.name)) (λ q r.
-    if is_mark p.Comma (kind_at r) then typedefs_from q.1 depth (n - (at + 1)) (bare ty) (found ++ q.0 ∷ []) (behind r)
+    if is_mark p.Comma (kind_at r) then typedefs_from q.1 depth (n - (at + 1)) (without_body ty) (found ++ q.0 ∷ []) (token_tail r)
     else Ok ((found ++ q.0 ∷ [], q.1), r))
 
 pub typedefs_end : (s : TypeNames) (depth n at : ℕ) (ty : TypeNode) (found : List External) (ts : List Lexeme) → n ≤ at → typedefs_from s depth (n - at) ty found ts ≡ Err ts
@@ -39,11 +39,11 @@ typedefs_end s depth n at ty found ts = end (λ m. typedefs_from s depth m ty fo
 
 pub objects_turn : (s : TypeNames) (depth : ℕ) (storage : Option Storage) (n at : ℕ) (ty : TypeNode) (found : List External) (ts : List Lexeme) → at < n
     → objects_from s depth storage (n - at) ty found ts ≡ and_then (object_declarator s depth storage ty ts) (λ v r.
-    if is_mark p.Comma (kind_at r) then objects_from s depth storage (n - (at + 1)) (bare ty) (found ++ v ∷ []) (behind r) else Ok (found ++ v ∷ [], r))
+    if is_mark p.Comma (kind_at r) then objects_from s depth storage (n - (at + 1)) (without_body ty) (found ++ v ∷ []) (token_tail r) else Ok (found ++ v ∷ [], r))
 unfolding objects_from object_declarator
 objects_turn s depth storage n at ty found ts below = turn (λ m. objects_from s depth storage m ty found ts) n at below
     ∙ then_then (declarator s depth nm.Required ts) (λ d. object_named s depth storage ty d.name d.shapes) (λ v r.
-    if is_mark p.Comma (kind_at r) then objects_from s depth storage (n - (at + 1)) (bare ty) (found ++ v ∷ []) (behind r) else Ok (found ++ v ∷ [], r))
+    if is_mark p.Comma (kind_at r) then objects_from s depth storage (n - (at + 1)) (without_body ty) (found ++ v ∷ []) (token_tail r) else Ok (found ++ v ∷ [], r))
 
 pub objects_end : (s : TypeNames) (depth : ℕ) (storage : Option Storage) (n at : ℕ) (ty : TypeNode) (found : List External) (ts : List Lexeme) → n ≤ at
     → objects_from s depth storage (n - at) ty found ts ≡ Err ts

@@ -288,7 +288,7 @@ fn objects_behind(
     typed: TypedDeclarator,
     bare: Box<SpecifierType>,
 ) -> Result<Seq<External>, ParseStop>
-    requires { types.bare typed.ty ≡ bare }
+    requires { types.without_body typed.ty ≡ bare }
     ensures { Answers (model.objects_behind scope.now depth storage typed.ty typed.named typed.shapes
         tokens.old) result tokens.new }
 {
@@ -334,7 +334,7 @@ fn objects_or_body(
     typed: TypedDeclarator,
     bare: Box<SpecifierType>,
 ) -> Result<Seq<External>, ParseStop>
-    requires { types.bare typed.ty ≡ bare }
+    requires { types.without_body typed.ty ≡ bare }
     ensures { Answers (model.objects_named scope.now depth storage typed.ty typed.named typed.shapes
         tokens.old) result tokens.new }
 {

@@ -76,7 +76,7 @@ impl SpecifierType {
     /// The type of a tag that has no braces.
     pub fn tag_type(word: Specifier, at: u32, name: Name) -> SpecifierType
         ensures answers { result ≡ model.tag_type word at name }
-        ensures bare { types.bare result ≡ result }
+        ensures bare { types.without_body result ≡ result }
     {
         match word {
             Specifier::Struct => SpecifierType::structure(at, Some(name), None),
@@ -86,7 +86,7 @@ impl SpecifierType {
 
     /// The type of the further declarators of a declaration, which has no braces.
     pub fn bare(&self) -> Result<SpecifierType, AllocError>
-        ensures { IfOk result (λ b. b ≡ types.bare self.now) }
+        ensures { IfOk result (λ b. b ≡ types.without_body self.now) }
     {
         match &self.ty {
             TypeNode::Basic(basic) => Ok(SpecifierType::basic(*basic)),

@@ -11,13 +11,13 @@ use Rattle.c_type_faults.specs.declared.faults.Kind.TheVariants.{BadOperand, Not
 use Rattle.c_type_rules.specs.declared.typed.TypedExpression.{TypedExpression}
 use Rattle.c_type_rules.specs.Rulings.{Ruling, fault}
 use Rattle.c_typed_tree.specs.Typing.{points_to_object}
-use Rattle.c_type_rules.specs.Values.{integer, value, convert_tree}
+use Rattle.c_type_rules.specs.Values.{integer, rvalue, convert_tree}
 use Rattle.c_type_rules.specs.Arithmetic.{promoted_type, common_type}
 use Rattle.c_type_rules.specs.Conversions.{value_for_type}
 use Rattle.c_place_rules.specs.Places.{is_assignable}
 
 abbrev pub assign_place : ℕ → AssignOp → TypedExpression → (right : x.TExpr) → TypedExpression
-assign_place at op a right = value at a.ty (x.Assign a.ty op a.tree right)
+assign_place at op a right = rvalue at a.ty (x.Assign a.ty op a.tree right)
 
 -- ---- `=`: the right side is converted to the type of the left (6.5.16.1)
 

@@ -16,8 +16,8 @@ use Rattle.c_type_rules.specs.declared.typed.TypedExpression.{TypedExpression}
 use Rattle.c_type_rules.specs.Rulings.{Ruling, fault}
 use Rattle.c_typed_tree.specs.Typing.{is_struct}
 use Rattle.c_type_rules.specs.Types.{points_to_struct}
-use Rattle.c_type_rules.specs.Values.{integer_type, value}
-use Rattle.c_place_rules.specs.Places.{is_somewhere, led_to}
+use Rattle.c_type_rules.specs.Values.{type_of_integer, rvalue}
+use Rattle.c_place_rules.specs.Places.{is_somewhere, pointed_place}
 
 -- ---- `.` of a place of struct type: the member of a local is that local's, as one takes its address
 
@@ -42,16 +42,17 @@ field at a found = if is_struct_place a then field_found at a found else fault a
 
 abbrev pub arrow_found : ℕ → TypedExpression → Option FoundMember → Ruling TypedExpression
 arrow_found at a None = fault at NoMember
-arrow_found at a (Some m) = Ok (led_to at m.ty (x.Arrow m.ty a.tree m.number))
+arrow_found at a (Some m) = Ok (pointed_place at m.ty (x.Arrow m.ty a.tree m.number))
 
 abbrev pub arrow : List StructDef → ℕ → TypedExpression → Option FoundMember → Ruling TypedExpression
 arrow ds at a found = if points_to_struct ds (type_view a.ty) then arrow_found at a found else fault at BadOperand
 
 -- ---- `sizeof` of a type that objects have, which is an `unsigned long`
 
-abbrev pub number : ℕ → IntegerType → ℕ → TypedExpression
-number at t word = value at (integer_type t) (x.Number (integer_type t) word)
+abbrev pub number_rvalue : ℕ → IntegerType → ℕ → TypedExpression
+number_rvalue at t word = rvalue at (type_of_integer t) (x.Number (type_of_integer t) word)
 
 abbrev pub size : List StructDef → ℕ → CType → Ruling TypedExpression
 size ds at ty =
-    if is_object ds (type_view ty) then Ok (number at UnsignedLong (size_of ds (type_view ty))) else fault at BadOperand
+    if is_object ds (type_view ty) then Ok (number_rvalue at UnsignedLong (size_of ds (type_view ty)))
+    else fault at BadOperand

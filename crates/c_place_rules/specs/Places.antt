@@ -14,7 +14,7 @@ use Rattle.c_type_rules.specs.declared.typed.TypedExpression.{TypedExpression}
 use Rattle.c_type_rules.specs.Rulings.{Ruling, fault}
 use Rattle.c_typed_tree.specs.Constants.{is_integer}
 use Rattle.c_typed_tree.specs.Typing.{is_scalar, is_struct, points_to_object}
-use Rattle.c_type_rules.specs.Values.{value, unary}
+use Rattle.c_type_rules.specs.Values.{rvalue, unary_rvalue}
 
 -- ---- what a pointer to an object leads to
 
@@ -26,15 +26,15 @@ target (t.Array' _ element length) = None
 target (t.Struct number) = None
 
 -- a place that is found by a pointer
-abbrev pub led_to : ℕ → t.CType → x.TExpr → TypedExpression
-led_to at ty tree = record { at = at; tree = tree; ty = ty; place = p.Elsewhere }
+abbrev pub pointed_place : ℕ → t.CType → x.TExpr → TypedExpression
+pointed_place at ty tree = record { at = at; tree = tree; ty = ty; place = p.Elsewhere }
 
 -- the type of what a pointer to an object leads to
 abbrev pub object_of : List StructDef → t.CType → Option t.CType
 object_of ds ty = if points_to_object ds (type_view ty) then target ty else None
 
 abbrev pub pointee : ℕ → t.CType → x.TExpr → TypedExpression
-pointee at ty operand = led_to at ty (x.Unary ty Dereference operand)
+pointee at ty operand = pointed_place at ty (x.Unary ty Dereference operand)
 
 abbrev pub dereference_of : ℕ → TypedExpression → Option t.CType → Ruling TypedExpression
 dereference_of at a None = fault at BadOperand
@@ -45,7 +45,7 @@ dereference ds at a = dereference_of at a (object_of ds a.ty)
 
 -- `[ ]` takes a pointer and an integer in either order
 abbrev pub element_at : ℕ → t.CType → (left right : x.TExpr) → TypedExpression
-element_at at ty left right = led_to at ty (x.Index ty left right)
+element_at at ty left right = pointed_place at ty (x.Index ty left right)
 
 abbrev pub element_by_index : ℕ → (left right : TypedExpression) → (is_index : Bool) → Option t.CType →
     Ruling TypedExpression
@@ -68,7 +68,8 @@ is_somewhere (p.Global number) = true
 is_somewhere p.Elsewhere = true
 
 abbrev pub address : ℕ → TypedExpression → Ruling TypedExpression
-address at a = if is_somewhere a.place then Ok (unary at (t.Pointer a.ty) Address a.tree) else fault a.at NotAssignable
+address at a =
+    if is_somewhere a.place then Ok (unary_rvalue at (t.Pointer a.ty) Address a.tree) else fault a.at NotAssignable
 
 -- a place of scalar or struct type
 abbrev pub is_assignable : TypedExpression → Bool
@@ -81,14 +82,14 @@ is_steppable ds a = is_integer (type_view a.ty) || points_to_object ds (type_vie
 
 abbrev pub step_before : List StructDef → ℕ → UnaryOp → TypedExpression → Ruling TypedExpression
 step_before ds at op a =
-    if is_assignable a then (if is_steppable ds a then Ok (unary at a.ty op a.tree) else fault at BadOperand)
+    if is_assignable a then (if is_steppable ds a then Ok (unary_rvalue at a.ty op a.tree) else fault at BadOperand)
     else fault a.at NotAssignable
 
-abbrev pub postfix : ℕ → t.CType → StepOp → x.TExpr → TypedExpression
-postfix at ty op operand = value at ty (x.Postfix ty op operand)
+abbrev pub postfix_rvalue : ℕ → t.CType → StepOp → x.TExpr → TypedExpression
+postfix_rvalue at ty op operand = rvalue at ty (x.Postfix ty op operand)
 
 abbrev pub step_behind : List StructDef → ℕ → StepOp → TypedExpression → Ruling TypedExpression
 step_behind ds at op a =
     if is_assignable a then
-    (if is_steppable ds a then Ok (postfix at a.ty op a.tree) else fault at BadOperand)
+    (if is_steppable ds a then Ok (postfix_rvalue at a.ty op a.tree) else fault at BadOperand)
     else fault a.at NotAssignable

@@ -159,7 +159,7 @@ pub fn number(
     t: IntegerType,
     word: u64,
 ) -> Result<TypedExpression, AllocError>
-    ensures { IfOk result (λ r. r ≡ spec.number at t word) }
+    ensures { IfOk result (λ r. r ≡ spec.number_rvalue at t word) }
 {
     let tree = Box::new(
         alloc,

@@ -37,7 +37,7 @@ fn object_of(alloc: Global, structs: &[StructDef], ty: &CType) -> Result<Option<
 }
 
 pub(crate) fn led_to(at: u32, ty: CType, tree: Box<TExpr>) -> TypedExpression
-    ensures { result ≡ spec.led_to at ty tree }
+    ensures { result ≡ spec.pointed_place at ty tree }
 {
     TypedExpression {
         at,
@@ -202,7 +202,7 @@ fn postfix(
     op: StepOp,
     operand: Box<TExpr>,
 ) -> Result<TypedExpression, AllocError>
-    ensures { IfOk result (λ r. r ≡ spec.postfix at of op operand) }
+    ensures { IfOk result (λ r. r ≡ spec.postfix_rvalue at of op operand) }
 {
     let ty = of.copy(alloc)?;
     let tree = Box::new(alloc, TExpr::Postfix { ty, op, operand })?;

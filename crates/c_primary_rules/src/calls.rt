@@ -33,7 +33,7 @@ pub fn call(
     of: &CType,
     arguments: Seq<TExpr>,
 ) -> Result<TypedExpression, AllocError>
-    ensures { IfOk result (λ r. r ≡ spec.call at callee of.now arguments) }
+    ensures { IfOk result (λ r. r ≡ spec.call_rvalue at callee of.now arguments) }
 {
     let ty = of.copy(alloc)?;
     let tree = Box::new(

@@ -18,7 +18,7 @@ pub struct CommaOperands {
 
 /// One value more.
 fn gather(gathered: &mut CommaOperands, value: TypedExpression) -> Result<(), AllocError>
-    ensures { OnOk result (gathered.new ≡ spec.with_value value gathered.old) }
+    ensures { OnOk result (gathered.new ≡ spec.with_operand value gathered.old) }
 {
     let TypedExpression { tree, ty, .. } = value;
     gathered.trees.push(Box::into_inner(tree))?;
@@ -28,7 +28,7 @@ fn gather(gathered: &mut CommaOperands, value: TypedExpression) -> Result<(), Al
 
 /// The operands, gathered in their order.
 fn gather_all(alloc: Global, operands: Seq<TypedExpression>) -> Result<CommaOperands, AllocError>
-    ensures { IfOk result (λ r. r ≡ spec.gathered_from spec.nothing operands) }
+    ensures { IfOk result (λ r. r ≡ spec.comma_operands spec.no_operands operands) }
 {
     let mut gathered = CommaOperands {
         trees: Seq::new(alloc),
@@ -48,7 +48,7 @@ pub fn comma(
     at: u32,
     operands: Seq<TypedExpression>,
 ) -> Result<TypedExpression, AllocError>
-    ensures { IfOk result (λ r. r ≡ spec.comma at operands) }
+    ensures { IfOk result (λ r. r ≡ spec.comma_value at operands) }
 {
     let CommaOperands { trees, last } = gather_all(alloc, operands)?;
     let ty = last.copy(alloc)?;

@@ -85,7 +85,7 @@ pub fn object(
     number: u32,
     of: &CType,
 ) -> Result<TypedExpression, AllocError>
-    ensures { IfOk result (λ r. r ≡ spec.object at number of.now) }
+    ensures { IfOk result (λ r. r ≡ spec.static_object at number of.now) }
 {
     let tree = object_tree(alloc, of, number)?;
     let ty = of.copy(alloc)?;

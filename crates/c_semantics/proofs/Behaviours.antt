@@ -12,7 +12,7 @@ use Rattle.c_mean.specs.Behaviour as b
 use Rattle.c_mean.specs.Behaviour.{CBehaviour, output_of}
 use Rattle.c_semantics.specs.Runs.{CallState}
 use Rattle.c_semantics.specs.Executes.{StatementFlow, Goes, Breaks, Continues, Returns, level, enter_function, leave_function}
-use Rattle.c_semantics.specs.Behaves.{world_of, status_of, ended_by, ending_of, run_of, main_of, run, rooms_of, behaviour_of, behave_c}
+use Rattle.c_semantics.specs.Behaves.{world_of, status_of, ended_by, ending_of, run_of, main_of, run_main, rooms_of, behaviour_of, behave_c}
 use Rattle.c_semantics.specs.Laws.{EndingsStay, OutputsGrow, UnitPeaksRise, UnitHasOneEnding, TurnsAreOne}
 use Rattle.c_semantics.proofs.Grown.{Starts, starts_same, Later, Reaches, more_turns, Grows}
 use Rattle.c_semantics.proofs.Trees.{body_grown, level_grown}
@@ -72,7 +72,7 @@ run_of_grows unit rooms n (Some f) w m k =
     (level_grown unit rooms (suc m) (suc (m + k)) (omega arith)) n f []).by
     (record { registers = λ j. Unset; world = enter_function rooms n w }) k)
 
-run_grows : (unit : TypedUnit) (rooms : Rooms) (input : List ℕ) (n k : ℕ) → EndGrows k (run unit rooms input n) (run unit rooms input (n + k))
+run_grows : (unit : TypedUnit) (rooms : Rooms) (input : List ℕ) (n k : ℕ) → EndGrows k (run_main unit rooms input n) (run_main unit rooms input (n + k))
 run_grows unit rooms input n k =
     run_of_grows unit rooms (main_of unit) (slice_get unit.functions (main_of unit)) (world_of (start_memory unit.globals) input n) n k
 
@@ -85,7 +85,7 @@ peak_of k (Undefined w at) e' g = subst (λ x. w.meter.peak ≤ ending_peak x) (
 peak_of k (More w) e' g = g.peak
 
 pub peaks_rise : UnitPeaksRise
-peaks_rise unit rooms input n k = peak_of k (run unit rooms input n) (run unit rooms input (n + k)) (run_grows unit rooms input n k)
+peaks_rise unit rooms input n k = peak_of k (run_main unit rooms input n) (run_main unit rooms input (n + k)) (run_grows unit rooms input n k)
 
 ending_stays : (k : ℕ) (e e' : Ending) → EndGrows k e e' → ((output : List ℕ) → behaviour_of e ≢ b.More output) → behaviour_of e' ≡ behaviour_of e
 ending_stays k (Done w status) e' g h = ap behaviour_of g
@@ -95,7 +95,7 @@ ending_stays k (More w) e' g h = absurd (h w.outer.output refl)
 
 pub endings_stay : EndingsStay
 endings_stay unit input n k h =
-    ending_stays k (run unit (rooms_of unit) input n) (run unit (rooms_of unit) input (n + k)) (run_grows unit (rooms_of unit) input n k) h
+    ending_stays k (run_main unit (rooms_of unit) input n) (run_main unit (rooms_of unit) input (n + k)) (run_grows unit (rooms_of unit) input n k) h
 
 output_behind : (w : World) (e : Ending) → Later w (ending_world e) → behaviour_of e ≢ b.Undefined → Starts w.outer.output (output_of (behaviour_of e))
 output_behind w (Done v status) h d = h.output
@@ -111,7 +111,7 @@ output_grows k (More w) e' g h = output_behind w e' g h
 
 pub outputs_grow : OutputsGrow
 outputs_grow unit input n k h =
-    output_grows k (run unit (rooms_of unit) input n) (run unit (rooms_of unit) input (n + k)) (run_grows unit (rooms_of unit) input n k) h
+    output_grows k (run_main unit (rooms_of unit) input n) (run_main unit (rooms_of unit) input (n + k)) (run_grows unit (rooms_of unit) input n k) h
 
 pub one_ending : UnitHasOneEnding
 one_ending unit input n m h g =

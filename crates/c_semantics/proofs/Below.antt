@@ -9,7 +9,7 @@ use Rattle.mem_model.specs.World.{Rooms, room_of, with_memory, turn_from}
 use Rattle.mem_model.specs.Ending.{Done, Trap, Undefined, More, Evaluation, Gives, Ends}
 use Rattle.c_semantics.specs.Reasons.{Reason}
 use Rattle.c_semantics.specs.Runs.{CallState, in_world, Run, and_then, ◌>>=◌, pure, undefined, trap, exit, no_turn, spend_turn, turn, on_memory, set_memory, use_value, read_register, write_register}
-use Rattle.c_semantics.specs.Objects.{Scope, with_object, with_local_object}
+use Rattle.c_semantics.specs.Objects.{Scope, bind_object, with_local_object}
 use Rattle.c_semantics.specs.Evaluates.{put, get}
 use Rattle.c_semantics.specs.Executes.{enter_function, within_call}
 use Rattle.c_semantics.specs.Refines.{lower_peak, WithPeak, GivesBelow, RunRefines, IsBelow}
@@ -134,7 +134,7 @@ object_below size k {run = run} {other = other} scope g = record {
   by = λ s p l.
       let o = length s.world.outer.memory in
       let t = in_world s (with_memory s.world (begin_object s.world.outer.memory size true)) in
-      gives_then (run (with_object scope k o) (lower_peak p t)) (other (with_object scope k o) t) _ _ ((g (with_object scope k o)).by t p l)
+      gives_then (run (bind_object scope k o) (lower_peak p t)) (other (bind_object scope k o) t) _ _ ((g (bind_object scope k o)).by t p l)
       (λ a. record { by = λ u q m. record { peak = q; low = m; holds = refl } });
 }
 

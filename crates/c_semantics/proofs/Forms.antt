@@ -20,9 +20,9 @@ use Rattle.c_typed_tree.specs.Layout.{size_of, align_of}
 use Rattle.c_semantics.specs.Reasons.{Reason, ComparesApart, ComparesAtEnd}
 use Rattle.c_semantics.specs.Runs as r
 use Rattle.c_semantics.specs.Evaluates as w
-use Rattle.c_semantics.specs.Runs.{Run, CallState, ◌>>=◌, pure, undefined, trap, exit, turn, on_memory, set_memory, or_undefined, use_value, number, read_register, write_register}
-use Rattle.c_semantics.specs.Objects.{ValuePlace, Register, At, Scope, integer_of, access, load, store, copy_cells, copy, as_integer, as_held, call_result, read_at, read, write_at, write, pointer_to, move_reason, move, element_plus, move_elements, move_by, local_place, with_local, with_locals, offset_of, no_scope, with_local_object}
-use Rattle.c_semantics.specs.Operators.{unless_dead, outcome, integers, convert_word, compare_by, pure_truth, bytes_between, distance, pointers, pointer_and_integer, with_integer, with_pointer, binary, unary, test_in, test, convert, operation_type, combined_in, combine, step_operator, one_type, step_value, operator_of}
+use Rattle.c_semantics.specs.Runs.{Run, CallState, ◌>>=◌, pure, undefined, trap, exit, turn, on_memory, set_memory, or_undefined, use_value, use_number, read_register, write_register}
+use Rattle.c_semantics.specs.Objects.{ValuePlace, Register, At, Scope, integer_or_word, access, load, store, copy_cells, copy, integer_value, as_held, call_result, read_at, read, write_at, write, place_pointer, move_reason, move, element_plus, move_elements, move_by, local_place, with_local, with_locals, offset_of, no_scope, with_local_object}
+use Rattle.c_semantics.specs.Operators.{unless_dead, outcome, integers, convert_word, compare_by, pure_truth, bytes_between, distance, pointers, pointer_and_integer, with_integer, with_pointer, apply_binary, apply_unary, test_in, test, convert, operation_type, combined_in, combine, step_operator, one_type, step_value, operator_of}
 use Rattle.mem_model.specs.World.{Rooms}
 use Rattle.c_typed_tree.specs.declared.expressions.Builtin.{Builtin}
 use Rattle.c_typed_tree.specs.declared.expressions.Callee.{Callee}
@@ -30,8 +30,8 @@ use Rattle.c_typed_tree.specs.declared.units.TypedFn.{TypedFn}
 use Rattle.c_typed_tree.specs.Expressions.{Expr, Number, Global, Call, Unary, Binary, Assign, Conditional, Cast, Convert, Index, Field, Arrow, Postfix, Comma, Exprs, no_exprs, more_exprs, type_of}
 use Rattle.c_typed_tree.specs.Statements.{LocalDeclaration, First, Stmt, Else, no_else, else_stmt, Stmts, no_stmts, more_stmts, Sections, no_sections, more_sections}
 use Rattle.c_typed_tree.specs.View.{type_view, stmt_view}
-use Rattle.c_semantics.specs.Evaluates.{put, get, builtin, Functions, call, element, member_at, target_of, update, assign, choose, converted_from, eval, place, evals, last_of}
-use Rattle.c_semantics.specs.Executes.{StatementFlow, Goes, Breaks, Continues, Returns, after_body, and_next, after_switch, declared_in, declared_first, is_label_of, target_in, with_parameters, value_of_call, body_of, holds, condition, step, initialise, declare, declares, first, return_value, exec, exec_else, execs, exec_sections, exec_from, within_call, Level, call_of}
+use Rattle.c_semantics.specs.Evaluates.{put, get, builtin, Functions, run_call, element_pointer, member_pointer, target_of, update, assign_value, choose, converted_from, eval, place, evals, last_of}
+use Rattle.c_semantics.specs.Executes.{StatementFlow, Goes, Breaks, Continues, Returns, after_body, and_next, after_switch, declared_in, declared_first, is_chosen_label, target_in, with_parameters, value_of_call, body_of, holds, condition, step, initialise, declare, declares, first, return_value, exec, exec_else, execs, exec_sections, exec_from, within_call, Level, call_with_turn}
 use Rattle.c_typed_tree.specs.Lawful.{is_main}
 use Rattle.c_arithmetic.specs.declared.outcome.ArithmeticOutcome.TheVariants as o
 use Rattle.c_tree.specs.declared.expressions.UnaryOp.TheVariants as u
@@ -58,7 +58,7 @@ pub record Congruence (R : (A : Type 0) → Run A → Run A → Type 0) : Type 1
   pub get : R Value w.get w.get
   pub object : {A : Type 0} (size k : ℕ) {run run' : Scope → Run A} (scope : Scope) → ((inner : Scope) → R A (run inner) (run' inner))
       → R A (with_local_object size k run scope) (with_local_object size k run' scope)
-  pub call : {A : Type 0} (rooms : Rooms) (n : ℕ) {run run' : Run A} → R A run run' → R A (within_call rooms n run) (within_call rooms n run')
+  pub run_call : {A : Type 0} (rooms : Rooms) (n : ℕ) {run run' : Run A} → R A run run' → R A (within_call rooms n run) (within_call rooms n run')
 
 module _ (R : (A : Type 0) → Run A → Run A → Type 0) (kept : Congruence R) where
   abbrev pub Related : {A : Type 0} → Run A → Run A → Type 0
@@ -76,7 +76,7 @@ module _ (R : (A : Type 0) → Run A → Run A → Type 0) (kept : Congruence R)
   steady_used reason (Address p) = kept.pure _
   steady_used reason Unset = kept.undefined reason
 
-  pub steady_number : (v : Value) → Itself (number v)
+  pub steady_number : (v : Value) → Itself (use_number v)
   steady_number (Word n) = kept.pure n
   steady_number (Address p) = kept.undefined _
   steady_number Unset = kept.undefined _
@@ -112,19 +112,19 @@ module _ (R : (A : Type 0) → Run A → Run A → Type 0) (kept : Congruence R)
   steady_copy size align (Word n) v = kept.undefined _
   steady_copy size align Unset v = kept.undefined _
 
-  pub steady_held : (t : IntegerType) (v : Value) → Itself (as_integer t v)
+  pub steady_held : (t : IntegerType) (v : Value) → Itself (integer_value t v)
   steady_held t v = kept.bind (steady_number v) (λ n. kept.pure _)
 
   pub steady_read_at : (ty : PlainType) (p : Value) → Itself (read_at ty p)
   steady_read_at Void p = kept.undefined _
-  steady_read_at (Int n s) p = kept.bind (steady_load n false p) (steady_held (integer_of (Int n s)))
+  steady_read_at (Int n s) p = kept.bind (steady_load n false p) (steady_held (integer_or_word (Int n s)))
   steady_read_at (Pointer target) p = steady_load 8 true p
   steady_read_at (Array element n) p = kept.pure p
   steady_read_at (Struct n) p = kept.pure p
 
   pub steady_as_held : (ty : PlainType) (v : Value) → Itself (as_held ty v)
   steady_as_held Void v = kept.pure v
-  steady_as_held (Int n s) v = steady_held (integer_of (Int n s)) v
+  steady_as_held (Int n s) v = steady_held (integer_or_word (Int n s)) v
   steady_as_held (Pointer target) v = kept.pure v
   steady_as_held (Array element n) v = kept.pure v
   steady_as_held (Struct n) v = kept.pure v
@@ -149,7 +149,7 @@ module _ (R : (A : Type 0) → Run A → Run A → Type 0) (kept : Congruence R)
   steady_write_place ds ty (Register k) v = kept.bind (steady_used _ v) (kept.write k)
   steady_write_place ds ty (At p) v = steady_write_at ds ty p v
 
-  pub steady_pointer : (p : ValuePlace) → Itself (pointer_to p)
+  pub steady_pointer : (p : ValuePlace) → Itself (place_pointer p)
   steady_pointer (Register k) = kept.undefined _
   steady_pointer (At p) = kept.pure p
 
@@ -245,20 +245,20 @@ module _ (R : (A : Type 0) → Run A → Run A → Type 0) (kept : Congruence R)
   steady_with_pointer ds op element (Array other n) v w = steady_pointer_and_integer ds op element _ v w
   steady_with_pointer ds op element (Struct n) v w = steady_pointer_and_integer ds op element _ v w
 
-  pub steady_binary : (ds : List StructDef) (op : BinaryOp) (left right : PlainType) (v w : Value) → Itself (binary ds op left right v w)
+  pub steady_binary : (ds : List StructDef) (op : BinaryOp) (left right : PlainType) (v w : Value) → Itself (apply_binary ds op left right v w)
   steady_binary ds op Void right v w = kept.undefined _
-  steady_binary ds op (Int n s) right v w = steady_with_integer ds op (integer_of (Int n s)) right v w
+  steady_binary ds op (Int n s) right v w = steady_with_integer ds op (integer_or_word (Int n s)) right v w
   steady_binary ds op (Pointer element) right v w = steady_with_pointer ds op element right v w
   steady_binary ds op (Array element n) right v w = kept.undefined _
   steady_binary ds op (Struct n) right v w = kept.undefined _
 
-  pub steady_plus : (ty : PlainType) (v : Value) → Itself (unary u.Plus ty v)
+  pub steady_plus : (ty : PlainType) (v : Value) → Itself (apply_unary u.Plus ty v)
   steady_plus ty v = steady_used _ v
 
-  pub steady_minus : (ty : PlainType) (v : Value) → Itself (unary u.Minus ty v)
+  pub steady_minus : (ty : PlainType) (v : Value) → Itself (apply_unary u.Minus ty v)
   steady_minus ty v = kept.bind (steady_number v) (λ n. steady_outcome _)
 
-  pub steady_invert : (ty : PlainType) (v : Value) → Itself (unary u.Invert ty v)
+  pub steady_invert : (ty : PlainType) (v : Value) → Itself (apply_unary u.Invert ty v)
   steady_invert ty v = kept.bind (steady_number v) (λ n. kept.pure _)
 
   pub steady_test_in : (m : Memory) (v : Value) → Itself (test_in m v)
@@ -276,7 +276,7 @@ module _ (R : (A : Type 0) → Run A → Run A → Type 0) (kept : Congruence R)
   steady_convert Void (Array u m) v = steady_used _ v
   steady_convert Void (Struct m) v = steady_used _ v
   steady_convert (Int n s) Void v = kept.pure _
-  steady_convert (Int n s) (Int m r) v = steady_converted (integer_of (Int n s)) (integer_of (Int m r)) v
+  steady_convert (Int n s) (Int m r) v = steady_converted (integer_or_word (Int n s)) (integer_or_word (Int m r)) v
   steady_convert (Int n s) (Pointer u) v = steady_used _ v
   steady_convert (Int n s) (Array u m) v = steady_used _ v
   steady_convert (Int n s) (Struct m) v = steady_used _ v
@@ -303,8 +303,8 @@ module _ (R : (A : Type 0) → Run A → Run A → Type 0) (kept : Congruence R)
   pub steady_combined : (ds : List StructDef) (op : BinaryOp) (left right : PlainType) (v w : Value) → Itself (combine ds op left right v w)
   steady_combined ds op Void right v w = kept.undefined _
   steady_combined ds op (Int n s) right v w =
-      steady_combined_in op (operation_type op (integer_of (Int n s)) (integer_of right)) (integer_of (Int n s)) (integer_of right) v w
-  steady_combined ds op (Pointer element) right v w = steady_pointer_and_integer ds op element (integer_of right) v w
+      steady_combined_in op (operation_type op (integer_or_word (Int n s)) (integer_or_word right)) (integer_or_word (Int n s)) (integer_or_word right) v w
+  steady_combined ds op (Pointer element) right v w = steady_pointer_and_integer ds op element (integer_or_word right) v w
   steady_combined ds op (Array element n) right v w = kept.undefined _
   steady_combined ds op (Struct n) right v w = kept.undefined _
 
@@ -339,26 +339,26 @@ module _ (R : (A : Type 0) → Run A → Run A → Type 0) (kept : Congruence R)
 
   -- ---- places and choices
 
-  pub steady_element : (ds : List StructDef) (left right : PlainType) (v w : Value) → Itself (element ds left right v w)
-  steady_element ds (Pointer t) right v w = steady_move_by ds t (integer_of right) v w
+  pub steady_element : (ds : List StructDef) (left right : PlainType) (v w : Value) → Itself (element_pointer ds left right v w)
+  steady_element ds (Pointer t) right v w = steady_move_by ds t (integer_or_word right) v w
   steady_element ds Void Void v w = kept.undefined _
   steady_element ds Void (Int m r) v w = kept.undefined _
-  steady_element ds Void (Pointer u) v w = steady_move_by ds u (integer_of Void) w v
+  steady_element ds Void (Pointer u) v w = steady_move_by ds u (integer_or_word Void) w v
   steady_element ds Void (Array u m) v w = kept.undefined _
   steady_element ds Void (Struct m) v w = kept.undefined _
   steady_element ds (Int n s) Void v w = kept.undefined _
   steady_element ds (Int n s) (Int m r) v w = kept.undefined _
-  steady_element ds (Int n s) (Pointer u) v w = steady_move_by ds u (integer_of (Int n s)) w v
+  steady_element ds (Int n s) (Pointer u) v w = steady_move_by ds u (integer_or_word (Int n s)) w v
   steady_element ds (Int n s) (Array u m) v w = kept.undefined _
   steady_element ds (Int n s) (Struct m) v w = kept.undefined _
   steady_element ds (Array t n) Void v w = kept.undefined _
   steady_element ds (Array t n) (Int m r) v w = kept.undefined _
-  steady_element ds (Array t n) (Pointer u) v w = steady_move_by ds u (integer_of (Array t n)) w v
+  steady_element ds (Array t n) (Pointer u) v w = steady_move_by ds u (integer_or_word (Array t n)) w v
   steady_element ds (Array t n) (Array u m) v w = kept.undefined _
   steady_element ds (Array t n) (Struct m) v w = kept.undefined _
   steady_element ds (Struct n) Void v w = kept.undefined _
   steady_element ds (Struct n) (Int m r) v w = kept.undefined _
-  steady_element ds (Struct n) (Pointer u) v w = steady_move_by ds u (integer_of (Struct n)) w v
+  steady_element ds (Struct n) (Pointer u) v w = steady_move_by ds u (integer_or_word (Struct n)) w v
   steady_element ds (Struct n) (Array u m) v w = kept.undefined _
   steady_element ds (Struct n) (Struct m) v w = kept.undefined _
 
@@ -367,7 +367,7 @@ module _ (R : (A : Type 0) → Run A → Run A → Type 0) (kept : Congruence R)
   related_update ds ty pick g p =
       kept.bind (steady_read_place ty p) (λ v. kept.bind (g v) (λ w. kept.bind (steady_write_place ds ty p w) (λ _. kept.pure _)))
 
-  pub steady_assign : (ds : List StructDef) (left right : PlainType) (op : Option BinaryOp) (p : ValuePlace) (v : Value) → Itself (assign ds left right op p v)
+  pub steady_assign : (ds : List StructDef) (left right : PlainType) (op : Option BinaryOp) (p : ValuePlace) (v : Value) → Itself (assign_value ds left right op p v)
   steady_assign ds left right None p v = kept.bind (steady_write_place ds left p v) (λ _. kept.pure _)
   steady_assign ds left right (Some op) p v = related_update ds left _ (λ old. steady_combined ds op left right old v) p
 
@@ -384,11 +384,11 @@ module _ (R : (A : Type 0) → Run A → Run A → Type 0) (kept : Congruence R)
   -- ---- expressions
 
   module _ (ds : List StructDef) (ls : List Local) (f f' : Functions) (h : (n : ℕ) (vs : List Value) → Related (f n vs) (f' n vs)) where
-    pub call_related : (callee : Callee) (vs : List Value) → Related (call f callee vs) (call f' callee vs)
+    pub call_related : (callee : Callee) (vs : List Value) → Related (run_call f callee vs) (run_call f' callee vs)
     call_related (c.Function n) vs = h n vs
     call_related (c.Builtin g) vs = steady_builtin g vs
 
-    pub steady_member : (ty : PlainType) (m : ℕ) (p : Value) → Itself (member_at ds ty m p)
+    pub steady_member : (ty : PlainType) (m : ℕ) (p : Value) → Itself (member_pointer ds ty m p)
     steady_member ty m p = steady_move p (pos (offset_of ds ty m))
 
     mutual
@@ -574,7 +574,7 @@ module _ (R : (A : Type 0) → Run A → Run A → Type 0) (kept : Congruence R)
       pub from_related : (scope : Scope) (target : Option ℕ) (ss : Sections) → Related (exec_from ds ls f again scope target ss) (exec_from ds ls f' again' scope target ss)
       from_related scope target no_sections = kept.pure _
       from_related scope target (more_sections label ss rest) =
-          related_if (is_label_of target label) (kept.bind (execs_related scope ss) (related_next (sections_related scope rest))) (from_related scope target rest)
+          related_if (is_chosen_label target label) (kept.bind (execs_related scope ss) (related_next (sections_related scope rest))) (from_related scope target rest)
 
   -- ---- calls
 
@@ -601,7 +601,7 @@ module _ (R : (A : Type 0) → Run A → Run A → Type 0) (kept : Congruence R)
   pub body_related : (ds : List StructDef) (l l' : Level) → Above l l' → (n : ℕ) (g : TypedFn) (vs : List Value) → Related (body_of ds l n g vs) (body_of ds l' n g vs)
   body_related ds l l' h n g vs = related_parameters ds 0 (take g.params g.locals) vs (λ scope. h n scope (stmt_view g.body)) no_scope
 
-  pub call_of_related : (ds : List StructDef) (rooms : Rooms) (l l' : Level) → Above l l' → (n : ℕ) (g : Option TypedFn) (vs : List Value) → Related (call_of ds rooms l n g vs) (call_of ds rooms l' n g vs)
+  pub call_of_related : (ds : List StructDef) (rooms : Rooms) (l l' : Level) → Above l l' → (n : ℕ) (g : Option TypedFn) (vs : List Value) → Related (call_with_turn ds rooms l n g vs) (call_with_turn ds rooms l' n g vs)
   call_of_related ds rooms l l' h n None vs = kept.undefined _
   call_of_related ds rooms l l' h n (Some g) vs =
       kept.bind kept.turn (λ _. kept.call rooms n (kept.bind (body_related ds l l' h n g vs) (steady_value (is_main g))))

@@ -8,8 +8,8 @@ use Rattle.mem_model.specs.Memory.{Memory, end_object, begin_object}
 use Rattle.mem_model.specs.World.{Meter, World, Rooms, with_memory, with_meter, with_turns, turn_from}
 use Rattle.mem_model.specs.Ending.{Done, Trap, Undefined, More, ending_world, Evaluation, Gives, Ends}
 use Rattle.c_semantics.specs.Reasons.{Reason}
-use Rattle.c_semantics.specs.Runs.{CallState, in_world, Run, and_then, ◌>>=◌, pure, undefined, trap, exit, no_turn, spend_turn, turn, on_memory, set_memory, or_undefined, use_value, number, read_register, write_register}
-use Rattle.c_semantics.specs.Objects.{Scope, with_object, with_local_object}
+use Rattle.c_semantics.specs.Runs.{CallState, in_world, Run, and_then, ◌>>=◌, pure, undefined, trap, exit, no_turn, spend_turn, turn, on_memory, set_memory, or_undefined, use_value, use_number, read_register, write_register}
+use Rattle.c_semantics.specs.Objects.{Scope, bind_object, with_local_object}
 use Rattle.c_semantics.specs.Executes.{enter_function, leave_function, within_call}
 
 -- a list begins with another one
@@ -138,7 +138,7 @@ steady_used reason (Word n) = steady_pure _
 steady_used reason (Address p) = steady_pure _
 steady_used reason Unset = steady_undefined reason
 
-pub steady_number : (v : Value) → Steady (number v)
+pub steady_number : (v : Value) → Steady (use_number v)
 steady_number (Word n) = steady_pure n
 steady_number (Address p) = steady_undefined _
 steady_number Unset = steady_undefined _
@@ -206,8 +206,8 @@ reaches_object : {A : Type 0} (size k : ℕ) (run : Scope → Run A) (scope : Sc
     → (s : CallState) → Reaches s.world (with_local_object size k run scope s)
 reaches_object size k run scope h s =
     let o = length s.world.outer.memory in
-    reaches_bind s.world (run (with_object scope k o) (begun size s)) (leaving o)
-    (reaches_on s.world (begun size s).world (run (with_object scope k o) (begun size s)) (record { output = starts_same s.world.outer.output; peak = omega arith }) (h (with_object scope k o) (begun size s)))
+    reaches_bind s.world (run (bind_object scope k o) (begun size s)) (leaving o)
+    (reaches_on s.world (begun size s).world (run (bind_object scope k o) (begun size s)) (record { output = starts_same s.world.outer.output; peak = omega arith }) (h (bind_object scope k o) (begun size s)))
     (λ a t. (steady_leaving o a).low t)
 
 pub grown_object : {A : Type 0} (size k : ℕ) {run run' : Scope → Run A} (scope : Scope) → ((inner : Scope) → Grown (run inner) (run' inner))
@@ -215,8 +215,8 @@ pub grown_object : {A : Type 0} (size k : ℕ) {run run' : Scope → Run A} (sco
 grown_object size k {run = run} {run' = run'} scope g = record {
   by = λ s d.
       let o = length s.world.outer.memory in
-      grows_bind d (run (with_object scope k o) (begun size s)) (run' (with_object scope k o) (with_more d (begun size s))) (leaving o) (leaving o)
-      ((g (with_object scope k o)).by (begun size s) d) (λ a. steady_leaving o a);
+      grows_bind d (run (bind_object scope k o) (begun size s)) (run' (bind_object scope k o) (with_more d (begun size s))) (leaving o) (leaving o)
+      ((g (bind_object scope k o)).by (begun size s) d) (λ a. steady_leaving o a);
   low = reaches_object size k run scope (λ inner s. (g inner).low s);
   high = reaches_object size k run' scope (λ inner s. (g inner).high s);
 }

@@ -16,12 +16,12 @@ use Rattle.c_typed_tree.specs.Layout.{integer_of}
 use Rattle.c_typed_tree.specs.Constants.{is_integer, is_pure_operator, is_built, are_built, unary_value, converted_value, value_with, constant, last_value, is_null_constant}
 use Rattle.c_typed_tree.specs.Typing.{Context, Signature, is_fit, is_same_type, is_array, has_promoted_type, has_truth_type, has_step_type, has_binary_type, has_assigned_type, is_choice, is_cast, is_conversion, is_element, is_member, points_to, callee_signature, is_call, are_arguments, is_place, is_in_memory, has_last_type, are_operands, has_unary_type, has_rule, is_typed, are_typed}
 use Rattle.c_typed_tree.specs.Typing as rules
-use Rattle.c_typed_tree.specs.Names.{Referent, is_function, names, any_names}
+use Rattle.c_typed_tree.specs.Names.{Referent, is_callee, names, any_names}
 use Rattle.c_typed_tree.specs.Weight.{exprs_count, expr_weight, exprs_weight}
 use Rattle.c_semantics.specs.Runs.{Run}
 use Rattle.c_semantics.specs.Objects.{Scope}
-use Rattle.c_semantics.specs.Operators.{binary, operator_of}
-use Rattle.c_semantics.specs.Evaluates.{Functions, element, member_at, target_of, new_value, old_value, assign, converted_from, eval, place, evals, last_of}
+use Rattle.c_semantics.specs.Operators.{apply_binary, operator_of}
+use Rattle.c_semantics.specs.Evaluates.{Functions, element_pointer, member_pointer, target_of, new_value, old_value, assign_value, converted_from, eval, place, evals, last_of}
 use Rattle.c_semantics.specs.Refines as form
 use Rattle.c_semantics.specs.Refines.{IsBelow, IgnorePeak, RefinesIn, ExprRefines, ExprWithin, ExprsWithin}
 use Rattle.std.proofs.lemmas.Option.{none-some}
@@ -162,8 +162,8 @@ module _ (c : Context) {x y : Expr} (h : Inside c x y) where
     memory = h.memory;
     constants = λ n e. absurd (none-some n e);
     built = λ p. p;
-    value = λ f i scope. kept.bind (kept.bind (kept.bind (h.stands f i scope) (forms.steady_pointer BelowOf kept)) (λ p. onto (ap (λ o. member_at c.structs o m p) h.types) (forms.steady_member BelowOf kept c.structs c.locals f f i (type_of x) m p))) ((forms.steady_read_at BelowOf kept) t);
-    stands = λ f i scope. kept.bind (kept.bind (kept.bind (h.stands f i scope) (forms.steady_pointer BelowOf kept)) (λ p. onto (ap (λ o. member_at c.structs o m p) h.types) (forms.steady_member BelowOf kept c.structs c.locals f f i (type_of x) m p))) (λ p. kept.pure _);
+    value = λ f i scope. kept.bind (kept.bind (kept.bind (h.stands f i scope) (forms.steady_pointer BelowOf kept)) (λ p. onto (ap (λ o. member_pointer c.structs o m p) h.types) (forms.steady_member BelowOf kept c.structs c.locals f f i (type_of x) m p))) ((forms.steady_read_at BelowOf kept) t);
+    stands = λ f i scope. kept.bind (kept.bind (kept.bind (h.stands f i scope) (forms.steady_pointer BelowOf kept)) (λ p. onto (ap (λ o. member_pointer c.structs o m p) h.types) (forms.steady_member BelowOf kept c.structs c.locals f f i (type_of x) m p))) (λ p. kept.pure _);
   }
 
   arrow_refines : (t : PlainType) (m : ℕ) → IsTrue (is_fit c.structs t) → IsTrue (has_rule c (Arrow t y m)) → Inside c (Arrow t x m) (Arrow t y m)
@@ -177,8 +177,8 @@ module _ (c : Context) {x y : Expr} (h : Inside c x y) where
     memory = λ p. p;
     constants = λ n e. absurd (none-some n e);
     built = λ p. p;
-    value = λ f i scope. kept.bind (kept.bind (h.value f i scope) (λ p. onto (ap (λ o. member_at c.structs (target_of o) m p) h.types) (forms.steady_member BelowOf kept c.structs c.locals f f i (target_of (type_of x)) m p))) ((forms.steady_read_at BelowOf kept) t);
-    stands = λ f i scope. kept.bind (kept.bind (h.value f i scope) (λ p. onto (ap (λ o. member_at c.structs (target_of o) m p) h.types) (forms.steady_member BelowOf kept c.structs c.locals f f i (target_of (type_of x)) m p))) (λ p. kept.pure _);
+    value = λ f i scope. kept.bind (kept.bind (h.value f i scope) (λ p. onto (ap (λ o. member_pointer c.structs (target_of o) m p) h.types) (forms.steady_member BelowOf kept c.structs c.locals f f i (target_of (type_of x)) m p))) ((forms.steady_read_at BelowOf kept) t);
+    stands = λ f i scope. kept.bind (kept.bind (h.value f i scope) (λ p. onto (ap (λ o. member_pointer c.structs (target_of o) m p) h.types) (forms.steady_member BelowOf kept c.structs c.locals f f i (target_of (type_of x)) m p))) (λ p. kept.pure _);
   }
 
   postfix_refines : (t : PlainType) (op : StepOp) → IsTrue (is_fit c.structs t) → IsTrue (has_rule c (Postfix t op y)) → Inside c (Postfix t op x) (Postfix t op y)
@@ -206,11 +206,11 @@ module _ (c : Context) {x y v w : Expr} (h : Inside c x y) (g : Inside c v w) wh
   named_both : (a : Referent) → IsTrue (names a x || names a v) → IsTrue (names a y || names a w)
   named_both a = either_on (names a x) (names a v) (names a y) (names a w) (h.named a) (g.named a)
 
-  both_types : (op : BinaryOp) (a d : Value) → binary c.structs op (type_of x) (type_of v) a d ≡ binary c.structs op (type_of y) (type_of w) a d
-  both_types op a d = ap (λ o. binary c.structs op o (type_of v) a d) h.types ∙ ap (λ o. binary c.structs op (type_of y) o a d) g.types
+  both_types : (op : BinaryOp) (a d : Value) → apply_binary c.structs op (type_of x) (type_of v) a d ≡ apply_binary c.structs op (type_of y) (type_of w) a d
+  both_types op a d = ap (λ o. apply_binary c.structs op o (type_of v) a d) h.types ∙ ap (λ o. apply_binary c.structs op (type_of y) o a d) g.types
 
-  element_types : (a d : Value) → element c.structs (type_of x) (type_of v) a d ≡ element c.structs (type_of y) (type_of w) a d
-  element_types a d = ap (λ o. element c.structs o (type_of v) a d) h.types ∙ ap (λ o. element c.structs (type_of y) o a d) g.types
+  element_types : (a d : Value) → element_pointer c.structs (type_of x) (type_of v) a d ≡ element_pointer c.structs (type_of y) (type_of w) a d
+  element_types a d = ap (λ o. element_pointer c.structs o (type_of v) a d) h.types ∙ ap (λ o. element_pointer c.structs (type_of y) o a d) g.types
 
   binary_value_on : (t : PlainType) (op : BinaryOp) (f : Functions) (i : IgnorePeak f) (scope : Scope) → IsBelow (eval c.structs c.locals f scope (Binary t op x v)) (eval c.structs c.locals f scope (Binary t op y w))
   binary_value_on t b.LogicalOr f i scope = kept.bind (kept.bind (h.value f i scope) (forms.steady_test BelowOf kept)) ((forms.related_choose BelowOf kept) ((forms.steady_truth BelowOf kept) true) (kept.bind (kept.bind (g.value f i scope) (forms.steady_test BelowOf kept)) (forms.steady_truth BelowOf kept)))
@@ -268,7 +268,7 @@ module _ (c : Context) {x y v w : Expr} (h : Inside c x y) (g : Inside c v w) wh
     memory = λ p. p;
     constants = λ n e. absurd (none-some n e);
     built = λ p. p;
-    value = λ f i scope. kept.bind (h.stands f i scope) (λ p. kept.bind (g.value f i scope) (λ d. onto (ap (λ o. assign c.structs t o (operator_of op) p d) g.types) ((forms.steady_assign BelowOf kept) c.structs t (type_of v) (operator_of op) p d)));
+    value = λ f i scope. kept.bind (h.stands f i scope) (λ p. kept.bind (g.value f i scope) (λ d. onto (ap (λ o. assign_value c.structs t o (operator_of op) p d) g.types) ((forms.steady_assign BelowOf kept) c.structs t (type_of v) (operator_of op) p d)));
     stands = λ f i scope. kept.undefined _;
   }
 
@@ -381,7 +381,7 @@ unfolding expr_weight
 call_refines c {xs = xs} {ys = ys} g t callee fit rule = record {
   typed = three (is_fit c.structs t) (has_rule c (Call t callee xs)) (are_typed c xs) fit (call_rule c g t (callee_signature c callee) rule) g.typed;
   types = refl;
-  named = λ a. either_on (is_function a callee) (any_names a xs) (is_function a callee) (any_names a ys) (λ p. p) (g.named a);
+  named = λ a. either_on (is_callee a callee) (any_names a xs) (is_callee a callee) (any_names a ys) (λ p. p) (g.named a);
   weight = omega (arith, g.weight);
   places = λ p. p;
   memory = λ p. p;

@@ -24,7 +24,7 @@ use Rattle.c_typed_tree.specs.Weight.{copy_weight, expr_weight, optional_weight,
 use Rattle.c_semantics.specs.Runs.{Run, ◌>>=◌, ◌>>◌, pure, turn}
 use Rattle.c_semantics.specs.Objects.{Scope, with_locals}
 use Rattle.c_semantics.specs.Evaluates.{Functions, choose}
-use Rattle.c_semantics.specs.Executes.{StatementFlow, Goes, after_body, declared_by, declared_in, declared_first, is_label_of, has_label, target_in, holds, condition, step, initialise, declare, declares, first, return_value, exec, exec_else, execs, exec_sections, exec_from, calls_of, level, locals_of}
+use Rattle.c_semantics.specs.Executes.{StatementFlow, Goes, after_body, declared_by, declared_in, declared_first, is_chosen_label, has_label, target_in, holds, condition, step, initialise, declare, declares, first, return_value, exec, exec_else, execs, exec_sections, exec_from, calls_of, level, function_locals}
 use Rattle.c_semantics.specs.Refines as r
 use Rattle.c_semantics.specs.Refines.{IsBelow, IgnorePeak, ExprWithin, OptionWithin, DeclaredWithin, AllDeclaredWithin, FirstWithin, context_at, result_at, IsTypedAt, StmtRefines, StmtWithin, ElseWithin, StmtsWithin, SectionsWithin}
 use Rattle.c_semantics.proofs.Facts.{front, back, also, either_on, along, three, four}
@@ -58,7 +58,7 @@ first_within number (r.locals_first h) = all_within number h
 
 same_labels : (target : Option ℕ) {a b : Sections} → SectionsWithin a b → has_label target a ≡ has_label target b
 same_labels target r.no_section_left = refl
-same_labels target (r.one_section {label = label} h g) = ap (λ x. is_label_of target label || x) (same_labels target g)
+same_labels target (r.one_section {label = label} h g) = ap (λ x. is_chosen_label target label || x) (same_labels target g)
 
 same_target : (n : ℕ) {a b : Sections} → SectionsWithin a b → target_in n a ≡ target_in n b
 same_target n h = ap (λ found. if found then Some n else None) (same_labels (Some n) h)
@@ -372,7 +372,7 @@ module _ (c : Context) (f : Functions) (i : IgnorePeak f) where
 pub level_itself : (unit : TypedUnit) (rooms : Rooms) (m n : ℕ) (scope : Scope) (s : Stmt) → IsBelow (level unit rooms m n scope s) (level unit rooms m n scope s)
 level_itself unit rooms zero n scope s = no_turn_below
 level_itself unit rooms (suc m) n scope s =
-    forms.exec_related BelowOf kept unit.structs (locals_of (slice_get unit.functions n)) (calls_of unit rooms (level unit rooms m)) (calls_of unit rooms (level unit rooms m))
+    forms.exec_related BelowOf kept unit.structs (function_locals (slice_get unit.functions n)) (calls_of unit rooms (level unit rooms m)) (calls_of unit rooms (level unit rooms m))
     (λ k vs. forms.call_of_related BelowOf kept unit.structs rooms (level unit rooms m) (level unit rooms m) (λ o inner t. level_itself unit rooms m o inner t) k (slice_get unit.functions k) vs)
     (level unit rooms m n) (level unit rooms m n) (λ inner t. level_itself unit rooms m n inner t) scope s
 
@@ -471,7 +471,7 @@ module _ (unit : TypedUnit) (rooms : Rooms) (m n : ℕ)
     from_below scope target (r.one_section {label = label} {ts = ts} {b = b} h g) j p =
         let p1 = front (are_typed_stmts c res j ts) (are_typed_sections c res j b) p in
         let p2 = back (are_typed_stmts c res j ts) (are_typed_sections c res j b) p in
-        forms.related_if BelowOf kept (is_label_of target label) (kept.bind (execs_below scope h j p1) (forms.related_next BelowOf kept (sections_below scope g j p2))) (from_below scope target g j p2)
+        forms.related_if BelowOf kept (is_chosen_label target label) (kept.bind (execs_below scope h j p1) (forms.related_next BelowOf kept (sections_below scope g j p2))) (from_below scope target g j p2)
 
 -- at every level
 level_below : (unit : TypedUnit) (rooms : Rooms) (m n : ℕ) (scope : Scope) {s t : Stmt} → StmtWithin s t → (j : Jumps) → IsTypedAt unit n j t → IsBelow (level unit rooms m n scope s) (level unit rooms m n scope t)

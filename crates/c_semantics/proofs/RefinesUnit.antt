@@ -17,12 +17,12 @@ use Rattle.c_typed_tree.specs.View.{type_view, stmt_view}
 use Rattle.c_typed_tree.specs.Types.{PlainType}
 use Rattle.c_typed_tree.specs.Typing.{Signature, Context, is_same_type, int, is_scalar}
 use Rattle.c_typed_tree.specs.TypingStatements.{no_jumps, is_typed_stmt}
-use Rattle.c_typed_tree.specs.Lawful.{signature_of, parameters_of, is_lawful_local, is_result, is_identifier, IsTypedFn, is_main, is_start, IsTypedUnit}
+use Rattle.c_typed_tree.specs.Lawful.{signature_of, types_of_parameters, is_lawful_local, is_result, is_identifier, IsTypedFn, is_main, is_start, IsTypedUnit}
 use Rattle.c_typed_tree.specs.Weight.{function_weight}
 use Rattle.c_semantics.specs.Runs.{CallState}
 use Rattle.c_semantics.specs.Objects.{Scope, no_scope}
-use Rattle.c_semantics.specs.Executes.{StatementFlow, Goes, Breaks, Continues, Returns, with_parameters, enter_function, leave_function, value_of_call, body_of, call_of, calls_of, exec, locals_of, level}
-use Rattle.c_semantics.specs.Behaves.{world_of, status_of, ended_by, ending_of, run_of, place_of_main, main_of, run}
+use Rattle.c_semantics.specs.Executes.{StatementFlow, Goes, Breaks, Continues, Returns, with_parameters, enter_function, leave_function, value_of_call, body_of, call_with_turn, calls_of, exec, function_locals, level}
+use Rattle.c_semantics.specs.Behaves.{world_of, status_of, ended_by, ending_of, run_of, place_of_main, main_of, run_main}
 use Rattle.c_semantics.specs.Refines as r
 use Rattle.c_semantics.specs.Refines.{with_peak, lower_peak, GivesBelow, IsBelow, context_at, result_at, IsTypedAt, FnRefines, FnsRefine, EndingRefines, with_functions, WeighNoMore, UnitRefines, UnitsRefine}
 use Rattle.c_typed_tree.specs.Declarations.{declarations, due_declarations}
@@ -54,7 +54,7 @@ related_from unit ok n k (f ∷ fs) [] h e = elim h [ ]
 related_from unit ok n zero (f ∷ fs) (g ∷ gs) (r.one_function h j) e = related h (typed_at unit ok n g e) (stmt_at unit ok n g e)
 related_from unit ok n (suc k) (f ∷ fs) (g ∷ gs) (r.one_function h j) e = related_from unit ok n k fs gs j e
 
-same_locals : {unit : TypedUnit} {n : ℕ} {f g : Option TypedFn} → Related unit n f g → locals_of f ≡ locals_of g
+same_locals : {unit : TypedUnit} {n : ℕ} {f g : Option TypedFn} → Related unit n f g → function_locals f ≡ function_locals g
 same_locals absent = refl
 same_locals (related h t p) = h.locals
 
@@ -79,7 +79,7 @@ module _ (unit : TypedUnit) (fs : List TypedFn) (rooms : Rooms) (ok : IsTypedUni
       (λ scope. below_on (l scope (stmt_view f.body)) (refines_below (level_itself unit rooms m n scope (stmt_view g.body)) ((k.body unit n no_jumps p).does rooms m scope))) no_scope)
 
   calls_below : (m n : ℕ) → ((scope : Scope) (s : Stmt) → IsBelow (level one rooms m n scope s) (level unit rooms m n scope s))
-      → {f g : Option TypedFn} → Related unit n f g → (vs : List Value) → IsBelow (call_of ds rooms (level one rooms m) n f vs) (call_of ds rooms (level unit rooms m) n g vs)
+      → {f g : Option TypedFn} → Related unit n f g → (vs : List Value) → IsBelow (call_with_turn ds rooms (level one rooms m) n f vs) (call_with_turn ds rooms (level unit rooms m) n g vs)
   calls_below m n l absent vs = kept.undefined _
   calls_below m n l (related {f = f} {g = g} k t p) vs =
       kept.bind kept.turn (λ _. kept.call rooms n (kept.bind (body_below m n l k p vs)
@@ -90,7 +90,7 @@ module _ (unit : TypedUnit) (fs : List TypedFn) (rooms : Rooms) (ok : IsTypedUni
   levels_below (suc m) n scope s =
       subst (λ z. IsBelow (level one rooms (suc m) n scope s) z)
       (ap (λ ls. exec ds ls (calls_of unit rooms (level unit rooms m)) (level unit rooms m n) scope s) (same_locals (related_at n)))
-      (forms.exec_related BelowOf kept ds (locals_of (slice_get fs n)) (calls_of one rooms (level one rooms m)) (calls_of unit rooms (level unit rooms m))
+      (forms.exec_related BelowOf kept ds (function_locals (slice_get fs n)) (calls_of one rooms (level one rooms m)) (calls_of unit rooms (level unit rooms m))
       (λ k vs. calls_below m k (levels_below m k) (related_at k) vs)
       (level one rooms m n) (level unit rooms m n) (levels_below m n) scope s)
 
@@ -131,17 +131,17 @@ main_place (f ∷ fs) (g ∷ gs) (r.one_function h k) =
     ∙ ap (λ n. if is_main g then 0 else suc n) (main_place fs gs k)
 
 runs_refine : (unit : TypedUnit) (fs : List TypedFn) → IsTypedUnit unit → FnsRefine fs unit.functions → (rooms : Rooms) (input : List ℕ) (turns : ℕ)
-    → EndingRefines (run (with_functions unit fs) rooms input turns) (run unit rooms input turns)
+    → EndingRefines (run_main (with_functions unit fs) rooms input turns) (run_main unit rooms input turns)
 runs_refine unit fs ok h rooms input turns =
     subst
     (λ n. EndingRefines (run_of (with_functions unit fs) rooms n (slice_get fs n) (world_of (start_memory unit.globals) input turns) turns)
-    (run unit rooms input turns))
+    (run_main unit rooms input turns))
     (sym (main_place fs unit.functions h))
     (run_of_below unit fs rooms ok h (main_of unit) (related_at unit fs rooms ok h (main_of unit)) (world_of (start_memory unit.globals) input turns) turns)
 
 -- ---- still well typed
 
-same_parameters : {f g : TypedFn} → FnRefines f g → parameters_of f ≡ parameters_of g
+same_parameters : {f g : TypedFn} → FnRefines f g → types_of_parameters f ≡ types_of_parameters g
 same_parameters {f = f} {g = g} h = ap (λ n. map (λ l. type_view l.ty) (take n f.locals)) h.params ∙ ap (λ ls. map (λ l. type_view l.ty) (take g.params ls)) h.locals
 
 abbrev signature_by : PlainType → List PlainType → Signature
@@ -149,7 +149,7 @@ signature_by t ts = record { result = t; params = ts }
 
 same_signature : {f g : TypedFn} → FnRefines f g → signature_of f ≡ signature_of g
 same_signature {f = f} {g = g} h =
-    ap (λ t. signature_by (type_view t) (parameters_of f)) h.result ∙ ap (λ ts. signature_by (type_view g.result) ts) (same_parameters h)
+    ap (λ t. signature_by (type_view t) (types_of_parameters f)) h.result ∙ ap (λ ts. signature_by (type_view g.result) ts) (same_parameters h)
 
 same_signatures : (fs gs : List TypedFn) → FnsRefine fs gs → map signature_of fs ≡ map signature_of gs
 same_signatures [] [] r.no_function = refl

@@ -8,7 +8,7 @@ use Rattle.c_typed_tree.specs.declared.units.TypedFn.{TypedFn}
 use Rattle.c_typed_tree.specs.declared.units.TypedUnit.{TypedUnit}
 use Rattle.c_semantics.specs.Runs.{CallState, Run, no_turn}
 use Rattle.c_semantics.specs.Evaluates.{put, get}
-use Rattle.c_semantics.specs.Executes.{StatementFlow, Level, body_of, calls_of, locals_of, above, level}
+use Rattle.c_semantics.specs.Executes.{StatementFlow, Level, body_of, calls_of, function_locals, level_above, level}
 use Rattle.c_semantics.proofs.Grown.{starts_same, later_same, Reaches, Grown, Steady, bind, steady_pure, steady_undefined, steady_trap, steady_exit, steady_memory, steady_write, grown_seen, steady_read, grown_no_turn, steady_turn, grown_object, grown_call}
 use Rattle.c_semantics.proofs.Forms as forms
 
@@ -56,9 +56,9 @@ Above l l' = forms.Above GrownOf kept l l'
 pub body_grown : (ds : List StructDef) (l l' : Level) → Above l l' → (n : ℕ) (g : TypedFn) (vs : List Value) → Grown (body_of ds l n g vs) (body_of ds l' n g vs)
 body_grown ds l l' h n g vs = forms.body_related GrownOf kept ds l l' h n g vs
 
-above_grown : (unit : TypedUnit) (rooms : Rooms) (l l' : Level) → Above l l' → Above (above unit rooms l) (above unit rooms l')
+above_grown : (unit : TypedUnit) (rooms : Rooms) (l l' : Level) → Above l l' → Above (level_above unit rooms l) (level_above unit rooms l')
 above_grown unit rooms l l' h n scope s =
-    forms.exec_related GrownOf kept unit.structs (locals_of (slice_get unit.functions n)) (calls_of unit rooms l) (calls_of unit rooms l')
+    forms.exec_related GrownOf kept unit.structs (function_locals (slice_get unit.functions n)) (calls_of unit rooms l) (calls_of unit rooms l')
     (λ m vs. forms.call_of_related GrownOf kept unit.structs rooms l l' h m (slice_get unit.functions m) vs) (l n) (l' n) (h n) scope s
 
 no_turn_reaches : (s : CallState) → Reaches s.world (no_turn {A = StatementFlow} s)

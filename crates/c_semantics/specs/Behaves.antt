@@ -54,8 +54,8 @@ abbrev pub main_of : TypedUnit → ℕ
 main_of unit = place_of_main unit.functions
 
 -- the run of `main` with a list of rooms
-abbrev pub run : TypedUnit → Rooms → (input : List ℕ) → (turns : ℕ) → Ending
-run unit rooms input turns =
+abbrev pub run_main : TypedUnit → Rooms → (input : List ℕ) → (turns : ℕ) → Ending
+run_main unit rooms input turns =
     run_of unit rooms (main_of unit) (slice_get unit.functions (main_of unit))
     (world_of (start_memory unit.globals) input turns) turns
 
@@ -69,11 +69,11 @@ behaviour_of (g.Undefined w at) = Undefined
 behaviour_of (g.More w) = More w.outer.output
 
 abbrev pub behave_c : TypedUnit → (input : List ℕ) → (turns : ℕ) → CBehaviour
-behave_c unit input turns = behaviour_of (run unit (rooms_of unit) input turns)
+behave_c unit input turns = behaviour_of (run_main unit (rooms_of unit) input turns)
 
 -- the greatest sum of the rooms of the calls that are active at one moment
 abbrev pub peak : TypedUnit → (input : List ℕ) → (turns : ℕ) → ℕ
-peak unit input turns = ending_peak (run unit (rooms_of unit) input turns)
+peak unit input turns = ending_peak (run_main unit (rooms_of unit) input turns)
 
 abbrev pub meaning : TypedUnit → Meaning
 meaning unit = record { behave = behave_c unit; peak = peak unit }

@@ -19,9 +19,9 @@ use Rattle.c_typed_tree.specs.Types.{PlainType, Void, Pointer, Array, Struct}
 use Rattle.c_typed_tree.specs.Expressions.{Expr, Number, Global, Call, Unary, Binary, Assign, Conditional, Cast, Convert, Index, Field, Arrow, Postfix, Comma, Exprs, no_exprs, more_exprs, type_of}
 use Rattle.c_typed_tree.specs.Expressions as e
 use Rattle.c_semantics.specs.Reasons.{UsesNoValue, AccessesOutside}
-use Rattle.c_semantics.specs.Runs.{with_outer, Run, ◌>>=◌, ◌>>◌, pure, undefined, trap, exit, turn, use_value, number}
-use Rattle.c_semantics.specs.Objects.{ValuePlace, At, start_of, call_result, read_at, read, write, pointer_to, move, move_by, offset_of, Scope, local_place, integer_of}
-use Rattle.c_semantics.specs.Operators.{binary, unary, test, convert, operator_of, combine, step_value, pure_truth}
+use Rattle.c_semantics.specs.Runs.{with_outer, Run, ◌>>=◌, ◌>>◌, pure, undefined, trap, exit, turn, use_value, use_number}
+use Rattle.c_semantics.specs.Objects.{ValuePlace, At, start_pointer, call_result, read_at, read, write, place_pointer, move, move_by, offset_of, Scope, local_place, integer_or_word}
+use Rattle.c_semantics.specs.Operators.{apply_binary, apply_unary, test, convert, operator_of, combine, step_value, pure_truth}
 
 -- ---- what the world outside does
 
@@ -40,34 +40,34 @@ get = λ s. Gives (Word (byte_or_end (next_byte s.world.outer))) (with_outer s (
 
 -- a built-in function on its arguments. The call is a turn
 abbrev pub builtin : Builtin → List Value → Run Value
-builtin i.Putchar (v ∷ []) = number v >>= (λ n. turn >> put n)
+builtin i.Putchar (v ∷ []) = use_number v >>= (λ n. turn >> put n)
 builtin i.Getchar [] = turn >> get
 builtin i.Abort [] = turn >> trap 2
-builtin i.Exit (v ∷ []) = number v >>= (λ n. turn >> exit n)
+builtin i.Exit (v ∷ []) = use_number v >>= (λ n. turn >> exit n)
 builtin f vs = undefined UsesNoValue
 
 -- what the functions of the unit do on their arguments
 abbrev pub Functions : Type 0
 Functions = (function : ℕ) → List Value → Run Value
 
-abbrev pub call : Functions → Callee → List Value → Run Value
-call functions (c.Function n) vs = functions n vs
-call functions (c.Builtin f) vs = builtin f vs
+abbrev pub run_call : Functions → Callee → List Value → Run Value
+run_call functions (c.Function n) vs = functions n vs
+run_call functions (c.Builtin f) vs = builtin f vs
 
 -- ---- places
 
-abbrev pub at : Value → Run ValuePlace
-at p = pure (At p)
+abbrev pub place_at : Value → Run ValuePlace
+place_at p = pure (At p)
 
 -- the element of a pointer with an index, in either order (C99 6.5.2.1)
-abbrev pub element : List StructDef → (left right : PlainType) → Value → Value → Run Value
-element ds (Pointer target) right v w = move_by ds target (integer_of right) v w
-element ds left (Pointer target) v w = move_by ds target (integer_of left) w v
-element ds left right v w = undefined UsesNoValue
+abbrev pub element_pointer : List StructDef → (left right : PlainType) → Value → Value → Run Value
+element_pointer ds (Pointer target) right v w = move_by ds target (integer_or_word right) v w
+element_pointer ds left (Pointer target) v w = move_by ds target (integer_or_word left) w v
+element_pointer ds left right v w = undefined UsesNoValue
 
 -- a member of a struct of this type that stands at a pointer (C99 6.5.2.3). The pointer is moved, also by 0
-abbrev pub member_at : List StructDef → PlainType → (member : ℕ) → Value → Run Value
-member_at ds ty member p = move p (pos (offset_of ds ty member))
+abbrev pub member_pointer : List StructDef → PlainType → (member : ℕ) → Value → Run Value
+member_pointer ds ty member p = move p (pos (offset_of ds ty member))
 
 -- the type of what a pointer points to
 abbrev pub target_of : PlainType → PlainType
@@ -77,9 +77,9 @@ target_of ty = Void
 -- ---- changes of a place
 
 -- the value of an assignment: that of a struct is the pointer to the left side
-abbrev pub assign_place : PlainType → ValuePlace → Value → Value
-assign_place (Struct n) (At p) v = p
-assign_place ty place v = v
+abbrev pub assignment_value : PlainType → ValuePlace → Value → Value
+assignment_value (Struct n) (At p) v = p
+assignment_value ty place v = v
 
 -- a place is read and written; the value is picked of the old and the new one
 abbrev pub update : List StructDef → PlainType → (change : Value → Run Value) → (pick : Value → Value → Value) →
@@ -94,9 +94,9 @@ abbrev pub old_value : Value → Value → Value
 old_value old new = old
 
 -- an assignment, where the place and the right side are known
-abbrev pub assign : List StructDef → (left right : PlainType) → Option BinaryOp → ValuePlace → Value → Run Value
-assign ds left right None p v = write ds left p v >> pure (assign_place left p v)
-assign ds left right (Some op) p v = update ds left (λ old. combine ds op left right old v) new_value p
+abbrev pub assign_value : List StructDef → (left right : PlainType) → Option BinaryOp → ValuePlace → Value → Run Value
+assign_value ds left right None p v = write ds left p v >> pure (assignment_value left p v)
+assign_value ds left right (Some op) p v = update ds left (λ old. combine ds op left right old v) new_value p
 
 -- ---- choices
 
@@ -106,7 +106,7 @@ choose holds fails t = if t then holds else fails
 
 -- a conversion: an array is converted by its place (C99 6.3.2.1)
 abbrev pub converted_from : (from to : PlainType) → Run Value → Run ValuePlace → Run Value
-converted_from (Array target n) to by_value by_place = by_place >>= pointer_to
+converted_from (Array target n) to by_value by_place = by_place >>= place_pointer
 converted_from from to by_value by_place = by_value >>= convert from to
 
 -- ---- expressions
@@ -117,31 +117,32 @@ module _ (ds : List StructDef) (ls : List Local) (functions : Functions) where
     pub eval : Scope → Expr → Run Value
     eval scope (Number ty n) = pure (Word n)
     eval scope (e.Local ty k) = local_place scope k (slice_get ls k) >>= read ty
-    eval scope (Global ty k) = read_at ty (start_of k)
-    eval scope (Call ty callee es) = evals scope es >>= call functions callee >>= call_result ty
-    eval scope (Unary ty u.Address x) = place scope x >>= pointer_to
+    eval scope (Global ty k) = read_at ty (start_pointer k)
+    eval scope (Call ty callee es) = evals scope es >>= run_call functions callee >>= call_result ty
+    eval scope (Unary ty u.Address x) = place scope x >>= place_pointer
     eval scope (Unary ty u.Dereference x) = eval scope x >>= use_value UsesNoValue >>= read_at ty
     eval scope (Unary ty u.Increment x) = place scope x >>= update ds ty (step_value ds s.Increment ty) new_value
     eval scope (Unary ty u.Decrement x) = place scope x >>= update ds ty (step_value ds s.Decrement ty) new_value
     eval scope (Unary ty u.Not x) = eval scope x >>= test >>= choose (pure_truth false) (pure_truth true)
-    eval scope (Unary ty u.Plus x) = eval scope x >>= unary u.Plus ty
-    eval scope (Unary ty u.Minus x) = eval scope x >>= unary u.Minus ty
-    eval scope (Unary ty u.Invert x) = eval scope x >>= unary u.Invert ty
+    eval scope (Unary ty u.Plus x) = eval scope x >>= apply_unary u.Plus ty
+    eval scope (Unary ty u.Minus x) = eval scope x >>= apply_unary u.Minus ty
+    eval scope (Unary ty u.Invert x) = eval scope x >>= apply_unary u.Invert ty
     eval scope (Binary ty b.LogicalAnd x y) =
         eval scope x >>= test >>= choose (eval scope y >>= test >>= pure_truth) (pure_truth false)
     eval scope (Binary ty b.LogicalOr x y) =
         eval scope x >>= test >>= choose (pure_truth true) (eval scope y >>= test >>= pure_truth)
     eval scope (Binary ty op x y) =
-        eval scope x >>= (λ v. eval scope y >>= (λ w. binary ds op (type_of x) (type_of y) v w))
+        eval scope x >>= (λ v. eval scope y >>= (λ w. apply_binary ds op (type_of x) (type_of y) v w))
     eval scope (Assign ty op x y) =
-        place scope x >>= (λ p. eval scope y >>= assign ds ty (type_of y) (operator_of op) p)
+        place scope x >>= (λ p. eval scope y >>= assign_value ds ty (type_of y) (operator_of op) p)
     eval scope (Conditional ty x y z) = eval scope x >>= test >>= choose (eval scope y) (eval scope z)
     eval scope (Cast ty x) = converted_from (type_of x) ty (eval scope x) (place scope x)
     eval scope (Convert ty x) = converted_from (type_of x) ty (eval scope x) (place scope x)
     eval scope (Index ty x y) =
-        eval scope x >>= (λ v. eval scope y >>= element ds (type_of x) (type_of y) v) >>= read_at ty
-    eval scope (Field ty x member) = place scope x >>= pointer_to >>= member_at ds (type_of x) member >>= read_at ty
-    eval scope (Arrow ty x member) = eval scope x >>= member_at ds (target_of (type_of x)) member >>= read_at ty
+        eval scope x >>= (λ v. eval scope y >>= element_pointer ds (type_of x) (type_of y) v) >>= read_at ty
+    eval scope (Field ty x member) =
+        place scope x >>= place_pointer >>= member_pointer ds (type_of x) member >>= read_at ty
+    eval scope (Arrow ty x member) = eval scope x >>= member_pointer ds (target_of (type_of x)) member >>= read_at ty
     eval scope (Postfix ty op x) = place scope x >>= update ds ty (step_value ds op ty) old_value
     eval scope (Comma ty no_exprs) = undefined UsesNoValue
     eval scope (Comma ty (more_exprs x xs)) = last_of scope (eval scope x) xs
@@ -149,12 +150,13 @@ module _ (ds : List StructDef) (ls : List Local) (functions : Functions) where
     -- where an expression stands that is a place (C99 6.3.2.1)
     pub place : Scope → Expr → Run ValuePlace
     place scope (e.Local ty k) = local_place scope k (slice_get ls k)
-    place scope (Global ty k) = at (start_of k)
-    place scope (Unary ty u.Dereference x) = eval scope x >>= use_value UsesNoValue >>= at
+    place scope (Global ty k) = place_at (start_pointer k)
+    place scope (Unary ty u.Dereference x) = eval scope x >>= use_value UsesNoValue >>= place_at
     place scope (Index ty x y) =
-        eval scope x >>= (λ v. eval scope y >>= element ds (type_of x) (type_of y) v) >>= at
-    place scope (Field ty x member) = place scope x >>= pointer_to >>= member_at ds (type_of x) member >>= at
-    place scope (Arrow ty x member) = eval scope x >>= member_at ds (target_of (type_of x)) member >>= at
+        eval scope x >>= (λ v. eval scope y >>= element_pointer ds (type_of x) (type_of y) v) >>= place_at
+    place scope (Field ty x member) =
+        place scope x >>= place_pointer >>= member_pointer ds (type_of x) member >>= place_at
+    place scope (Arrow ty x member) = eval scope x >>= member_pointer ds (target_of (type_of x)) member >>= place_at
     place scope _ = undefined AccessesOutside
 
     -- arguments, from left to right; each is used

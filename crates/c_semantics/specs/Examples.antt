@@ -39,23 +39,23 @@ abbrev pub long : CType
 long = t.Int 8 true
 
 -- a local that is none in memory, and one that is an object
-abbrev pub register : CType → Local
-register ty = record { ty = ty; in_memory = false }
+abbrev pub register_local : CType → Local
+register_local ty = record { ty = ty; in_memory = false }
 
-abbrev pub object : CType → Local
-object ty = record { ty = ty; in_memory = true }
+abbrev pub memory_local : CType → Local
+memory_local ty = record { ty = ty; in_memory = true }
 
 -- a function of type `int`
-abbrev pub function_of : (name : List ℕ) → List Local → (params : ℕ) → List TStmt → TypedFn
-function_of name locals params body =
+abbrev pub int_function : (name : List ℕ) → List Local → (params : ℕ) → List TStmt → TypedFn
+int_function name locals params body =
     record { name = name; result = int; params = params; locals = locals; body = s.Block body }
 
 -- a unit of `main` with these locals and statements, and of other things
-abbrev pub unit_of : List StructDef → List DataObject → List Local → List TStmt → List TypedFn → TypedUnit
-unit_of structs globals locals body others = record {
+abbrev pub main_unit : List StructDef → List DataObject → List Local → List TStmt → List TypedFn → TypedUnit
+main_unit structs globals locals body others = record {
   structs = structs;
   globals = globals;
-  functions = function_of (codes "main") locals 0 body ∷ others;
+  functions = int_function (codes "main") locals 0 body ∷ others;
 }
 
 -- the body of each function of a unit is well typed
@@ -66,73 +66,73 @@ has_typed_bodies u =
 -- return 7;
 abbrev pub returns_seven : TypedUnit
 returns_seven =
-    unit_of [] [] [] (s.Return (Some (e.Number int 7)) ∷ []) []
+    main_unit [] [] [] (s.Return (Some (e.Number int 7)) ∷ []) []
 
 -- (nothing)
 abbrev pub returns_nothing : TypedUnit
 returns_nothing =
-    unit_of [] [] [] [] []
+    main_unit [] [] [] [] []
 
 -- return 300;
 abbrev pub status_is_a_byte : TypedUnit
 status_is_a_byte =
-    unit_of [] [] [] (s.Return (Some (e.Number int 300)) ∷ []) []
+    main_unit [] [] [] (s.Return (Some (e.Number int 300)) ∷ []) []
 
 -- return putchar(321);
 abbrev pub puts_a_byte : TypedUnit
 puts_a_byte =
-    unit_of [] [] [] (s.Return (Some (e.Call int (c.Builtin i.Putchar) ((e.Number int 321) ∷ []))) ∷ []) []
+    main_unit [] [] [] (s.Return (Some (e.Call int (c.Builtin i.Putchar) ((e.Number int 321) ∷ []))) ∷ []) []
 
 -- return getchar();
 abbrev pub gets_a_byte : TypedUnit
 gets_a_byte =
-    unit_of [] [] [] (s.Return (Some (e.Call int (c.Builtin i.Getchar) [])) ∷ []) []
+    main_unit [] [] [] (s.Return (Some (e.Call int (c.Builtin i.Getchar) [])) ∷ []) []
 
 -- return getchar();
 abbrev pub gets_the_end : TypedUnit
 gets_the_end =
-    unit_of [] [] [] (s.Return (Some (e.Call int (c.Builtin i.Getchar) [])) ∷ []) []
+    main_unit [] [] [] (s.Return (Some (e.Call int (c.Builtin i.Getchar) [])) ∷ []) []
 
 -- putchar(65); abort();
 abbrev pub aborts : TypedUnit
 aborts =
-    unit_of [] [] [] (s.Expression (e.Call int (c.Builtin i.Putchar) ((e.Number int 65) ∷ [])) ∷ s.Expression
+    main_unit [] [] [] (s.Expression (e.Call int (c.Builtin i.Putchar) ((e.Number int 65) ∷ [])) ∷ s.Expression
     (e.Call t.Void (c.Builtin i.Abort) []) ∷ []) []
 
 -- putchar(65); exit(259); putchar(66);
 abbrev pub exits : TypedUnit
 exits =
-    unit_of [] [] [] (s.Expression (e.Call int (c.Builtin i.Putchar) ((e.Number int 65) ∷ [])) ∷ s.Expression
+    main_unit [] [] [] (s.Expression (e.Call int (c.Builtin i.Putchar) ((e.Number int 65) ∷ [])) ∷ s.Expression
     (e.Call t.Void (c.Builtin i.Exit) ((e.Number int 259) ∷ [])) ∷ s.Expression
     (e.Call int (c.Builtin i.Putchar) ((e.Number int 66) ∷ [])) ∷ []) []
 
 -- putchar(65); putchar(66);
 abbrev pub has_no_turn : TypedUnit
 has_no_turn =
-    unit_of [] [] [] (s.Expression (e.Call int (c.Builtin i.Putchar) ((e.Number int 65) ∷ [])) ∷ s.Expression
+    main_unit [] [] [] (s.Expression (e.Call int (c.Builtin i.Putchar) ((e.Number int 65) ∷ [])) ∷ s.Expression
     (e.Call int (c.Builtin i.Putchar) ((e.Number int 66) ∷ [])) ∷ []) []
 
 -- putchar(65); putchar(66);
 abbrev pub has_turns_enough : TypedUnit
 has_turns_enough =
-    unit_of [] [] [] (s.Expression (e.Call int (c.Builtin i.Putchar) ((e.Number int 65) ∷ [])) ∷ s.Expression
+    main_unit [] [] [] (s.Expression (e.Call int (c.Builtin i.Putchar) ((e.Number int 65) ∷ [])) ∷ s.Expression
     (e.Call int (c.Builtin i.Putchar) ((e.Number int 66) ∷ [])) ∷ []) []
 
 -- putchar(65); return 2147483647 + 1;
 abbrev pub sum_overflows : TypedUnit
 sum_overflows =
-    unit_of [] [] [] (s.Expression (e.Call int (c.Builtin i.Putchar) ((e.Number int 65) ∷ [])) ∷ s.Return
+    main_unit [] [] [] (s.Expression (e.Call int (c.Builtin i.Putchar) ((e.Number int 65) ∷ [])) ∷ s.Return
     (Some (e.Binary int b.Add (e.Number int 2147483647) (e.Number int 1))) ∷ []) []
 
 -- return 65536 * 32768;
 abbrev pub product_overflows : TypedUnit
 product_overflows =
-    unit_of [] [] [] (s.Return (Some (e.Binary int b.Multiply (e.Number int 65536) (e.Number int 32768))) ∷ []) []
+    main_unit [] [] [] (s.Return (Some (e.Binary int b.Multiply (e.Number int 65536) (e.Number int 32768))) ∷ []) []
 
 -- unsigned u; u = 4294967295; return u + 2;
 abbrev pub unsigned_wraps : TypedUnit
 unsigned_wraps =
-    unit_of [] [] ((register unsigned) ∷ [])
+    main_unit [] [] ((register_local unsigned) ∷ [])
     (s.Local (record { number = 0; init = None }) ∷ s.Expression
     (e.Assign unsigned a.Set (e.Local unsigned 0) (e.Number unsigned 18446744073709551615)) ∷ s.Return
     (Some (e.Convert int (e.Binary unsigned b.Add (e.Local unsigned 0) (e.Number unsigned 2)))) ∷ []) []
@@ -140,7 +140,7 @@ unsigned_wraps =
 -- char c; c = 127; c++; return c == -128;
 abbrev pub narrowing_wraps : TypedUnit
 narrowing_wraps =
-    unit_of [] [] ((register char) ∷ []) (s.Local (record { number = 0; init = None }) ∷ s.Expression
+    main_unit [] [] ((register_local char) ∷ []) (s.Local (record { number = 0; init = None }) ∷ s.Expression
     (e.Assign char a.Set (e.Local char 0) (e.Convert char (e.Number int 127))) ∷ s.Expression
     (e.Postfix char o.Increment (e.Local char 0)) ∷ s.Return
     (Some (e.Binary int b.Equal (e.Convert int (e.Local char 0)) (e.Number int 18446744073709551488))) ∷ []) []
@@ -148,63 +148,63 @@ narrowing_wraps =
 -- int x; x = 2147483647; x++;
 abbrev pub increment_overflows : TypedUnit
 increment_overflows =
-    unit_of [] [] ((register int) ∷ []) (s.Local (record { number = 0; init = None }) ∷ s.Expression
+    main_unit [] [] ((register_local int) ∷ []) (s.Local (record { number = 0; init = None }) ∷ s.Expression
     (e.Assign int a.Set (e.Local int 0) (e.Number int 2147483647)) ∷ s.Expression
     (e.Postfix int o.Increment (e.Local int 0)) ∷ []) []
 
 -- return -(-2147483647 - 1);
 abbrev pub minus_least : TypedUnit
 minus_least =
-    unit_of [] [] [] (s.Return (Some (e.Unary int u.Minus
+    main_unit [] [] [] (s.Return (Some (e.Unary int u.Minus
     (e.Binary int b.Subtract (e.Unary int u.Minus (e.Number int 2147483647)) (e.Number int 1)))) ∷ []) []
 
 -- return 1 / 0;
-abbrev pub division_by_zero : TypedUnit
-division_by_zero =
-    unit_of [] [] [] (s.Return (Some (e.Binary int b.Divide (e.Number int 1) (e.Number int 0))) ∷ []) []
+abbrev pub zero_divisor : TypedUnit
+zero_divisor =
+    main_unit [] [] [] (s.Return (Some (e.Binary int b.Divide (e.Number int 1) (e.Number int 0))) ∷ []) []
 
 -- return (-2147483647 - 1) / -1;
 abbrev pub least_by_minus_one : TypedUnit
 least_by_minus_one =
-    unit_of [] [] [] (s.Return (Some (e.Binary int b.Divide
+    main_unit [] [] [] (s.Return (Some (e.Binary int b.Divide
     (e.Binary int b.Subtract (e.Number int 18446744071562067969) (e.Number int 1))
     (e.Number int 18446744073709551615))) ∷ []) []
 
 -- return (-2147483647 - 1) % -1;
 abbrev pub remainder_of_least : TypedUnit
 remainder_of_least =
-    unit_of [] [] [] (s.Return (Some (e.Binary int b.Remainder
+    main_unit [] [] [] (s.Return (Some (e.Binary int b.Remainder
     (e.Binary int b.Subtract (e.Number int 18446744071562067969) (e.Number int 1))
     (e.Number int 18446744073709551615))) ∷ []) []
 
 -- return -7 / 2;
 abbrev pub division_truncates : TypedUnit
 division_truncates =
-    unit_of [] [] [] (s.Return (Some (e.Binary int b.Divide (e.Number int 18446744073709551609) (e.Number int 2)))
+    main_unit [] [] [] (s.Return (Some (e.Binary int b.Divide (e.Number int 18446744073709551609) (e.Number int 2)))
     ∷ []) []
 
 -- return -7 % 2;
 abbrev pub remainder_has_the_sign : TypedUnit
 remainder_has_the_sign =
-    unit_of [] [] [] (s.Return (Some (e.Binary int b.Remainder (e.Number int 18446744073709551609)
+    main_unit [] [] [] (s.Return (Some (e.Binary int b.Remainder (e.Number int 18446744073709551609)
     (e.Number int 2))) ∷ []) []
 
 -- return -8 >> 1;
 abbrev pub shift_keeps_the_sign : TypedUnit
 shift_keeps_the_sign =
-    unit_of [] [] [] (s.Return (Some (e.Binary int b.ShiftRight (e.Number int 18446744073709551608)
+    main_unit [] [] [] (s.Return (Some (e.Binary int b.ShiftRight (e.Number int 18446744073709551608)
     (e.Number int 1))) ∷ []) []
 
 -- return (1 << 31) < 0;
 abbrev pub shift_keeps_low_bits : TypedUnit
 shift_keeps_low_bits =
-    unit_of [] [] [] (s.Return (Some (e.Binary int b.Less
+    main_unit [] [] [] (s.Return (Some (e.Binary int b.Less
     (e.Binary int b.ShiftLeft (e.Number int 1) (e.Number int 31)) (e.Number int 0))) ∷ []) []
 
 -- unsigned u; u = -1; return u > 1;
 abbrev pub unsigned_compares : TypedUnit
 unsigned_compares =
-    unit_of [] [] ((register unsigned) ∷ [])
+    main_unit [] [] ((register_local unsigned) ∷ [])
     (s.Local (record { number = 0; init = None }) ∷ s.Expression
     (e.Assign unsigned a.Set (e.Local unsigned 0) (e.Convert unsigned (e.Number int 18446744073709551615))) ∷
     s.Return (Some (e.Binary int b.Greater (e.Local unsigned 0) (e.Number unsigned 1))) ∷ []) []
@@ -212,7 +212,7 @@ unsigned_compares =
 -- char c; c = 100; c += 100; return c;
 abbrev pub compound_narrows : TypedUnit
 compound_narrows =
-    unit_of [] [] ((register char) ∷ []) (s.Local (record { number = 0; init = None }) ∷ s.Expression
+    main_unit [] [] ((register_local char) ∷ []) (s.Local (record { number = 0; init = None }) ∷ s.Expression
     (e.Assign char a.Set (e.Local char 0) (e.Convert char (e.Number int 100))) ∷ s.Expression
     (e.Assign char a.Add (e.Local char 0) (e.Number int 100)) ∷ s.Return (Some (e.Convert int (e.Local char 0)))
     ∷ []) []
@@ -220,53 +220,53 @@ compound_narrows =
 -- return 0 && putchar(65);
 abbrev pub and_needs_the_left : TypedUnit
 and_needs_the_left =
-    unit_of [] [] [] (s.Return (Some (e.Binary int b.LogicalAnd (e.Number int 0)
+    main_unit [] [] [] (s.Return (Some (e.Binary int b.LogicalAnd (e.Number int 0)
     (e.Call int (c.Builtin i.Putchar) ((e.Number int 65) ∷ [])))) ∷ []) []
 
 -- return 2 || putchar(65);
 abbrev pub or_needs_the_left : TypedUnit
 or_needs_the_left =
-    unit_of [] [] [] (s.Return (Some (e.Binary int b.LogicalOr (e.Number int 2)
+    main_unit [] [] [] (s.Return (Some (e.Binary int b.LogicalOr (e.Number int 2)
     (e.Call int (c.Builtin i.Putchar) ((e.Number int 65) ∷ [])))) ∷ []) []
 
 -- return 1 ? 5 : putchar(65);
 abbrev pub one_arm_is_chosen : TypedUnit
 one_arm_is_chosen =
-    unit_of [] [] [] (s.Return (Some (e.Conditional int (e.Number int 1) (e.Number int 5)
+    main_unit [] [] [] (s.Return (Some (e.Conditional int (e.Number int 1) (e.Number int 5)
     (e.Call int (c.Builtin i.Putchar) ((e.Number int 65) ∷ [])))) ∷ []) []
 
 -- return putchar(65), putchar(66), 3;
 abbrev pub commas_go_on : TypedUnit
 commas_go_on =
-    unit_of [] [] [] (s.Return (Some (e.Comma int
+    main_unit [] [] [] (s.Return (Some (e.Comma int
     ((e.Call int (c.Builtin i.Putchar) ((e.Number int 65) ∷ [])) ∷
     (e.Call int (c.Builtin i.Putchar) ((e.Number int 66) ∷ [])) ∷ (e.Number int 3) ∷ []))) ∷ []) []
 
 -- return putchar(65) - putchar(66);
 abbrev pub left_before_right : TypedUnit
 left_before_right =
-    unit_of [] [] [] (s.Return (Some (e.Binary int b.Subtract
+    main_unit [] [] [] (s.Return (Some (e.Binary int b.Subtract
     (e.Call int (c.Builtin i.Putchar) ((e.Number int 65) ∷ []))
     (e.Call int (c.Builtin i.Putchar) ((e.Number int 66) ∷ [])))) ∷ []) []
 
 -- int x; x = 4; return x++ + x;
 abbrev pub step_gives_the_old : TypedUnit
 step_gives_the_old =
-    unit_of [] [] ((register int) ∷ []) (s.Local (record { number = 0; init = None }) ∷ s.Expression
+    main_unit [] [] ((register_local int) ∷ []) (s.Local (record { number = 0; init = None }) ∷ s.Expression
     (e.Assign int a.Set (e.Local int 0) (e.Number int 4)) ∷ s.Return
     (Some (e.Binary int b.Add (e.Postfix int o.Increment (e.Local int 0)) (e.Local int 0))) ∷ []) []
 
 -- int x; x = 4; return ++x + x;
 abbrev pub prefix_gives_the_new : TypedUnit
 prefix_gives_the_new =
-    unit_of [] [] ((register int) ∷ []) (s.Local (record { number = 0; init = None }) ∷ s.Expression
+    main_unit [] [] ((register_local int) ∷ []) (s.Local (record { number = 0; init = None }) ∷ s.Expression
     (e.Assign int a.Set (e.Local int 0) (e.Number int 4)) ∷ s.Return
     (Some (e.Binary int b.Add (e.Unary int u.Increment (e.Local int 0)) (e.Local int 0))) ∷ []) []
 
 -- int i; i = 0; while (i < 3) { putchar(65); i++; }
 abbrev pub while_goes_round : TypedUnit
 while_goes_round =
-    unit_of [] [] ((register int) ∷ []) (s.Local (record { number = 0; init = None }) ∷ s.Expression
+    main_unit [] [] ((register_local int) ∷ []) (s.Local (record { number = 0; init = None }) ∷ s.Expression
     (e.Assign int a.Set (e.Local int 0) (e.Number int 0)) ∷ s.While
     (e.Binary int b.Less (e.Local int 0) (e.Number int 3))
     (s.Block (s.Expression (e.Call int (c.Builtin i.Putchar) ((e.Number int 65) ∷ [])) ∷ s.Expression
@@ -275,7 +275,7 @@ while_goes_round =
 -- int i; i = 0; while (i < 3) { putchar(65); i++; }
 abbrev pub rounds_take_turns : TypedUnit
 rounds_take_turns =
-    unit_of [] [] ((register int) ∷ []) (s.Local (record { number = 0; init = None }) ∷ s.Expression
+    main_unit [] [] ((register_local int) ∷ []) (s.Local (record { number = 0; init = None }) ∷ s.Expression
     (e.Assign int a.Set (e.Local int 0) (e.Number int 0)) ∷ s.While
     (e.Binary int b.Less (e.Local int 0) (e.Number int 3))
     (s.Block (s.Expression (e.Call int (c.Builtin i.Putchar) ((e.Number int 65) ∷ [])) ∷ s.Expression
@@ -284,13 +284,14 @@ rounds_take_turns =
 -- do putchar(65); while (0);
 abbrev pub do_goes_once : TypedUnit
 do_goes_once =
-    unit_of [] [] [] (s.Do (s.Expression (e.Call int (c.Builtin i.Putchar) ((e.Number int 65) ∷ [])))
+    main_unit [] [] [] (s.Do (s.Expression (e.Call int (c.Builtin i.Putchar) ((e.Number int 65) ∷ [])))
     (e.Number int 0) ∷ []) []
 
 -- for (int i = 0; i < 4; i++) { if (i == 1) continue; if (i == 3) break; putchar(i); }
 abbrev pub for_steps_and_continues : TypedUnit
 for_steps_and_continues =
-    unit_of [] [] ((register int) ∷ []) (s.For (f.Locals (record { number = 0; init = Some (e.Number int 0) } ∷ []))
+    main_unit [] [] ((register_local int) ∷ []) (s.For
+    (f.Locals (record { number = 0; init = Some (e.Number int 0) } ∷ []))
     (Some (e.Binary int b.Less (e.Local int 0) (e.Number int 4)))
     (Some (e.Postfix int o.Increment (e.Local int 0)))
     (s.Block (s.If (e.Binary int b.Equal (e.Local int 0) (e.Number int 1)) (s.Continue) None ∷ s.If
@@ -300,7 +301,7 @@ for_steps_and_continues =
 -- switch (2) { case 1: putchar(65); case 2: putchar(66); default: putchar(67); }
 abbrev pub switch_falls_through : TypedUnit
 switch_falls_through =
-    unit_of [] [] [] (s.Switch (e.Number int 2)
+    main_unit [] [] [] (s.Switch (e.Number int 2)
     ((record {
       label = (l.Case 1);
       statements =
@@ -320,7 +321,7 @@ switch_falls_through =
 -- switch (5) { default: putchar(65); break; case 1: putchar(66); }
 abbrev pub switch_takes_the_default : TypedUnit
 switch_takes_the_default =
-    unit_of [] [] [] (s.Switch (e.Number int 5)
+    main_unit [] [] [] (s.Switch (e.Number int 5)
     ((record {
       label = l.Default;
       statements =
@@ -335,13 +336,13 @@ switch_takes_the_default =
 -- while (1) return 6;
 abbrev pub return_leaves_the_loop : TypedUnit
 return_leaves_the_loop =
-    unit_of [] [] [] (s.While (e.Number int 1) (s.Return (Some (e.Number int 6))) ∷ []) []
+    main_unit [] [] [] (s.While (e.Number int 1) (s.Return (Some (e.Number int 6))) ∷ []) []
 
 -- int f(int n) { if (n == 0) return 1; return n * f(n - 1); } main: return f(4);
 abbrev pub calls_itself : TypedUnit
 calls_itself =
-    unit_of [] [] [] (s.Return (Some (e.Call int (c.Function 1) ((e.Number int 4) ∷ []))) ∷ [])
-    (function_of (codes "f") ((register int) ∷ []) 1
+    main_unit [] [] [] (s.Return (Some (e.Call int (c.Function 1) ((e.Number int 4) ∷ []))) ∷ [])
+    (int_function (codes "f") ((register_local int) ∷ []) 1
     (s.If (e.Binary int b.Equal (e.Local int 0) (e.Number int 0)) (s.Return (Some (e.Number int 1))) None ∷
     s.Return (Some (e.Binary int b.Multiply (e.Local int 0)
     (e.Call int (c.Function 1) ((e.Binary int b.Subtract (e.Local int 0) (e.Number int 1)) ∷ [])))) ∷ []) ∷ [])
@@ -349,8 +350,8 @@ calls_itself =
 -- the same, with one turn less
 abbrev pub call_takes_a_turn : TypedUnit
 call_takes_a_turn =
-    unit_of [] [] [] (s.Return (Some (e.Call int (c.Function 1) ((e.Number int 4) ∷ []))) ∷ [])
-    (function_of (codes "f") ((register int) ∷ []) 1
+    main_unit [] [] [] (s.Return (Some (e.Call int (c.Function 1) ((e.Number int 4) ∷ []))) ∷ [])
+    (int_function (codes "f") ((register_local int) ∷ []) 1
     (s.If (e.Binary int b.Equal (e.Local int 0) (e.Number int 0)) (s.Return (Some (e.Number int 1))) None ∷
     s.Return (Some (e.Binary int b.Multiply (e.Local int 0)
     (e.Call int (c.Function 1) ((e.Binary int b.Subtract (e.Local int 0) (e.Number int 1)) ∷ [])))) ∷ []) ∷ [])
@@ -358,7 +359,7 @@ call_takes_a_turn =
 -- int x; int *p; p = &x; *p = 5; return x;
 abbrev pub written_through_a_pointer : TypedUnit
 written_through_a_pointer =
-    unit_of [] [] ((object int) ∷ (register (t.Pointer int)) ∷ [])
+    main_unit [] [] ((memory_local int) ∷ (register_local (t.Pointer int)) ∷ [])
     (s.Local (record { number = 0; init = None }) ∷ s.Local (record { number = 1; init = None }) ∷ s.Expression
     (e.Assign (t.Pointer int) a.Set (e.Local (t.Pointer int) 1)
     (e.Unary (t.Pointer int) u.Address (e.Local int 0))) ∷ s.Expression
@@ -368,7 +369,7 @@ written_through_a_pointer =
 -- int a[2]; a[0] = 1; 1[a] = 2; return a[0] * 10 + a[1];
 abbrev pub elements_stand_apart : TypedUnit
 elements_stand_apart =
-    unit_of [] [] ((object (t.Array int 2)) ∷ [])
+    main_unit [] [] ((memory_local (t.Array int 2)) ∷ [])
     (s.Local (record { number = 0; init = None }) ∷ s.Expression
     (e.Assign int a.Set (e.Index int (e.Convert (t.Pointer int) (e.Local (t.Array int 2) 0)) (e.Number int 0))
     (e.Number int 1)) ∷ s.Expression (e.Assign int a.Set
@@ -380,7 +381,7 @@ elements_stand_apart =
 -- int a[2]; return &a[2] - a;
 abbrev pub pointers_have_a_distance : TypedUnit
 pointers_have_a_distance =
-    unit_of [] [] ((object (t.Array int 2)) ∷ [])
+    main_unit [] [] ((memory_local (t.Array int 2)) ∷ [])
     (s.Local (record { number = 0; init = None }) ∷ s.Return
     (Some (e.Convert int (e.Binary long b.Subtract
     (e.Unary (t.Pointer int) u.Address (e.Index int (e.Convert (t.Pointer int) (e.Local (t.Array int 2) 0))
@@ -389,7 +390,7 @@ pointers_have_a_distance =
 -- int g[2] = {261}; return g[0] == 261 && g[1] == 0;
 abbrev pub globals_begin : TypedUnit
 globals_begin =
-    unit_of [] (record {
+    main_unit [] (record {
       name = codes "g";
       size = 8;
       align = 4;
@@ -407,7 +408,7 @@ globals_begin =
 -- int g = 7; int *p = &g; return *p;
 abbrev pub globals_hold_addresses : TypedUnit
 globals_hold_addresses =
-    unit_of [] (record {
+    main_unit [] (record {
       name = codes "g";
       size = 4;
       align = 4;
@@ -430,7 +431,7 @@ globals_hold_addresses =
 -- struct { char a; int b; } s, *q; s.b = 3; s.a = 1; q = &s; return q->b * 10 + s.a;
 abbrev pub members_have_places : TypedUnit
 members_have_places =
-    unit_of (record {
+    main_unit (record {
       tag = codes "pair";
       complete = true;
       members =
@@ -440,7 +441,7 @@ members_have_places =
       align = 4;
       depth = 2;
     } ∷ []) []
-    ((object (t.Struct 0)) ∷ (register (t.Pointer (t.Struct 0))) ∷ [])
+    ((memory_local (t.Struct 0)) ∷ (register_local (t.Pointer (t.Struct 0))) ∷ [])
     (s.Local (record { number = 0; init = None }) ∷ s.Local (record { number = 1; init = None }) ∷ s.Expression
     (e.Assign int a.Set (e.Field int (e.Local (t.Struct 0) 0) 1) (e.Number int 3)) ∷ s.Expression
     (e.Assign char a.Set (e.Field char (e.Local (t.Struct 0) 0) 0) (e.Convert char (e.Number int 1))) ∷
@@ -452,7 +453,7 @@ members_have_places =
 -- struct { char a; int b; } s, r; s.b = 3; r = s; return r.b;
 abbrev pub structs_are_copied : TypedUnit
 structs_are_copied =
-    unit_of (record {
+    main_unit (record {
       tag = codes "pair";
       complete = true;
       members =
@@ -461,7 +462,7 @@ structs_are_copied =
       size = 8;
       align = 4;
       depth = 2;
-    } ∷ []) [] ((object (t.Struct 0)) ∷ (object (t.Struct 0)) ∷ [])
+    } ∷ []) [] ((memory_local (t.Struct 0)) ∷ (memory_local (t.Struct 0)) ∷ [])
     (s.Local (record { number = 0; init = None }) ∷ s.Local (record { number = 1; init = None }) ∷ s.Expression
     (e.Assign int a.Set (e.Field int (e.Local (t.Struct 0) 0) 1) (e.Number int 3)) ∷ s.Expression
     (e.Assign (t.Struct 0) a.Set (e.Local (t.Struct 0) 1) (e.Local (t.Struct 0) 0)) ∷ s.Return
@@ -470,8 +471,8 @@ structs_are_copied =
 -- int f(int n) { int *p; p = &n; *p = *p + 1; return n; } main: return f(4);
 abbrev pub parameters_are_objects : TypedUnit
 parameters_are_objects =
-    unit_of [] [] [] (s.Return (Some (e.Call int (c.Function 1) ((e.Number int 4) ∷ []))) ∷ [])
-    (function_of (codes "f") ((object int) ∷ (register (t.Pointer int)) ∷ []) 1
+    main_unit [] [] [] (s.Return (Some (e.Call int (c.Function 1) ((e.Number int 4) ∷ []))) ∷ [])
+    (int_function (codes "f") ((memory_local int) ∷ (register_local (t.Pointer int)) ∷ []) 1
     (s.Local (record { number = 1; init = None }) ∷ s.Expression
     (e.Assign (t.Pointer int) a.Set (e.Local (t.Pointer int) 1)
     (e.Unary (t.Pointer int) u.Address (e.Local int 0))) ∷ s.Expression
@@ -482,19 +483,19 @@ parameters_are_objects =
 -- point 1: int x; return x;
 abbrev pub unset_register : TypedUnit
 unset_register =
-    unit_of [] [] ((register int) ∷ []) (s.Local (record { number = 0; init = None }) ∷ s.Return
+    main_unit [] [] ((register_local int) ∷ []) (s.Local (record { number = 0; init = None }) ∷ s.Return
     (Some (e.Local int 0)) ∷ []) []
 
 -- point 1: int x; return *&x;
 abbrev pub unset_cell : TypedUnit
 unset_cell =
-    unit_of [] [] ((object int) ∷ []) (s.Local (record { number = 0; init = None }) ∷ s.Return
+    main_unit [] [] ((memory_local int) ∷ []) (s.Local (record { number = 0; init = None }) ∷ s.Return
     (Some (e.Unary int u.Dereference (e.Unary (t.Pointer int) u.Address (e.Local int 0)))) ∷ []) []
 
 -- point 2: int a[2]; a[2] = 1;
 abbrev pub outside_the_object : TypedUnit
 outside_the_object =
-    unit_of [] [] ((object (t.Array int 2)) ∷ [])
+    main_unit [] [] ((memory_local (t.Array int 2)) ∷ [])
     (s.Local (record { number = 0; init = None }) ∷ s.Expression
     (e.Assign int a.Set (e.Index int (e.Convert (t.Pointer int) (e.Local (t.Array int 2) 0)) (e.Number int 2))
     (e.Number int 1)) ∷ []) []
@@ -502,12 +503,12 @@ outside_the_object =
 -- point 2: return *(int *)0;
 abbrev pub through_null : TypedUnit
 through_null =
-    unit_of [] [] [] (s.Return (Some (e.Unary int u.Dereference (e.Cast (t.Pointer int) (e.Number int 0)))) ∷ []) []
+    main_unit [] [] [] (s.Return (Some (e.Unary int u.Dereference (e.Cast (t.Pointer int) (e.Number int 0)))) ∷ []) []
 
 -- point 2: int a[2]; *(int *)((char *)a + 1) = 1;
-abbrev pub misaligned : TypedUnit
-misaligned =
-    unit_of [] [] ((object (t.Array int 2)) ∷ [])
+abbrev pub misaligned_access : TypedUnit
+misaligned_access =
+    main_unit [] [] ((memory_local (t.Array int 2)) ∷ [])
     (s.Local (record { number = 0; init = None }) ∷ s.Expression
     (e.Assign int a.Set (e.Unary int u.Dereference
     (e.Cast (t.Pointer int) (e.Binary (t.Pointer char) b.Add
@@ -517,7 +518,7 @@ misaligned =
 -- point 3: int a[2]; a + 3;
 abbrev pub moved_outside : TypedUnit
 moved_outside =
-    unit_of [] [] ((object (t.Array int 2)) ∷ [])
+    main_unit [] [] ((memory_local (t.Array int 2)) ∷ [])
     (s.Local (record { number = 0; init = None }) ∷ s.Expression
     (e.Binary (t.Pointer int) b.Add (e.Convert (t.Pointer int) (e.Local (t.Array int 2) 0)) (e.Number int 3))
     ∷ []) []
@@ -525,13 +526,13 @@ moved_outside =
 -- point 3: (int *)0 + 0;
 abbrev pub null_moved : TypedUnit
 null_moved =
-    unit_of [] [] [] (s.Expression (e.Binary (t.Pointer int) b.Add (e.Cast (t.Pointer int) (e.Number int 0))
+    main_unit [] [] [] (s.Expression (e.Binary (t.Pointer int) b.Add (e.Cast (t.Pointer int) (e.Number int 0))
     (e.Number int 0)) ∷ []) []
 
 -- point 4: int *p; { int x; x = 1; p = &x; } return *p;
 abbrev pub dead_object : TypedUnit
 dead_object =
-    unit_of [] [] ((register (t.Pointer int)) ∷ (object int) ∷ [])
+    main_unit [] [] ((register_local (t.Pointer int)) ∷ (memory_local int) ∷ [])
     (s.Local (record { number = 0; init = None }) ∷ s.Block
     (s.Local (record { number = 1; init = None }) ∷ s.Expression
     (e.Assign int a.Set (e.Local int 1) (e.Number int 1)) ∷ s.Expression
@@ -542,7 +543,7 @@ dead_object =
 -- point 4: int *p; { int x; p = &x; } return !p;
 abbrev pub dead_pointer_tested : TypedUnit
 dead_pointer_tested =
-    unit_of [] [] ((register (t.Pointer int)) ∷ (object int) ∷ [])
+    main_unit [] [] ((register_local (t.Pointer int)) ∷ (memory_local int) ∷ [])
     (s.Local (record { number = 0; init = None }) ∷ s.Block
     (s.Local (record { number = 1; init = None }) ∷ s.Expression
     (e.Assign (t.Pointer int) a.Set (e.Local (t.Pointer int) 0)
@@ -552,7 +553,7 @@ dead_pointer_tested =
 -- point 5: int x, y; return &x < &y;
 abbrev pub compared_apart : TypedUnit
 compared_apart =
-    unit_of [] [] ((object int) ∷ (object int) ∷ [])
+    main_unit [] [] ((memory_local int) ∷ (memory_local int) ∷ [])
     (s.Local (record { number = 0; init = None }) ∷ s.Local (record { number = 1; init = None }) ∷ s.Return
     (Some (e.Binary int b.Less (e.Unary (t.Pointer int) u.Address (e.Local int 0))
     (e.Unary (t.Pointer int) u.Address (e.Local int 1)))) ∷ []) []
@@ -560,7 +561,7 @@ compared_apart =
 -- point 6: int x, y; return &x + 1 == &y;
 abbrev pub compared_at_the_end : TypedUnit
 compared_at_the_end =
-    unit_of [] [] ((object int) ∷ (object int) ∷ [])
+    main_unit [] [] ((memory_local int) ∷ (memory_local int) ∷ [])
     (s.Local (record { number = 0; init = None }) ∷ s.Local (record { number = 1; init = None }) ∷ s.Return
     (Some (e.Binary int b.Equal (e.Binary (t.Pointer int) b.Add
     (e.Unary (t.Pointer int) u.Address (e.Local int 0)) (e.Number int 1))
@@ -569,18 +570,18 @@ compared_at_the_end =
 -- point 7: return 1 << 32;
 abbrev pub shifted_too_far : TypedUnit
 shifted_too_far =
-    unit_of [] [] [] (s.Return (Some (e.Binary int b.ShiftLeft (e.Number int 1) (e.Number int 32))) ∷ []) []
+    main_unit [] [] [] (s.Return (Some (e.Binary int b.ShiftLeft (e.Number int 1) (e.Number int 32))) ∷ []) []
 
 -- point 7: return 1 >> -1;
 abbrev pub shifted_below_zero : TypedUnit
 shifted_below_zero =
-    unit_of [] [] [] (s.Return (Some (e.Binary int b.ShiftRight (e.Number int 1)
+    main_unit [] [] [] (s.Return (Some (e.Binary int b.ShiftRight (e.Number int 1)
     (e.Number int 18446744073709551615))) ∷ []) []
 
 -- point 8: "a"[0] = 98;
 abbrev pub literal_written : TypedUnit
 literal_written =
-    unit_of [] (record { name = []; size = 2; align = 1; offset = 0; writable = false; cells = (d.Byte 97 ∷ []) }
+    main_unit [] (record { name = []; size = 2; align = 1; offset = 0; writable = false; cells = (d.Byte 97 ∷ []) }
     ∷ []) [] (s.Expression (e.Assign char a.Set
     (e.Index char (e.Convert (t.Pointer char) (e.Global (t.Array char 2) 0)) (e.Number int 0))
     (e.Convert char (e.Number int 98))) ∷ []) []
@@ -588,18 +589,18 @@ literal_written =
 -- point 9: int f(void) {} main: return f();
 abbrev pub no_value_used : TypedUnit
 no_value_used =
-    unit_of [] [] [] (s.Return (Some (e.Call int (c.Function 1) [])) ∷ []) (function_of (codes "f") [] 0 [] ∷ [])
+    main_unit [] [] [] (s.Return (Some (e.Call int (c.Function 1) [])) ∷ []) (int_function (codes "f") [] 0 [] ∷ [])
 
 -- int f(void) {} main: f(); return 2;
 abbrev pub no_value_left_alone : TypedUnit
 no_value_left_alone =
-    unit_of [] [] [] (s.Expression (e.Call int (c.Function 1) []) ∷ s.Return (Some (e.Number int 2)) ∷ [])
-    (function_of (codes "f") [] 0 [] ∷ [])
+    main_unit [] [] [] (s.Expression (e.Call int (c.Function 1) []) ∷ s.Return (Some (e.Number int 2)) ∷ [])
+    (int_function (codes "f") [] 0 [] ∷ [])
 
 -- point 10: int *p; p = 0 ? p : (int *)&p; return *(char *)&p;
 abbrev pub pointer_read_in_part : TypedUnit
 pointer_read_in_part =
-    unit_of [] [] ((object (t.Pointer int)) ∷ [])
+    main_unit [] [] ((memory_local (t.Pointer int)) ∷ [])
     (s.Local (record { number = 0; init = None }) ∷ s.Expression
     (e.Assign (t.Pointer int) a.Set (e.Local (t.Pointer int) 0)
     (e.Cast (t.Pointer int) (e.Unary (t.Pointer (t.Pointer int)) u.Address (e.Local (t.Pointer int) 0)))) ∷
@@ -610,7 +611,7 @@ pointer_read_in_part =
 -- point 11: int a[3]; *(struct s *)&a[1] = *(struct s *)a; where struct s has two members of type int
 abbrev pub copy_overlaps_itself : TypedUnit
 copy_overlaps_itself =
-    unit_of (record {
+    main_unit (record {
       tag = codes "pair";
       complete = true;
       members =
@@ -619,7 +620,7 @@ copy_overlaps_itself =
       size = 8;
       align = 4;
       depth = 2;
-    } ∷ []) [] ((object (t.Array int 3)) ∷ [])
+    } ∷ []) [] ((memory_local (t.Array int 3)) ∷ [])
     (s.Local (record { number = 0; init = None }) ∷ s.Expression
     (e.Assign (t.Struct 0) a.Set (e.Unary (t.Struct 0) u.Dereference
     (e.Cast (t.Pointer (t.Struct 0)) (e.Unary (t.Pointer int) u.Address
@@ -632,7 +633,7 @@ abbrev pub units : List TypedUnit
 units =
     returns_seven ∷ returns_nothing ∷ status_is_a_byte ∷ puts_a_byte ∷ gets_a_byte ∷ gets_the_end ∷ aborts ∷
     exits ∷ has_no_turn ∷ has_turns_enough ∷ sum_overflows ∷ product_overflows ∷ unsigned_wraps ∷
-    narrowing_wraps ∷ increment_overflows ∷ minus_least ∷ division_by_zero ∷ least_by_minus_one ∷
+    narrowing_wraps ∷ increment_overflows ∷ minus_least ∷ zero_divisor ∷ least_by_minus_one ∷
     remainder_of_least ∷ division_truncates ∷ remainder_has_the_sign ∷ shift_keeps_the_sign ∷
     shift_keeps_low_bits ∷ unsigned_compares ∷ compound_narrows ∷ and_needs_the_left ∷ or_needs_the_left ∷
     one_arm_is_chosen ∷ commas_go_on ∷ left_before_right ∷ step_gives_the_old ∷ prefix_gives_the_new ∷
@@ -640,7 +641,7 @@ units =
     switch_takes_the_default ∷ return_leaves_the_loop ∷ calls_itself ∷ call_takes_a_turn ∷
     written_through_a_pointer ∷ elements_stand_apart ∷ pointers_have_a_distance ∷ globals_begin ∷
     globals_hold_addresses ∷ members_have_places ∷ structs_are_copied ∷ parameters_are_objects ∷
-    unset_register ∷ unset_cell ∷ outside_the_object ∷ through_null ∷ misaligned ∷ moved_outside ∷ null_moved ∷
+    unset_register ∷ unset_cell ∷ outside_the_object ∷ through_null ∷ misaligned_access ∷ moved_outside ∷ null_moved ∷
     dead_object ∷ dead_pointer_tested ∷ compared_apart ∷ compared_at_the_end ∷ shifted_too_far ∷
     shifted_below_zero ∷ literal_written ∷ no_value_used ∷ no_value_left_alone ∷ pointer_read_in_part ∷
     copy_overlaps_itself ∷ []
@@ -649,48 +650,48 @@ units =
 
 -- long l; return l; without a conversion
 abbrev pub result_is_not_converted : TypedUnit
-result_is_not_converted = unit_of [] [] (register long ∷ []) (s.Return (Some (e.Local long 0)) ∷ []) []
+result_is_not_converted = main_unit [] [] (register_local long ∷ []) (s.Return (Some (e.Local long 0)) ∷ []) []
 
 -- 1 + 2u, of which no side is converted
 abbrev pub operand_is_not_converted : TypedUnit
 operand_is_not_converted =
-    unit_of [] [] [] (s.Expression (e.Binary unsigned b.Add (e.Number int 1) (e.Number unsigned 2)) ∷ []) []
+    main_unit [] [] [] (s.Expression (e.Binary unsigned b.Add (e.Number int 1) (e.Number unsigned 2)) ∷ []) []
 
 -- 1 = 2;
 abbrev pub number_is_assigned : TypedUnit
-number_is_assigned = unit_of [] [] [] (s.Expression (e.Assign int a.Set (e.Number int 1) (e.Number int 2)) ∷ []) []
+number_is_assigned = main_unit [] [] [] (s.Expression (e.Assign int a.Set (e.Number int 1) (e.Number int 2)) ∷ []) []
 
 -- &x, of a local that a register holds
 abbrev pub register_has_an_address : TypedUnit
 register_has_an_address =
-    unit_of [] [] (register int ∷ []) (s.Expression (e.Unary (t.Pointer int) u.Address (e.Local int 0)) ∷ []) []
+    main_unit [] [] (register_local int ∷ []) (s.Expression (e.Unary (t.Pointer int) u.Address (e.Local int 0)) ∷ []) []
 
 -- a word that is above every value of `int`
 abbrev pub number_is_too_large : TypedUnit
-number_is_too_large = unit_of [] [] [] (s.Return (Some (e.Number int 2147483648)) ∷ []) []
+number_is_too_large = main_unit [] [] [] (s.Return (Some (e.Number int 2147483648)) ∷ []) []
 
 -- a local that the function does not have
 abbrev pub local_is_missing : TypedUnit
-local_is_missing = unit_of [] [] [] (s.Return (Some (e.Local int 0)) ∷ []) []
+local_is_missing = main_unit [] [] [] (s.Return (Some (e.Local int 0)) ∷ []) []
 
 -- putchar();
 abbrev pub argument_is_missing : TypedUnit
-argument_is_missing = unit_of [] [] [] (s.Return (Some (e.Call int (c.Builtin i.Putchar) [])) ∷ []) []
+argument_is_missing = main_unit [] [] [] (s.Return (Some (e.Call int (c.Builtin i.Putchar) [])) ∷ []) []
 
 -- int *p; p = 1;
 abbrev pub one_becomes_a_pointer : TypedUnit
 one_becomes_a_pointer =
-    unit_of [] [] (register (t.Pointer int) ∷ []) (s.Expression (e.Assign (t.Pointer int) a.Set
+    main_unit [] [] (register_local (t.Pointer int) ∷ []) (s.Expression (e.Assign (t.Pointer int) a.Set
     (e.Local (t.Pointer int) 0) (e.Convert (t.Pointer int) (e.Number int 1))) ∷ []) []
 
 -- break;
 abbrev pub break_leaves_nothing : TypedUnit
-break_leaves_nothing = unit_of [] [] [] (s.Break ∷ []) []
+break_leaves_nothing = main_unit [] [] [] (s.Break ∷ []) []
 
 -- switch (1) {case 2: case 2: ;}
 abbrev pub label_stands_twice : TypedUnit
 label_stands_twice =
-    unit_of [] [] [] (s.Switch (e.Number int 1) (record { label = l.Case 2; statements = [] } ∷ record {
+    main_unit [] [] [] (s.Switch (e.Number int 1) (record { label = l.Case 2; statements = [] } ∷ record {
       label = l.Case 2;
       statements = [];
     } ∷ []) ∷ []) []

@@ -18,7 +18,7 @@ use Rattle.c_typed_tree.specs.View.{type_view, stmt_view}
 use Rattle.c_typed_tree.specs.Layout.{size_of}
 use Rattle.c_typed_tree.specs.Lawful.{is_main}
 use Rattle.c_semantics.specs.Reasons.{UsesNoValue}
-use Rattle.c_semantics.specs.Runs.{Run, and_then, ◌>>=◌, ◌>>◌, pure, undefined, no_turn, turn, use_value, number, write_register}
+use Rattle.c_semantics.specs.Runs.{Run, and_then, ◌>>=◌, ◌>>◌, pure, undefined, no_turn, turn, use_value, use_number, write_register}
 use Rattle.c_semantics.specs.Objects.{write, Scope, no_scope, with_local_object, with_locals, local_place}
 use Rattle.c_semantics.specs.Operators.{test}
 use Rattle.c_semantics.specs.Evaluates.{Functions, eval, choose}
@@ -67,14 +67,14 @@ declared_first (q.Locals ds) = map (λ d. d.number) ds
 declared_first first = []
 
 -- the label that a `switch` goes to: that of the value where there is one, else the default (C99 6.8.4.2)
-abbrev pub is_label_of : Option ℕ → TLabel → Bool
-is_label_of (Some n) (l.Case m) = n == m
-is_label_of None l.Default = true
-is_label_of _ label = false
+abbrev pub is_chosen_label : Option ℕ → TLabel → Bool
+is_chosen_label (Some n) (l.Case m) = n == m
+is_chosen_label None l.Default = true
+is_chosen_label _ label = false
 
 abbrev pub has_label : Option ℕ → Sections → Bool
 has_label target no_sections = false
-has_label target (more_sections label ss rest) = is_label_of target label || has_label target rest
+has_label target (more_sections label ss rest) = is_chosen_label target label || has_label target rest
 
 abbrev pub target_in : ℕ → Sections → Option ℕ
 target_in n sections = if has_label (Some n) sections then Some n else None
@@ -126,13 +126,13 @@ body_of ds prev n f vs =
     with_parameters ds 0 (take f.params f.locals) vs (λ scope. prev n scope (stmt_view f.body)) no_scope
 
 -- a call takes a turn, and then the function is entered
-abbrev pub call_of : List StructDef → Rooms → Level → (function : ℕ) → Option TypedFn → List Value → Run Value
-call_of ds rooms prev n None vs = undefined UsesNoValue
-call_of ds rooms prev n (Some f) vs =
+abbrev pub call_with_turn : List StructDef → Rooms → Level → (function : ℕ) → Option TypedFn → List Value → Run Value
+call_with_turn ds rooms prev n None vs = undefined UsesNoValue
+call_with_turn ds rooms prev n (Some f) vs =
     turn >> within_call rooms n (body_of ds prev n f vs >>= value_of_call (is_main f))
 
 abbrev pub calls_of : TypedUnit → Rooms → Level → Functions
-calls_of unit rooms prev n vs = call_of unit.structs rooms prev n (slice_get unit.functions n) vs
+calls_of unit rooms prev n vs = call_with_turn unit.structs rooms prev n (slice_get unit.functions n) vs
 
 -- ---- statements
 
@@ -191,7 +191,7 @@ module _ (ds : List StructDef) (ls : List Local) (functions : Functions) where
           (pure Goes)))
           scope
       exec scope (q.Switch x sections) =
-          eval ds ls functions scope x >>= number
+          eval ds ls functions scope x >>= use_number
           >>= (λ n. exec_from scope (target_in n sections) sections) >>= after_switch
       exec scope q.Break = pure Breaks
       exec scope q.Continue = pure Continues
@@ -216,21 +216,21 @@ module _ (ds : List StructDef) (ls : List Local) (functions : Functions) where
       pub exec_from : Scope → Option ℕ → Sections → Run StatementFlow
       exec_from scope target no_sections = pure Goes
       exec_from scope target (more_sections label ss rest) =
-          if is_label_of target label then (execs scope ss >>= and_next (exec_sections scope rest))
+          if is_chosen_label target label then (execs scope ss >>= and_next (exec_sections scope rest))
           else exec_from scope target rest
 
 -- ---- levels
 
-abbrev pub locals_of : Option TypedFn → List Local
-locals_of None = []
-locals_of (Some f) = f.locals
+abbrev pub function_locals : Option TypedFn → List Local
+function_locals None = []
+function_locals (Some f) = f.locals
 
 -- what the statements of a unit do, given what they do one level down
-abbrev pub above : TypedUnit → Rooms → Level → Level
-above unit rooms prev n scope s =
-    exec unit.structs (locals_of (slice_get unit.functions n)) (calls_of unit rooms prev) (prev n) scope s
+abbrev pub level_above : TypedUnit → Rooms → Level → Level
+level_above unit rooms prev n scope s =
+    exec unit.structs (function_locals (slice_get unit.functions n)) (calls_of unit rooms prev) (prev n) scope s
 
 -- what they do in at most so many levels; below these there is no turn
 abbrev pub level : TypedUnit → Rooms → ℕ → Level
 level unit rooms zero n scope s = no_turn
-level unit rooms (suc m) n scope s = above unit rooms (level unit rooms m) n scope s
+level unit rooms (suc m) n scope s = level_above unit rooms (level unit rooms m) n scope s

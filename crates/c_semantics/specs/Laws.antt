@@ -5,7 +5,7 @@ use Rattle.mem_model.specs.Ending.{ending_peak}
 use Rattle.c_typed_tree.specs.declared.units.TypedUnit.{TypedUnit}
 use Rattle.c_mean.specs.Behaviour as b
 use Rattle.c_mean.specs.Behaviour.{CBehaviour, output_of}
-use Rattle.c_semantics.specs.Behaves.{run, behave_c, IsTurns}
+use Rattle.c_semantics.specs.Behaves.{run_main, behave_c, IsTurns}
 
 -- an ending, or being undefined, is the same with more turns
 abbrev pub EndingsStay : Type 0
@@ -23,7 +23,7 @@ OutputsGrow =
 abbrev pub UnitPeaksRise : Type 0
 UnitPeaksRise =
     (unit : TypedUnit) (rooms : Rooms) (input : List ℕ) (n k : ℕ) →
-    ending_peak (run unit rooms input n) ≤ ending_peak (run unit rooms input (n + k))
+    ending_peak (run_main unit rooms input n) ≤ ending_peak (run_main unit rooms input (n + k))
 
 -- within two numbers of turns a run does not end in two ways
 abbrev pub UnitHasOneEnding : Type 0

@@ -20,7 +20,7 @@ use Rattle.c_typed_tree.specs.Types.{PlainType, Void, Int, Pointer, Array, Struc
 use Rattle.c_typed_tree.specs.View.{type_view}
 use Rattle.c_typed_tree.specs.Layout.{size_of, align_of}
 use Rattle.c_semantics.specs.Reasons.{Reason, AccessesOutside, MovesOutside, UsesDeadObject, UsesNoValue, OverlapsItself, reason_of}
-use Rattle.c_semantics.specs.Runs.{CallState, in_world, Run, and_then, ◌>>=◌, ◌>>◌, pure, undefined, on_memory, set_memory, or_undefined, use_value, number, read_register, write_register}
+use Rattle.c_semantics.specs.Runs.{CallState, in_world, Run, and_then, ◌>>=◌, ◌>>◌, pure, undefined, on_memory, set_memory, or_undefined, use_value, use_number, read_register, write_register}
 
 -- where a value stands: a local that is no object, or a pointer to it
 pub data ValuePlace : Type 0 where
@@ -28,13 +28,13 @@ pub data ValuePlace : Type 0 where
   At : Value → ValuePlace
 
 -- the first byte of an object
-abbrev pub start_of : (object : ℕ) → Value
-start_of object = Address (record { object = object; offset = pos 0 })
+abbrev pub start_pointer : (object : ℕ) → Value
+start_pointer object = Address (record { object = object; offset = pos 0 })
 
 -- the integer type of a type; what is none has the type of a word
-abbrev pub integer_of : PlainType → IntegerType
-integer_of (Int bytes signed) = unwrap_or (integer_type bytes signed) i.UnsignedLong
-integer_of _ = i.UnsignedLong
+abbrev pub integer_or_word : PlainType → IntegerType
+integer_or_word (Int bytes signed) = unwrap_or (integer_type bytes signed) i.UnsignedLong
+integer_or_word _ = i.UnsignedLong
 
 -- ---- access
 
@@ -64,13 +64,13 @@ copy size align (Address p) (Address q) = on_memory (λ m. copy_cells m p q size
 copy size align to from = undefined AccessesOutside
 
 -- a number that was loaded, as its type holds it
-abbrev pub as_integer : IntegerType → Value → Run Value
-as_integer t v = number v >>= (λ n. pure (Word (extension t n)))
+abbrev pub integer_value : IntegerType → Value → Run Value
+integer_value t v = use_number v >>= (λ n. pure (Word (extension t n)))
 
 -- the value at a pointer, by its type. That of a struct or an array is the pointer
 abbrev pub read_at : PlainType → Value → Run Value
 read_at Void p = undefined UsesNoValue
-read_at (Int bytes signed) p = load bytes false p >>= as_integer (integer_of (Int bytes signed))
+read_at (Int bytes signed) p = load bytes false p >>= integer_value (integer_or_word (Int bytes signed))
 read_at (Pointer target) p = load 8 true p
 read_at (Array element n) p = pure p
 read_at (Struct n) p = pure p
@@ -78,7 +78,7 @@ read_at (Struct n) p = pure p
 -- a value as its type holds it
 abbrev pub as_held : PlainType → Value → Run Value
 as_held Void v = pure v
-as_held (Int bytes signed) v = as_integer (integer_of (Int bytes signed)) v
+as_held (Int bytes signed) v = integer_value (integer_or_word (Int bytes signed)) v
 as_held (Pointer target) v = pure v
 as_held (Array element n) v = pure v
 as_held (Struct n) v = pure v
@@ -108,9 +108,9 @@ write ds ty (Register k) v = use_value UsesNoValue v >>= write_register k
 write ds ty (At p) v = write_at ds ty p v
 
 -- the pointer to a place; a local that is no object has none
-abbrev pub pointer_to : ValuePlace → Run Value
-pointer_to (Register k) = undefined AccessesOutside
-pointer_to (At p) = pure p
+abbrev pub place_pointer : ValuePlace → Run Value
+place_pointer (Register k) = undefined AccessesOutside
+place_pointer (At p) = pure p
 
 -- ---- moving
 
@@ -139,7 +139,7 @@ move_elements p by = on_memory (λ m. or_undefined (move_reason m p) (element_pl
 
 -- a pointer moved by a number of elements, as its type has it
 abbrev pub move_by : List StructDef → PlainType → IntegerType → Value → Value → Run Value
-move_by ds element t p v = number v >>= (λ n. move_elements p (value t n *ℤ pos (size_of ds element)))
+move_by ds element t p v = use_number v >>= (λ n. move_elements p (value t n *ℤ pos (size_of ds element)))
 
 -- the place of a member in bytes (C99 6.5.2.3)
 abbrev pub member_place : Option Member → ℕ
@@ -163,19 +163,19 @@ Scope = ℕ → Option ℕ
 abbrev pub no_scope : Scope
 no_scope = λ k. None
 
-abbrev pub with_object : Scope → (local object : ℕ) → Scope
-with_object scope k object = λ j. if j == k then Some object else scope j
+abbrev pub bind_object : Scope → (local object : ℕ) → Scope
+bind_object scope k object = λ j. if j == k then Some object else scope j
 
 -- an object ends where a run that goes on leaves its scope
-abbrev pub leave : {A : Type 0} → (object : ℕ) → Evaluation A CallState → Evaluation A CallState
-leave object r =
+abbrev pub leave_scope : {A : Type 0} → (object : ℕ) → Evaluation A CallState → Evaluation A CallState
+leave_scope object r =
     and_then r (λ a s. Gives a (in_world s (with_memory s.world (end_object s.world.outer.memory object))))
 
 -- a local is an object while a run lasts (C99 6.2.4)
 abbrev pub with_local_object : {A : Type 0} → (size local : ℕ) → (Scope → Run A) → Scope → Run A
 with_local_object size k run scope = λ s.
-    leave (length s.world.outer.memory)
-    (run (with_object scope k (length s.world.outer.memory))
+    leave_scope (length s.world.outer.memory)
+    (run (bind_object scope k (length s.world.outer.memory))
     (in_world s (with_memory s.world (begin_object s.world.outer.memory size true))))
 
 -- a local begins: an object, or a register that was not written
@@ -195,4 +195,5 @@ with_locals ds ls (k ∷ ks) run scope = with_local ds k (slice_get ls k) (with_
 abbrev pub local_place : Scope → (local : ℕ) → Option Local → Run ValuePlace
 local_place scope k None = undefined AccessesOutside
 local_place scope k (Some l) =
-    if l.in_memory then or_undefined UsesDeadObject (scope k) >>= (λ o. pure (At (start_of o))) else pure (Register k)
+    if l.in_memory then or_undefined UsesDeadObject (scope k) >>= (λ o. pure (At (start_pointer o)))
+    else pure (Register k)

@@ -25,8 +25,8 @@ use Rattle.c_typed_tree.specs.Types.{PlainType, Void, Int, Pointer}
 use Rattle.c_typed_tree.specs.Layout.{size_of}
 use Rattle.c_typed_tree.specs.Constants.{integers_with}
 use Rattle.c_semantics.specs.Reasons.{Reason, UsesDeadObject, ComparesApart, ComparesAtEnd, ShiftsTooFar, UsesNoValue}
-use Rattle.c_semantics.specs.Runs.{Run, ◌>>=◌, pure, undefined, trap, on_memory, or_undefined, use_value, number}
-use Rattle.c_semantics.specs.Objects.{integer_of, stands_inside, move_elements, move_by}
+use Rattle.c_semantics.specs.Runs.{Run, ◌>>=◌, pure, undefined, trap, on_memory, or_undefined, use_value, use_number}
+use Rattle.c_semantics.specs.Objects.{integer_or_word, stands_inside, move_elements, move_by}
 
 abbrev pub outcome : ArithmeticOutcome → Run Value
 outcome (o.Word n) = pure (Word n)
@@ -36,11 +36,11 @@ outcome o.Undefined = undefined ShiftsTooFar
 -- ---- integers
 
 abbrev pub integers : BinaryOp → (t count : IntegerType) → Value → Value → Run Value
-integers op t c v w = number v >>= (λ x. number w >>= (λ y. outcome (integers_with op t c x y)))
+integers op t c v w = use_number v >>= (λ x. use_number w >>= (λ y. outcome (integers_with op t c x y)))
 
 -- an integer converted from one type to another (C99 6.3.1.3)
 abbrev pub convert_word : (from to : IntegerType) → Value → Run Value
-convert_word from to v = number v >>= (λ n. pure (Word (conversion from to n)))
+convert_word from to v = use_number v >>= (λ n. pure (Word (conversion from to n)))
 
 -- ---- pointers
 
@@ -90,31 +90,31 @@ pointers ds _ element v w = undefined UsesNoValue
 abbrev pub pointer_and_integer : List StructDef → BinaryOp → PlainType → IntegerType → Value → Value → Run Value
 pointer_and_integer ds b.Add element t v w = move_by ds element t v w
 pointer_and_integer ds b.Subtract element t v w =
-    number w >>= (λ n. move_elements v (neg_ℤ (value t n) *ℤ pos (size_of ds element)))
+    use_number w >>= (λ n. move_elements v (neg_ℤ (value t n) *ℤ pos (size_of ds element)))
 pointer_and_integer ds _ element t v w = undefined UsesNoValue
 
 -- ---- all operands
 
 abbrev pub with_integer : List StructDef → BinaryOp → IntegerType → (right : PlainType) → Value → Value → Run Value
 with_integer ds op t (Pointer element) v w = pointer_and_integer ds op element t w v
-with_integer ds op t right v w = integers op t (integer_of right) v w
+with_integer ds op t right v w = integers op t (integer_or_word right) v w
 
 abbrev pub with_pointer : List StructDef → BinaryOp → PlainType → (right : PlainType) → Value → Value → Run Value
 with_pointer ds op element (Pointer other) v w = pointers ds op element v w
-with_pointer ds op element right v w = pointer_and_integer ds op element (integer_of right) v w
+with_pointer ds op element right v w = pointer_and_integer ds op element (integer_or_word right) v w
 
 -- an operator between two values, by their types. Two integers have one type, but for a shift
-abbrev pub binary : List StructDef → BinaryOp → (left right : PlainType) → Value → Value → Run Value
-binary ds op (Int n s) right v w = with_integer ds op (integer_of (Int n s)) right v w
-binary ds op (Pointer element) right v w = with_pointer ds op element right v w
-binary ds op _ right v w = undefined UsesNoValue
+abbrev pub apply_binary : List StructDef → BinaryOp → (left right : PlainType) → Value → Value → Run Value
+apply_binary ds op (Int n s) right v w = with_integer ds op (integer_or_word (Int n s)) right v w
+apply_binary ds op (Pointer element) right v w = with_pointer ds op element right v w
+apply_binary ds op _ right v w = undefined UsesNoValue
 
 -- an operator in front of a value, by its type: `+`, `-` and `~`
-abbrev pub unary : UnaryOp → PlainType → Value → Run Value
-unary u.Plus ty v = use_value UsesNoValue v
-unary u.Minus ty v = number v >>= (λ n. outcome (negation (integer_of ty) n))
-unary u.Invert ty v = number v >>= (λ n. pure (Word (complement (integer_of ty) n)))
-unary _ ty v = undefined UsesNoValue
+abbrev pub apply_unary : UnaryOp → PlainType → Value → Run Value
+apply_unary u.Plus ty v = use_value UsesNoValue v
+apply_unary u.Minus ty v = use_number v >>= (λ n. outcome (negation (integer_or_word ty) n))
+apply_unary u.Invert ty v = use_number v >>= (λ n. pure (Word (complement (integer_or_word ty) n)))
+apply_unary _ ty v = undefined UsesNoValue
 
 -- whether a value is not zero, and not null
 abbrev pub test_in : Memory → Value → Run Bool
@@ -131,7 +131,7 @@ test v = on_memory (λ m. test_in m v)
 -- where the type is void (C99 6.3)
 abbrev pub convert : (from to : PlainType) → Value → Run Value
 convert from Void v = pure Unset
-convert (Int n s) (Int m r) v = convert_word (integer_of (Int n s)) (integer_of (Int m r)) v
+convert (Int n s) (Int m r) v = convert_word (integer_or_word (Int n s)) (integer_or_word (Int m r)) v
 convert from to v = use_value UsesNoValue v
 
 -- ---- assignment
@@ -164,10 +164,10 @@ combined_in op t left right v w = convert_word left t v >>= (λ x. integers op t
 -- what a compound assignment writes, of what stood there and the right side
 abbrev pub combine : List StructDef → BinaryOp → (left right : PlainType) → Value → Value → Run Value
 combine ds op (Int n s) right v w =
-    let t = integer_of (Int n s) in
-    let r = integer_of right in
+    let t = integer_or_word (Int n s) in
+    let r = integer_or_word right in
     combined_in op (operation_type op t r) t r v w
-combine ds op (Pointer element) right v w = pointer_and_integer ds op element (integer_of right) v w
+combine ds op (Pointer element) right v w = pointer_and_integer ds op element (integer_or_word right) v w
 combine ds op left right v w = undefined UsesNoValue
 
 -- `++` and `--` add and take away 1 (C99 6.5.2.4, 6.5.3.1)
@@ -177,7 +177,7 @@ step_operator s.Decrement = b.Subtract
 
 -- the type of the 1: the promoted one of an integer, and `int` beside a pointer
 abbrev pub one_type : PlainType → PlainType
-one_type (Int n s) = Int (bytes (promote (integer_of (Int n s)))) (is_signed (promote (integer_of (Int n s))))
+one_type (Int n s) = Int (bytes (promote (integer_or_word (Int n s)))) (is_signed (promote (integer_or_word (Int n s))))
 one_type _ = Int 4 true
 
 abbrev pub step_value : List StructDef → StepOp → PlainType → Value → Run Value

@@ -29,8 +29,8 @@ use Rattle.c_typed_tree.specs.Weight.{expr_weight, stmt_weight, function_weight}
 use Rattle.c_semantics.specs.Runs.{CallState, in_world, Run}
 use Rattle.c_semantics.specs.Objects.{Scope}
 use Rattle.c_semantics.specs.Evaluates.{Functions, eval, place}
-use Rattle.c_semantics.specs.Executes.{declared_by, locals_of, level}
-use Rattle.c_semantics.specs.Behaves.{run}
+use Rattle.c_semantics.specs.Executes.{declared_by, function_locals, level}
+use Rattle.c_semantics.specs.Behaves.{run_main}
 
 -- ---- runs
 
@@ -99,7 +99,7 @@ context_at unit f = record {
   structs = unit.structs;
   globals = unit.globals;
   functions = map signature_of unit.functions;
-  locals = locals_of f;
+  locals = function_locals f;
 }
 
 abbrev pub result_at : Option TypedFn → PlainType
@@ -166,7 +166,7 @@ pub record UnitRefines (a b : TypedUnit) : Type 0 where
   pub typed : IsTypedUnit a
   pub weight : WeighNoMore b a.functions b.functions
   pub runs : (rooms : Rooms) (input : List ℕ) (turns : ℕ) →
-      EndingRefines (run a rooms input turns) (run b rooms input turns)
+      EndingRefines (run_main a rooms input turns) (run_main b rooms input turns)
 
 -- refined functions refine a well typed unit
 abbrev pub UnitsRefine : Type 0

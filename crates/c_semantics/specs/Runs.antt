@@ -11,8 +11,8 @@ use Rattle.c_semantics.specs.Reasons.{Reason, ReadsUnwritten, UsesNoValue}
 abbrev pub LocalRegisters : Type 0
 LocalRegisters = ℕ → Value
 
-abbrev pub with_register : LocalRegisters → (number : ℕ) → Value → LocalRegisters
-with_register r number v = λ k. if k == number then v else r k
+abbrev pub with_local_value : LocalRegisters → (number : ℕ) → Value → LocalRegisters
+with_local_value r number v = λ k. if k == number then v else r k
 
 -- the registers of the call, and the world
 pub record CallState : Type 0 where
@@ -87,14 +87,14 @@ use_value reason (Address p) = pure (Address p)
 use_value reason Unset = undefined reason
 
 -- the word of a value that is used as a number
-abbrev pub number : Value → Run ℕ
-number (Word n) = pure n
-number (Address p) = undefined UsesNoValue
-number Unset = undefined UsesNoValue
+abbrev pub use_number : Value → Run ℕ
+use_number (Word n) = pure n
+use_number (Address p) = undefined UsesNoValue
+use_number Unset = undefined UsesNoValue
 
 -- a register is read, and written
 unfoldable pub read_register : ℕ → Run Value
 read_register k = λ s. use_value ReadsUnwritten (s.registers k) s
 
 unfoldable pub write_register : ℕ → Value → Run (Unit {0})
-write_register k v = λ s. Gives tt (with_registers s (with_register s.registers k v))
+write_register k v = λ s. Gives tt (with_registers s (with_local_value s.registers k v))

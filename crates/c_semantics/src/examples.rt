@@ -30,7 +30,7 @@ pub fn arithmetic()
     ensures narrowing_wraps { behave_c unit.narrowing_wraps [] 9 ≡ Done [] 1 }
     ensures increment_overflows { behave_c unit.increment_overflows [] 9 ≡ Trap [] 3 }
     ensures minus_least { behave_c unit.minus_least [] 9 ≡ Trap [] 3 }
-    ensures division_by_zero { behave_c unit.division_by_zero [] 9 ≡ Trap [] 1 }
+    ensures division_by_zero { behave_c unit.zero_divisor [] 9 ≡ Trap [] 1 }
     ensures least_by_minus_one { behave_c unit.least_by_minus_one [] 9 ≡ Trap [] 3 }
     ensures remainder_of_least { behave_c unit.remainder_of_least [] 9 ≡ Trap [] 3 }
     ensures division_truncates { behave_c unit.division_truncates [] 9 ≡ Done [] 253 }
@@ -83,7 +83,7 @@ pub fn undefined_points()
     ensures unset_cell { behave_c unit.unset_cell [] 9 ≡ Undefined }
     ensures outside_the_object { behave_c unit.outside_the_object [] 9 ≡ Undefined }
     ensures through_null { behave_c unit.through_null [] 9 ≡ Undefined }
-    ensures misaligned { behave_c unit.misaligned [] 9 ≡ Undefined }
+    ensures misaligned { behave_c unit.misaligned_access [] 9 ≡ Undefined }
     ensures moved_outside { behave_c unit.moved_outside [] 9 ≡ Undefined }
     ensures null_moved { behave_c unit.null_moved [] 9 ≡ Undefined }
     ensures dead_object { behave_c unit.dead_object [] 9 ≡ Undefined }

@@ -24,7 +24,7 @@ use Rattle.c_statement_rules.specs.Jumps.{no_jumps}
 use Rattle.c_statement_rules.specs.Locals.{BodyState, with_notes, local_of_type, parameter_named, with_addressed}
 use Rattle.c_statements.specs.declared.functions.FunctionType.{FunctionType}
 use Rattle.c_statements.specs.Statements.{statement}
-use Rattle.c_statements.specs.Functions.{parameters_of, typed_parameters, typed_function, function}
+use Rattle.c_statements.specs.Functions.{parameters_of, typed_parameters, typed_function, judge_function}
 use Rattle.c_statement_laws.proofs.Locals.{Grows, addressed_types}
 use Rattle.c_statement_laws.proofs.Moves.{moves_none, walk_moves}
 use Rattle.c_statement_laws.proofs.Forms.{IsStmt, AreStmts, stmts_more}
@@ -110,7 +110,7 @@ made_type d of true first later numbers (Some list) g h = record {
   parameters = first_types first later numbers g ∙ h refl;
 }
 
-pub function_has_type : (d : Declaration) (of : FunctionType) (list : List Stmt) (s : JudgementState) → IfSome (function d (Some of) list s).0 (HasItsType d of)
+pub function_has_type : (d : Declaration) (of : FunctionType) (list : List Stmt) (s : JudgementState) → IfSome (judge_function d (Some of) list s).0 (HasItsType d of)
 function_has_type d of list s =
     let start : BodyState = ([], (enter s.0, s.1)) in
     let p = typed_parameters (parameters_of d.ty) of.parameters true start in

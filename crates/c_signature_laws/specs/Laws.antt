@@ -7,7 +7,7 @@ use Rattle.c_typed_tree.specs.View.{type_view}
 use Rattle.c_typed_tree.specs.Lawful.{signature_of}
 use Rattle.c_judgements.specs.Types.{JudgementState}
 use Rattle.c_statements.specs.declared.functions.FunctionType.{FunctionType}
-use Rattle.c_statements.specs.Functions.{function}
+use Rattle.c_statements.specs.Functions.{judge_function}
 
 pub record HasItsType (d : Declaration) (of : FunctionType) (f : TypedFn) : Type 0 where
   pub name : f.name ≡ d.name
@@ -17,4 +17,4 @@ pub record HasItsType (d : Declaration) (of : FunctionType) (f : TypedFn) : Type
 abbrev pub FunctionsHaveTheirTypes : Type 0
 FunctionsHaveTheirTypes =
     (d : Declaration) (of : FunctionType) (list : List Stmt) (s : JudgementState) →
-    IfSome (function d (Some of) list s).0 (HasItsType d of)
+    IfSome (judge_function d (Some of) list s).0 (HasItsType d of)

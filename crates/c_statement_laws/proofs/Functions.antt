@@ -24,7 +24,7 @@ use Rattle.c_statement_rules.specs.Jumps.{no_jumps}
 use Rattle.c_statement_rules.specs.Locals.{BodyState, with_addressed}
 use Rattle.c_statements.specs.Statements.{statement}
 use Rattle.c_statements.specs.declared.functions.FunctionType.{FunctionType}
-use Rattle.c_statements.specs.Functions.{declared_parameters, result_of, typed_function, without_addresses, function}
+use Rattle.c_statements.specs.Functions.{declared_parameters, result_of, typed_function, without_addresses, judge_function}
 use Rattle.c_statements.specs.Functions as own
 use Rattle.c_type_laws.proofs.Truth.{front, back, also, along}
 use Rattle.c_judgement_laws.specs.Covers.{AreInMemory, HaveTexts, IsLawfulContext}
@@ -125,7 +125,7 @@ Made d of list s found = record {
 }
 
 made_typed : (u : TypedUnit) (d : Declaration) (of : FunctionType) (list : List Stmt) (s : JudgementState) (found : List TStmt) → (Ended d (Some of) list s).0 ≡ Some found → DeclaresItsLocals (Made d of list s found)
-    → IsGiven u d (Some of) s (function d (Some of) list s).1 (Made d of list s found) → IsTypedFn u (Made d of list s found)
+    → IsGiven u d (Some of) s (judge_function d (Some of) list s).1 (Made d of list s found) → IsTypedFn u (Made d of list s found)
 made_typed u d of list s found e declares given =
     let c = context_of u (Made d of list s found) in
     let v = (Ended d (Some of) list s).1 in
@@ -156,13 +156,13 @@ made_typed u d of list s found e declares given =
 typed_where : (u : TypedUnit) (d : Declaration) (of : Option FunctionType) (list : List Stmt) (s : JudgementState) (sound : Bool) (o : Option (List TStmt)) → (Ended d of list s).0 ≡ o
     → IfSome (typed_function d.name (result_of of) sound (length (Entered d of s).1.0) (with_addressed (Ended d of list s).1.1.1.addressed (Ended d of list s).1.0) o) DeclaresItsLocals
     → IfSome (typed_function d.name (result_of of) sound (length (Entered d of s).1.0) (with_addressed (Ended d of list s).1.1.1.addressed (Ended d of list s).1.0) o)
-    (λ f. IsGiven u d of s (function d of list s).1 f → IsTypedFn u f)
+    (λ f. IsGiven u d of s (judge_function d of list s).1 f → IsTypedFn u f)
 typed_where u d None list s sound o e h = tt
 typed_where u d (Some of) list s false o e h = tt
 typed_where u d (Some of) list s true None e h = tt
 typed_where u d (Some of) list s true (Some found) e h = made_typed u d of list s found e h
 
-pub function_typed : (u : TypedUnit) (d : Declaration) (of : Option FunctionType) (list : List Stmt) (s : JudgementState) → IfSome (function d of list s).0 (λ f. IsGiven u d of s (function d of list s).1 f → IsTypedFn u f)
+pub function_typed : (u : TypedUnit) (d : Declaration) (of : Option FunctionType) (list : List Stmt) (s : JudgementState) → IfSome (judge_function d of list s).0 (λ f. IsGiven u d of s (judge_function d of list s).1 f → IsTypedFn u f)
 function_typed u d of list s = typed_where u d of list s (Entered d of s).0 (Ended d of list s).0 refl (function_says d of list s)
 
 -- ---- what a body leaves
@@ -177,7 +177,7 @@ none_in_memory : (c : Context) (ns : List ℕ) → AreInMemory (record { structs
 none_in_memory c [] = tt
 none_in_memory c (n ∷ ns) = (refl, none_in_memory c ns)
 
-pub function_leaves : (c : Context) → IsLawfulContext c → (d : Declaration) (of : Option FunctionType) (list : List Stmt) (s : JudgementState) → Leaves c s (function d of list s).1
+pub function_leaves : (c : Context) → IsLawfulContext c → (d : Declaration) (of : Option FunctionType) (list : List Stmt) (s : JudgementState) → Leaves c s (judge_function d of list s).1
 function_leaves c lawful d of list s =
     let v = (Ended d of list s).1 in
     let moves = body_moves c lawful d of list s in

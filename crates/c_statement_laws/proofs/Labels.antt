@@ -18,7 +18,7 @@ use Rattle.c_typed_tree.specs.TypingStatements.{is_label, is_same_label, is_labe
 use Rattle.c_type_faults.specs.declared.faults.Kind.TheVariants.{BadLabel}
 use Rattle.c_type_rules.specs.declared.typed.TypedExpression.{TypedExpression}
 use Rattle.c_type_rules.specs.Rulings.{Ruling}
-use Rattle.c_type_rules.specs.Values.{integer_type}
+use Rattle.c_type_rules.specs.Values.{type_of_integer}
 use Rattle.c_constant_rules.specs.Values as constants
 use Rattle.c_checks.specs.Checks.{and_then, each, note_fault}
 use Rattle.c_expressions.specs.Expressions.{judge}
@@ -126,7 +126,7 @@ labels_more t ls (y ∷ ys) x h g w n =
 
 -- ---- the integer type of the operand
 
-pub integer_there : (t : IntegerType) → integer_of (type_view (integer_type t)) ≡ Some t
+pub integer_there : (t : IntegerType) → integer_of (type_view (type_of_integer t)) ≡ Some t
 unfolding opens
 integer_there i.Char = refl
 integer_there i.UnsignedChar = refl
@@ -171,14 +171,14 @@ module _ (c : Context) (lawful : IsLawfulContext c) (known : Type 0) where
   value_later (Some t) at word s = new_later at word s
 
   case_says : (ty : Option IntegerType) (at : ℕ) (a : TypedExpression) (s : LabelState) → Gives ty s.0 (case_label ty at a s)
-  case_says ty at a s = of (constants.label (operand_type ty) a) (label_word (operand_type ty) a)
+  case_says ty at a s = of (constants.label_value (operand_type ty) a) (label_word (operand_type ty) a)
     where
       of : (r : Ruling ℕ) → IfOk r (λ n. IsTrue (is_word (operand_type ty) n)) → Gives ty s.0 (and_then (beside_labels s.0 (note_fault r s.1)) (λ q. each q (case_value ty at)))
       of (Ok n) h = value_says ty at n s h
       of (Err f) h = tt
 
   case_later : (ty : Option IntegerType) (at : ℕ) (a : TypedExpression) (s : LabelState) → Later c s.1 (case_label ty at a s).1.1
-  case_later ty at a s = of (constants.label (operand_type ty) a)
+  case_later ty at a s = of (constants.label_value (operand_type ty) a)
     where
       of : (r : Ruling ℕ) → Later c s.1 (and_then (beside_labels s.0 (note_fault r s.1)) (λ q. each q (case_value ty at))).1.1
       of (Ok n) = value_later ty at n s

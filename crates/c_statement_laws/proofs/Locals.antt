@@ -7,7 +7,7 @@ use Rattle.c_typed_tree.specs.declared.units.Local.{Local}
 use Rattle.c_typed_tree.specs.View.{type_view}
 use Rattle.c_typed_tree.specs.Typing.{Context, is_scalar, has_local_type}
 use Rattle.c_typed_tree.specs.Lawful.{type_of_local, is_object_type, is_lawful_local}
-use Rattle.c_statement_rules.specs.Locals.{memory_at, with_memory, with_addressed}
+use Rattle.c_statement_rules.specs.Locals.{memory_local_at, put_in_memory, with_addressed}
 use Rattle.c_type_laws.specs.Typed.{may_be_memory}
 use Rattle.c_type_laws.proofs.Truth.{front, back, also, either_right}
 use Rattle.c_type_laws.proofs.Types.{alike}
@@ -70,13 +70,13 @@ set_types [] k l e = refl
 set_types (x ∷ ls) zero l e = ap (λ (y : Local). type_view y.ty ∷ map type_of_local ls) (sym (same_Some x l e))
 set_types (x ∷ ls) (suc k) l e = ap (λ ts. type_of_local x ∷ ts) (set_types ls k l e)
 
-memory_types : (n : ℕ) (o : Option Local) (ls : List Local) → slice_get ls n ≡ o → map type_of_local (memory_at n o ls) ≡ map type_of_local ls
+memory_types : (n : ℕ) (o : Option Local) (ls : List Local) → slice_get ls n ≡ o → map type_of_local (memory_local_at n o ls) ≡ map type_of_local ls
 memory_types n None ls e = refl
 memory_types n (Some l) ls e = set_types ls n l e
 
 pub addressed_types : (ns : List ℕ) (ls : List Local) → map type_of_local (with_addressed ns ls) ≡ map type_of_local ls
 addressed_types [] ls = refl
-addressed_types (n ∷ ns) ls = addressed_types ns (with_memory n ls) ∙ memory_types n (slice_get ls n) ls refl
+addressed_types (n ∷ ns) ls = addressed_types ns (put_in_memory n ls) ∙ memory_types n (slice_get ls n) ls refl
 
 -- types tell where a local is
 typed_at : (ls later : List Local) (k : ℕ) (l : Local) → map type_of_local later ≡ map type_of_local ls → slice_get ls k ≡ Some l → IsTrue (has_local_type (slice_get later k) (type_view l.ty))
@@ -110,20 +110,20 @@ set_keeps (x ∷ ls) zero (suc j) l h = h
 set_keeps (x ∷ ls) (suc k) zero l h = h
 set_keeps (x ∷ ls) (suc k) (suc j) l h = set_keeps ls k j l h
 
-memory_keeps : (n : ℕ) (o : Option Local) (ls : List Local) (j : ℕ) → IsKept (slice_get ls j) (slice_get (memory_at n o ls) j)
+memory_keeps : (n : ℕ) (o : Option Local) (ls : List Local) (j : ℕ) → IsKept (slice_get ls j) (slice_get (memory_local_at n o ls) j)
 memory_keeps n None ls j h = h
 memory_keeps n (Some l) ls j h = set_keeps ls n j l h
 
 addressed_keeps : (ns : List ℕ) (ls : List Local) (j : ℕ) → IsKept (slice_get ls j) (slice_get (with_addressed ns ls) j)
 addressed_keeps [] ls j h = h
-addressed_keeps (n ∷ ns) ls j h = addressed_keeps ns (with_memory n ls) j (memory_keeps n (slice_get ls n) ls j h)
+addressed_keeps (n ∷ ns) ls j h = addressed_keeps ns (put_in_memory n ls) j (memory_keeps n (slice_get ls n) ls j h)
 
 set_there : (ls : List Local) (k : ℕ) (l : Local) → IsTrue (may_be_memory (slice_get (slice_set ls k (in_memory_too l)) k))
 set_there [] k l = refl
 set_there (x ∷ ls) zero l = refl
 set_there (x ∷ ls) (suc k) l = set_there ls k l
 
-memory_there : (n : ℕ) (o : Option Local) (ls : List Local) → slice_get ls n ≡ o → IsTrue (may_be_memory (slice_get (memory_at n o ls) n))
+memory_there : (n : ℕ) (o : Option Local) (ls : List Local) → slice_get ls n ≡ o → IsTrue (may_be_memory (slice_get (memory_local_at n o ls) n))
 memory_there n None ls e = ap may_be_memory e
 memory_there n (Some l) ls e = set_there ls n l
 
@@ -133,8 +133,8 @@ addressed_in_memory c ns ls e = each ns ls e
     each : (ns : List ℕ) (ls : List Local) → c.locals ≡ with_addressed ns ls → AreInMemory c ns
     each [] ls e = tt
     each (n ∷ ns) ls e = (
-      ap (λ xs. may_be_memory (slice_get xs n)) e ∙ addressed_keeps ns (with_memory n ls) n (memory_there n (slice_get ls n) ls refl),
-      each ns (with_memory n ls) e,
+      ap (λ xs. may_be_memory (slice_get xs n)) e ∙ addressed_keeps ns (put_in_memory n ls) n (memory_there n (slice_get ls n) ls refl),
+      each ns (put_in_memory n ls) e,
     )
 
 -- ---- and lawful
@@ -152,10 +152,10 @@ set_lawful ds (x ∷ ls) (suc k) l e h =
     also (is_lawful_local ds x) (list_all (is_lawful_local ds) (slice_set ls k (in_memory_too l))) (front (is_lawful_local ds x) (list_all (is_lawful_local ds) ls) h)
     (set_lawful ds ls k l e (back (is_lawful_local ds x) (list_all (is_lawful_local ds) ls) h))
 
-memory_lawful : (ds : List StructDef) (n : ℕ) (o : Option Local) (ls : List Local) → slice_get ls n ≡ o → IsTrue (list_all (is_lawful_local ds) ls) → IsTrue (list_all (is_lawful_local ds) (memory_at n o ls))
+memory_lawful : (ds : List StructDef) (n : ℕ) (o : Option Local) (ls : List Local) → slice_get ls n ≡ o → IsTrue (list_all (is_lawful_local ds) ls) → IsTrue (list_all (is_lawful_local ds) (memory_local_at n o ls))
 memory_lawful ds n None ls e h = h
 memory_lawful ds n (Some l) ls e h = set_lawful ds ls n l e h
 
 pub addressed_lawful : (ds : List StructDef) (ns : List ℕ) (ls : List Local) → IsTrue (list_all (is_lawful_local ds) ls) → IsTrue (list_all (is_lawful_local ds) (with_addressed ns ls))
 addressed_lawful ds [] ls h = h
-addressed_lawful ds (n ∷ ns) ls h = addressed_lawful ds ns (with_memory n ls) (memory_lawful ds n (slice_get ls n) ls refl h)
+addressed_lawful ds (n ∷ ns) ls h = addressed_lawful ds ns (put_in_memory n ls) (memory_lawful ds n (slice_get ls n) ls refl h)

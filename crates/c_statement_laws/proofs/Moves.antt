@@ -6,7 +6,7 @@ use Rattle.c_typed_tree.specs.Lawful.{is_lawful_local}
 use Rattle.c_type_rules.specs.Rulings.{Ruling}
 use Rattle.c_checks.specs.declared.env.Env.{Env}
 use Rattle.c_checks.specs.declared.notes.Notes.{Notes}
-use Rattle.c_checks.specs.Checks.{each, both, walk, append_part, note_fault}
+use Rattle.c_checks.specs.Checks.{each, both_parts, walk, append_part, note_fault}
 use Rattle.c_checks.specs.Scopes.{leave}
 use Rattle.c_judgements.specs.Types.{JudgementState}
 use Rattle.c_statement_rules.specs.Locals.{BodyState}
@@ -107,7 +107,7 @@ module _ (c : Context) (known : Type 0) where
       moves_known w (u.0, (u.1.0, (k a u.1.1).1)) (λ h k p. says a ((later a u.1.1).knows h.knows) p.0) (moves_then w u (u.0, (u.1.0, (k a u.1.1).1)) m (moves_quiet u (k a u.1.1).1 (later a u.1.1)))
 
   pub two_moves : {A B D : Type 0} (P : A → Type 0) (Q : B → Type 0) (R : D → Type 0) (o : Option A) (q : Option B) (k : A → B → Notes → Option D × Notes) (w u : BodyState) → ((a : A) (b : B) (n : Notes) → Later c n (k a b n).1)
-      → ((a : A) (b : B) → P a → Q b → IfSome (k a b u.1.1).0 R) → Moves c known (IfSome o P × IfSome q Q) w u → Moves c known (IfSome (both o q k u.1.1).0 R) w (u.0, (u.1.0, (both o q k u.1.1).1))
+      → ((a : A) (b : B) → P a → Q b → IfSome (k a b u.1.1).0 R) → Moves c known (IfSome o P × IfSome q Q) w u → Moves c known (IfSome (both_parts o q k u.1.1).0 R) w (u.0, (u.1.0, (both_parts o q k u.1.1).1))
   two_moves P Q R None q k w u later says m = moves_both w u (u.0, (u.1.0, u.1.1)) (λ x y. tt) m (moves_quiet u u.1.1 (later_itself c u.1.1))
   two_moves P Q R (Some a) None k w u later says m = moves_both w u (u.0, (u.1.0, u.1.1)) (λ x y. tt) m (moves_quiet u u.1.1 (later_itself c u.1.1))
   two_moves P Q R (Some a) (Some b) k w u later says m =

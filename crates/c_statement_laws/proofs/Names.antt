@@ -18,15 +18,15 @@ use Rattle.c_typed_tree.specs.Types.{PlainType, Void, Int, Pointer, Array, Struc
 use Rattle.c_typed_tree.specs.View.{type_view, local_view, first_view}
 use Rattle.c_typed_tree.specs.model.View.{opens}
 use Rattle.c_typed_tree.specs.Layout.{is_object, size_of}
-use Rattle.c_typed_tree.specs.Typing.{Context, is_type, is_scalar, is_array, has_local_type, depth_of, struct_depth, most_depth}
+use Rattle.c_typed_tree.specs.Typing.{Context, is_valid_type, is_scalar, is_array, has_local_type, depth_of, struct_depth, most_depth}
 use Rattle.c_typed_tree.specs.TypingStatements.{is_there, is_declared, is_first}
 use Rattle.c_typed_tree.specs.Lawful.{type_of_local, is_object_type, is_lawful_local}
 use Rattle.data_object.specs.declared.TheConstants.{MOST_DATA}
 use Rattle.c_declared_types.specs.declared.declared.DeclaredType.{DeclaredType}
 use Rattle.c_declared_types.specs.declared.declared.DeclaredType.TheVariants as d
-use Rattle.c_declared_types.specs.Declarators.{parameter_value, parameter_of}
+use Rattle.c_declared_types.specs.Declarators.{parameter_value, adjusted_parameter}
 use Rattle.c_declared_types.specs.Depth.{is_deep_at_most}
-use Rattle.c_statement_rules.specs.Members.{is_member}
+use Rattle.c_statement_rules.specs.Members.{is_member_type}
 use Rattle.c_type_faults.specs.declared.faults.Kind.TheVariants.{BadType, BadInit, Redeclared}
 use Rattle.c_type_rules.specs.declared.typed.TypedExpression.{TypedExpression}
 use Rattle.c_operators.specs.Null.{take_value}
@@ -37,16 +37,16 @@ use Rattle.c_checks.specs.declared.meanings.NameMeaning.TheVariants as means
 use Rattle.c_checks.specs.declared.notes.Notes.{Notes}
 use Rattle.c_checks.specs.Checks.{pure, and_then, each, walk, note_fault}
 use Rattle.c_checks.specs.Notes.{with_fault}
-use Rattle.c_checks.specs.Scopes.{with_name, meaning_of, stands_here}
+use Rattle.c_checks.specs.Scopes.{with_meaning, meaning_of, stands_here}
 use Rattle.c_judgements.specs.Types.{no_parameter, within_depth, parameter_type}
 use Rattle.c_expressions.specs.Expressions.{judge}
 use Rattle.c_statement_rules.specs.declared.locals.NewLocal.{NewLocal}
-use Rattle.c_statement_rules.specs.Objects.{no_object, object_type}
+use Rattle.c_statement_rules.specs.Objects.{no_object_type, object_type}
 use Rattle.c_statement_rules.specs.Forms.{first_value, first_locals}
-use Rattle.c_statement_rules.specs.Locals.{BodyState, with_notes, local_of_type, local_named, no_name, parameter_named, no_initialiser, with_initialiser, local_with_value, without_initialiser}
-use Rattle.c_statements.specs.Parts.{type_of, value_of, initialiser_of, local_of, first_of}
+use Rattle.c_statement_rules.specs.Locals.{BodyState, with_notes, local_of_type, local_named, nameless_local, parameter_named, no_initialiser, with_initialiser, local_with_value, without_initialiser}
+use Rattle.c_statements.specs.Parts.{judge_type, full_value, initialiser_of, local_of, first_of}
 use Rattle.c_statements.specs.declared.functions.FunctionType.{FunctionType}
-use Rattle.c_statements.specs.Functions.{parameter_of as one_parameter, parameters, typed_parameters, declared_parameters}
+use Rattle.c_statements.specs.Functions.{judge_parameter as one_parameter, parameters, typed_parameters, declared_parameters}
 use Rattle.c_type_laws.specs.Typed.{AreKnown, IsTypedIn}
 use Rattle.c_type_laws.proofs.Truth.{no_true, front, back, also, three, along, either_left}
 use Rattle.c_type_laws.proofs.Types.{known_object}
@@ -73,9 +73,9 @@ same_depth ds es k (Array x n) h = ap (λ d. 1 + d) (same_depth ds es k x (front
 same_depth ds es k (Struct n) h = ap struct_depth (k n h)
 
 -- a type that a local may have by the structs of the notes is one of objects in the context
-object_there : (ds es : List StructDef) → AreKnown ds es → (x : PlainType) → IsTrue (is_type es x) → IsTrue (is_object ds x) → IsTrue (nat_le (depth_of ds x) most_depth) → IsTrue (is_object_type es x)
+object_there : (ds es : List StructDef) → AreKnown ds es → (x : PlainType) → IsTrue (is_valid_type es x) → IsTrue (is_object ds x) → IsTrue (nat_le (depth_of ds x) most_depth) → IsTrue (is_object_type es x)
 object_there ds es k x h o deep =
-    three (is_type es x) (is_object es x) (nat_le (depth_of es x) most_depth) h (known_object ds es k x o) (along (λ d. nat_le d most_depth) (same_depth ds es k x o) deep)
+    three (is_valid_type es x) (is_object es x) (nat_le (depth_of es x) most_depth) h (known_object ds es k x o) (along (λ d. nat_le d most_depth) (same_depth ds es k x o) deep)
 
 -- scalars are objects whatever structs there are
 scalar_object : (ds : List StructDef) (x : PlainType) → IsTrue (is_scalar x) → IsTrue (is_object ds x)
@@ -92,18 +92,18 @@ module _ (c : Context) (known : Type 0) where
   -- ---- the types of locals
 
   object_later : (at : ℕ) (x : DeclaredType) (n : Notes) → Later c n (object_type at x n).1
-  object_later at (d.Value x) n = choose (is_member n.structs x)
+  object_later at (d.Value x) n = choose (is_member_type n.structs x)
     where
-      choose : (b : Bool) → Later c n (if b then (Some x, n) else no_object at n).1
+      choose : (b : Bool) → Later c n (if b then (Some x, n) else no_object_type at n).1
       choose true = later_itself c n
       choose false = later_fault c at BadType n
   object_later at (d.Unsized x) n = later_fault c at BadType n
   object_later at (d.Function x xs) n = later_fault c at BadType n
 
   object_says : (at : ℕ) (x : DeclaredType) (n : Notes) → Knows c n → IsTypeIn c x → IfSome (object_type at x n).0 IsObjectType
-  object_says at (d.Value x) n k h = choose (is_member n.structs x) refl
+  object_says at (d.Value x) n k h = choose (is_member_type n.structs x) refl
     where
-      choose : (b : Bool) → is_member n.structs x ≡ b → IfSome (if b then (Some x, n) else no_object at n).0 IsObjectType
+      choose : (b : Bool) → is_member_type n.structs x ≡ b → IfSome (if b then (Some x, n) else no_object_type at n).0 IsObjectType
       choose true e =
           object_there n.structs c.structs k.structs_known.complete (type_view x) h (front (is_object n.structs (type_view x)) (is_deep_at_most n.structs most_depth x) e)
           (back (is_object n.structs (type_view x)) (is_deep_at_most n.structs most_depth x) e)
@@ -116,7 +116,7 @@ module _ (c : Context) (known : Type 0) where
   abbrev pub IsParameterType : CType → Type 0
   IsParameterType x = IsObjectType x × IsTrue (is_scalar (type_view x))
 
-  value_scalar : (x : CType) → IsTrue (is_type c.structs (type_view x)) → IfSome (parameter_value x) (λ z. IsTrue (is_scalar (type_view z)))
+  value_scalar : (x : CType) → IsTrue (is_valid_type c.structs (type_view x)) → IfSome (parameter_value x) (λ z. IsTrue (is_scalar (type_view z)))
   unfolding opens parameter_value
   value_scalar ty.Void h = tt
   value_scalar (ty.Int n s) h = either_left _ _ h
@@ -124,7 +124,7 @@ module _ (c : Context) (known : Type 0) where
   value_scalar (ty.Array' _ (ty.more_of-CType x ty.end_of-CType) n) h = refl
   value_scalar (ty.Struct n) h = tt
 
-  parameter_scalar : (x : DeclaredType) → IsTypeIn c x → IfSome (parameter_of x) (λ z. IsTrue (is_scalar (type_view z)))
+  parameter_scalar : (x : DeclaredType) → IsTypeIn c x → IfSome (adjusted_parameter x) (λ z. IsTrue (is_scalar (type_view z)))
   unfolding opens
   parameter_scalar (d.Value x) h = value_scalar x h
   parameter_scalar (d.Unsized x) h = refl
@@ -138,7 +138,7 @@ module _ (c : Context) (known : Type 0) where
       choose true = later_itself c n
       choose false = later_fault c at BadType n
 
-  within_says : (at : ℕ) (o : Option CType) (n : Notes) → Knows c n → IfSome o (λ z. IsTrue (is_type c.structs (type_view z))) → IfSome o (λ z. IsTrue (is_scalar (type_view z))) → IfSome (within_depth at o n).0 IsParameterType
+  within_says : (at : ℕ) (o : Option CType) (n : Notes) → Knows c n → IfSome o (λ z. IsTrue (is_valid_type c.structs (type_view z))) → IfSome o (λ z. IsTrue (is_scalar (type_view z))) → IfSome (within_depth at o n).0 IsParameterType
   within_says at None n k h s = tt
   within_says at (Some x) n k h s = choose (is_deep_at_most n.structs most_depth x) refl
     where
@@ -148,7 +148,7 @@ module _ (c : Context) (known : Type 0) where
 
   -- ---- names
 
-  named_in : (q name : List ℕ) (meaning : NameMeaning) (env : Env) → IsMeaningIn c meaning → IsNameIn c (meaning_of env q) → IsNameIn c (meaning_of (with_name name meaning env) q)
+  named_in : (q name : List ℕ) (meaning : NameMeaning) (env : Env) → IsMeaningIn c meaning → IsNameIn c (meaning_of env q) → IsNameIn c (meaning_of (with_meaning name meaning env) q)
   named_in q name meaning env h g = of (bytes_eq q name)
     where
       of : (b : Bool) → IsNameIn c (option_map (λ (r : ℕ × NameMeaning). r.1) (if b then Some (length env.names, meaning) else find q env.names))
@@ -171,11 +171,11 @@ module _ (c : Context) (known : Type 0) where
   lawful_new x h = also (is_object_type c.structs (type_view x)) (is_scalar (type_view x) || not (is_scalar (type_view x))) h (kept_or_not (is_scalar (type_view x)))
 
   module _ (name : List ℕ) (v w : BodyState) where
-    faulty_moves : {X : Type 0} → Moves c known X v w → Moves c known X v (w.0, (with_name name means.Faulty w.1.0, w.1.1))
+    faulty_moves : {X : Type 0} → Moves c known X v w → Moves c known X v (w.0, (with_meaning name means.Faulty w.1.0, w.1.1))
     faulty_moves m = record {
       grows = m.grows;
       later = m.later;
-      env = extends_then v.1.0 w.1.0 (with_name name means.Faulty w.1.0) m.env (record { more = record { name = name; value = means.Faulty } ∷ []; names = refl; outside = refl });
+      env = extends_then v.1.0 w.1.0 (with_meaning name means.Faulty w.1.0) m.env (record { more = record { name = name; value = means.Faulty } ∷ []; names = refl; outside = refl });
       stands = λ h g.
           let old = m.stands (record { locals = h.locals; knows = h.knows; takes = h.takes }) g in
           record {
@@ -187,7 +187,7 @@ module _ (c : Context) (known : Type 0) where
     }
 
     abbrev behind : CType → BodyState
-    behind x = (w.0 ++ local_of_own x ∷ [], (with_name name (means.Local (length w.0) x) w.1.0, w.1.1))
+    behind x = (w.0 ++ local_of_own x ∷ [], (with_meaning name (means.Local (length w.0) x) w.1.0, w.1.1))
 
     grown : (x : CType) → Grows w.0 (behind x).0
     grown x = record { more = local_of_own x ∷ []; same = refl }
@@ -257,7 +257,7 @@ module _ (c : Context) (known : Type 0) where
     value_says new a n h g =
         let own = type_view new.ty in
         initialiser_typed c new a n h.there (object_fits c.structs own h.object)
-        (back (is_type c.structs own) (is_object c.structs own) (front (is_type c.structs own && is_object c.structs own) (nat_le (depth_of c.structs own) most_depth) h.object)) g
+        (back (is_valid_type c.structs own) (is_object c.structs own) (front (is_valid_type c.structs own && is_object c.structs own) (nat_le (depth_of c.structs own) most_depth) h.object)) g
 
     initialiser_moves : (new : Option NewLocal) (init : Option Expr) (v w : BodyState) → Moves c known (IfSome new IsNew) v w → Moves c known (IfSome (initialiser_of new init w).0 IsDeclared) v (initialiser_of new init w).1
     initialiser_moves new None v w m = moves_as c known v w (plain_says new) m
@@ -268,7 +268,7 @@ module _ (c : Context) (known : Type 0) where
     pub local_moves : (d : tree.LocalDeclarator) (w : BodyState) → Moves c known (IfSome (local_of d w).0 IsDeclared) w (local_of d w).1
     local_moves d w =
         let at = d.declaration.at in
-        let ty = type_of at d.declaration.ty w.1 in
+        let ty = judge_type at d.declaration.ty w.1 in
         let o = each ty.0 (object_type at) ty.1.1 in
         let u : BodyState = (w.0, (ty.1.0, o.1)) in
         let new = local_named at d.declaration.name o.0 u in
@@ -301,7 +301,7 @@ module _ (c : Context) (known : Type 0) where
 
     pub first_moves : (p : ForFirst) (w : BodyState) → Moves c known (IfSome (first_of p w).0 IsFirst) w (first_of p w).1
     first_moves g.Nothing w = moves_none c known w refl
-    first_moves (g.Value x) w = moves_as c known w (w.0, (value_of x w.1).1) (first_of_value (value_of x w.1).0) (value_moves c lawful known x w)
+    first_moves (g.Value x) w = moves_as c known w (w.0, (full_value x w.1).1) (first_of_value (full_value x w.1).0) (value_moves c lawful known x w)
     first_moves (g.Locals ds) w =
         let r = walk local_of ds (Some []) w in
         moves_as c known w r.1 (first_of_locals r.0) (walk_moves c known AreDeclared IsDeclared declared_more local_of local_moves ds (Some []) w w (moves_none c known w refl))
@@ -329,27 +329,27 @@ module _ (c : Context) (known : Type 0) where
     object_of None h = tt
     object_of (Some x) h = h.0
 
-    no_name_later : (at : ℕ) (o : Option CType) (n : Notes) → Later c n (each o (no_name at) n).1
+    no_name_later : (at : ℕ) (o : Option CType) (n : Notes) → Later c n (each o (nameless_local at) n).1
     no_name_later at None n = later_itself c n
     no_name_later at (Some x) n = later_fault c at BadType n
 
     named_parameter_moves : (at : ℕ) (name : Option (List ℕ)) (o : Option CType) (v w : BodyState) → Moves c known (AreScalars w.0 × IfSome o IsParameterType) v w
         → Moves c known (AreScalars (parameter_named at name o w).1.0) v (parameter_named at name o w).1
-    named_parameter_moves at None o v w m = moves_both c known v w _ (λ x y. x.0) m (moves_quiet c known w (each o (no_name at) w.1.1).1 (no_name_later at o w.1.1))
+    named_parameter_moves at None o v w m = moves_both c known v w _ (λ x y. x.0) m (moves_quiet c known w (each o (nameless_local at) w.1.1).1 (no_name_later at o w.1.1))
     named_parameter_moves at (Some name) o v w m =
         moves_as c known v (local_named at name o w).1 (λ x. scalars_named at name o w x.0.0 x.0.1) (named_moves name v w at o (λ x. object_of o x.1) m)
 
     parameter_says : (at : ℕ) (x : DeclaredType) (n : Notes) → Knows c n → IsTypeIn c x → IfSome (parameter_type at x n).0 IsParameterType
-    parameter_says at x n k h = within_says at (parameter_of x) n k (parameter_typed c x h) (parameter_scalar x h)
+    parameter_says at x n k h = within_says at (adjusted_parameter x) n k (parameter_typed c x h) (parameter_scalar x h)
 
     parameter_moves : (p : Parameter) (v w : BodyState) → Moves c known (AreScalars w.0) v w → Moves c known (AreScalars (one_parameter p w).1.0) v (one_parameter p w).1
     parameter_moves p v w m =
-        let ty = type_of p.at p.ty w.1 in
+        let ty = judge_type p.at p.ty w.1 in
         let o = each ty.0 (parameter_type p.at) ty.1.1 in
         let u : BodyState = (w.0, (ty.1.0, o.1)) in
         named_parameter_moves p.at p.name o.0 v u
         (moves_then c known v w u m
-        (part_moves c known (IsTypeIn c) IsParameterType ty.0 (parameter_type p.at) w (w.0, ty.1) (λ a n. within_later p.at (parameter_of a) n) (λ a k h. parameter_says p.at a ty.1.1 k h) (type_moves c lawful known p.at p.ty w)))
+        (part_moves c known (IsTypeIn c) IsParameterType ty.0 (parameter_type p.at) w (w.0, ty.1) (λ a n. within_later p.at (adjusted_parameter a) n) (λ a k h. parameter_says p.at a ty.1.1 k h) (type_moves c lawful known p.at p.ty w)))
 
     pub parameters_moves : (ps : List Parameter) (sound : Bool) (v w : BodyState) → Moves c known (AreScalars w.0) v w → Moves c known (AreScalars (parameters ps sound w).1.0) v (parameters ps sound w).1
     parameters_moves [] sound v w m = m

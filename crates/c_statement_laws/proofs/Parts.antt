@@ -17,13 +17,13 @@ use Rattle.c_type_rules.specs.Comparisons as rule
 use Rattle.c_primary_rules.specs.Switches as switches
 use Rattle.c_operators.specs.Null.{take_value}
 use Rattle.c_checks.specs.declared.notes.Notes.{Notes}
-use Rattle.c_checks.specs.Checks.{pure, and_then, each, both, note_fault}
+use Rattle.c_checks.specs.Checks.{pure, and_then, each, both_parts, note_fault}
 use Rattle.c_judgements.specs.Leaves.{leaf}
 use Rattle.c_expressions.specs.Expressions.{judge, derive}
-use Rattle.c_statement_rules.specs.Values.{condition, switch_operand, full_expression, return_of, bad_return, return_value, return_nothing}
-use Rattle.c_statement_rules.specs.Forms.{there}
+use Rattle.c_statement_rules.specs.Values.{condition_check, switch_check, full_expression, return_of, bad_return, return_value, return_nothing}
+use Rattle.c_statement_rules.specs.Forms.{some_part}
 use Rattle.c_statement_rules.specs.Locals.{BodyState}
-use Rattle.c_statements.specs.Parts.{condition_of, value_of, operand_of, optional_condition, optional_value, return_statement, type_of}
+use Rattle.c_statements.specs.Parts.{condition_of, full_value, operand_of, optional_condition, optional_value, return_statement, judge_type}
 use Rattle.c_type_laws.specs.Typed.{IsTypedIn, IsSwitched}
 use Rattle.c_judgement_laws.specs.Covers.{Takes, IsLawfulContext, IsJudged}
 use Rattle.c_judgement_laws.proofs.Notes.{Later, later_itself, later_fault}
@@ -63,19 +63,19 @@ module _ (c : Context) (lawful : IsLawfulContext c) (known : Type 0) where
   pub condition_moves : (x : Expr) (w : BodyState) → Moves c known (IfSome (condition_of x w.1).0 IsCondition) w (w.0, (condition_of x w.1).1)
   condition_moves x w =
       let u = (judge x w.1).1 in
-      part_moves c known (IsTypedIn c) IsCondition (judge x w.1).0 condition w (w.0, u) (λ a n. later_ruled c known (rule.condition (decay a)) n) (λ a k h. condition_typed_in c a u.1 h) (judge_moves x w)
+      part_moves c known (IsTypedIn c) IsCondition (judge x w.1).0 condition_check w (w.0, u) (λ a n. later_ruled c known (rule.condition (decay a)) n) (λ a k h. condition_typed_in c a u.1 h) (judge_moves x w)
 
   valued : (o : Option TypedExpression) → IfSome o (IsTypedIn c) → IfSome (option_map full_expression o) IsValue
   valued None h = tt
   valued (Some a) h = expression_value c a h
 
-  pub value_moves : (x : Expr) (w : BodyState) → Moves c known (IfSome (value_of x w.1).0 IsValue) w (w.0, (value_of x w.1).1)
+  pub value_moves : (x : Expr) (w : BodyState) → Moves c known (IfSome (full_value x w.1).0 IsValue) w (w.0, (full_value x w.1).1)
   value_moves x w = moves_as c known w (w.0, (judge x w.1).1) (valued (judge x w.1).0) (judge_moves x w)
 
   pub operand_moves : (x : Expr) (w : BodyState) → Moves c known (IfSome (operand_of x w.1).0 (IsSwitched c)) w (w.0, (operand_of x w.1).1)
   operand_moves x w =
       let u = (judge x w.1).1 in
-      part_moves c known (IsTypedIn c) (IsSwitched c) (judge x w.1).0 switch_operand w (w.0, u) (λ a n. later_ruled c known (switches.switch_operand (decay a)) n) (λ a k h. switch_typed_in c a u.1 h) (judge_moves x w)
+      part_moves c known (IsTypedIn c) (IsSwitched c) (judge x w.1).0 switch_check w (w.0, u) (λ a n. later_ruled c known (switches.switch_operand (decay a)) n) (λ a k h. switch_typed_in c a u.1 h) (judge_moves x w)
 
   -- ---- parts that may be missing
 
@@ -85,11 +85,11 @@ module _ (c : Context) (lawful : IsLawfulContext c) (known : Type 0) where
   abbrev pub IsOptionalValue : Option TExpr → Type 0
   IsOptionalValue x = IsTrue (is_optional_value c (option_map expr_view x))
 
-  condition_there : (o : Option TExpr) → IfSome o IsCondition → IfSome (there o) IsOptionalCondition
+  condition_there : (o : Option TExpr) → IfSome o IsCondition → IfSome (some_part o) IsOptionalCondition
   condition_there None h = tt
   condition_there (Some x) h = h
 
-  value_there : (o : Option TExpr) → IfSome o IsValue → IfSome (there o) IsOptionalValue
+  value_there : (o : Option TExpr) → IfSome o IsValue → IfSome (some_part o) IsOptionalValue
   value_there None h = tt
   value_there (Some x) h = h
 
@@ -99,7 +99,7 @@ module _ (c : Context) (lawful : IsLawfulContext c) (known : Type 0) where
 
   pub optional_value_moves : (x : Option Expr) (w : BodyState) → Moves c known (IfSome (optional_value x w.1).0 IsOptionalValue) w (w.0, (optional_value x w.1).1)
   optional_value_moves None w = moves_none c known w refl
-  optional_value_moves (Some x) w = moves_as c known w (w.0, (value_of x w.1).1) (value_there (value_of x w.1).0) (value_moves x w)
+  optional_value_moves (Some x) w = moves_as c known w (w.0, (full_value x w.1).1) (value_there (full_value x w.1).0) (value_moves x w)
 
   -- ---- `return`
 
@@ -133,12 +133,12 @@ module _ (c : Context) (lawful : IsLawfulContext c) (known : Type 0) where
     nothing_later at None n = later_itself c n
     nothing_later at (Some ty) n = later_nothing at ty n
 
-    value_says : (at : ℕ) (of : Option CType) (o : Option TypedExpression) (n : Notes) → IsGivenType of → IfSome o (IsTypedIn c) → IfSome (both of o (return_value at) n).0 (IsReturn of)
+    value_says : (at : ℕ) (of : Option CType) (o : Option TypedExpression) (n : Notes) → IsGivenType of → IfSome o (IsTypedIn c) → IfSome (both_parts of o (return_value at) n).0 (IsReturn of)
     value_says at None o n g h = tt
     value_says at (Some ty) None n g h = tt
     value_says at (Some ty) (Some a) n g h = return_typed c j at ty a n g h
 
-    value_later : (at : ℕ) (of : Option CType) (o : Option TypedExpression) (n : Notes) → Later c n (both of o (return_value at) n).1
+    value_later : (at : ℕ) (of : Option CType) (o : Option TypedExpression) (n : Notes) → Later c n (both_parts of o (return_value at) n).1
     value_later at None o n = later_itself c n
     value_later at (Some ty) None n = later_itself c n
     value_later at (Some ty) (Some a) n = later_value at ty a n
@@ -147,13 +147,13 @@ module _ (c : Context) (lawful : IsLawfulContext c) (known : Type 0) where
     return_moves of g at None w = moves_noted c known w (each of (return_nothing at) w.1.1).1 (nothing_later at of w.1.1) (nothing_says at of w.1.1)
     return_moves of g at (Some x) w =
         let r = judge x w.1 in
-        let v : BodyState = (w.0, (r.1.0, (both of r.0 (return_value at) r.1.1).1)) in
+        let v : BodyState = (w.0, (r.1.0, (both_parts of r.0 (return_value at) r.1.1).1)) in
         moves_known c known w v (λ h k p. value_says at of r.0 r.1.1 (g k) p.0)
-        (moves_then c known w (w.0, r.1) v (judge_moves x w) (moves_quiet c known (w.0, r.1) (both of r.0 (return_value at) r.1.1).1 (value_later at of r.0 r.1.1)))
+        (moves_then c known w (w.0, r.1) v (judge_moves x w) (moves_quiet c known (w.0, r.1) (both_parts of r.0 (return_value at) r.1.1).1 (value_later at of r.0 r.1.1)))
 
   -- ---- types of declarations
 
-  pub type_moves : (at : ℕ) (ty : TypeNode) (w : BodyState) → Moves c known (IfSome (type_of at ty w.1).0 (IsTypeIn c)) w (w.0, (type_of at ty w.1).1)
+  pub type_moves : (at : ℕ) (ty : TypeNode) (w : BodyState) → Moves c known (IfSome (judge_type at ty w.1).0 (IsTypeIn c)) w (w.0, (judge_type at ty w.1).1)
   type_moves at ty w =
       let names = HasScope c w.1 in
       let l = leaf w.1.0 at ty w.1.1 in

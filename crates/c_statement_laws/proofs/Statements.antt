@@ -14,7 +14,7 @@ use Rattle.c_statement_rules.specs.Jumps.{in_loop, in_switch, break_statement, c
 use Rattle.c_statement_rules.specs.Labels.{no_labels}
 use Rattle.c_statement_rules.specs.Locals.{BodyState}
 use Rattle.c_statement_rules.specs.Forms.{section_under, switch_type}
-use Rattle.c_statements.specs.Parts.{condition_of, value_of, operand_of, optional_condition, optional_value, local_of, first_of, label_of}
+use Rattle.c_statements.specs.Parts.{condition_of, full_value, operand_of, optional_condition, optional_value, local_of, first_of, label_of}
 use Rattle.c_statements.specs.Statements.{SwitchState, in_scope, statement, statement_row, else_held, section_row}
 use Rattle.c_judgement_laws.specs.Covers.{IsLawfulContext}
 use Rattle.c_statement_laws.proofs.Moves.{Moves, moves_none, moves_as, moves_then, moves_both, moves_noted, scope_moves, part_more}
@@ -69,7 +69,7 @@ module _ (c : Context) (lawful : IsLawfulContext c) (of : Option CType) where
         moves_noted c known w (continue_statement j at w.1.1).1 (form.continue_later c lawful known (result_type of) j at w.1.1) (form.continue_typed c lawful known (result_type of) j at w.1.1)
     statement_moves j (s.Return at x) w = return_moves c lawful known (jumps_of j) of (λ g. g) at x w
     statement_moves j (s.Expression x) w =
-        let v = value_of x w.1 in
+        let v = full_value x w.1 in
         moves_as c known w (w.0, v.1) (form.expression_typed c lawful known (result_type of) j v.0) (value_moves c lawful known x w)
     statement_moves j s.Empty w = moves_none c known w (form.empty_typed c lawful known (result_type of) j)
     statement_moves j (s.Local d) w =

@@ -14,7 +14,7 @@ use Rattle.c_judgements.specs.Types.{JudgementState}
 use Rattle.c_judgement_laws.specs.Covers.{Knows, HaveTexts, IsLawfulContext}
 use Rattle.c_expression_laws.specs.Laws.{HasScope}
 use Rattle.c_statements.specs.declared.functions.FunctionType.{FunctionType}
-use Rattle.c_statements.specs.Functions.{function}
+use Rattle.c_statements.specs.Functions.{judge_function}
 
 -- a parameter is a scalar no deeper than a type may be
 abbrev pub is_parameter : List StructDef → CType → Bool
@@ -38,7 +38,7 @@ pub record IsGiven (u : TypedUnit) (d : Declaration) (of : Option FunctionType) 
 abbrev pub FunctionIsTyped : Type 0
 FunctionIsTyped =
     (u : TypedUnit) (d : Declaration) (of : Option FunctionType) (list : List Stmt) (s : JudgementState) →
-    IfSome (function d of list s).0 (λ f. IsGiven u d of s (function d of list s).1 f → IsTypedFn u f)
+    IfSome (judge_function d of list s).0 (λ f. IsGiven u d of s (judge_function d of list s).1 f → IsTypedFn u f)
 
 -- what a body leaves: the names in scope as they were, and what a context has behind it, it had before
 pub record Leaves (c : Context) (s later : JudgementState) : Type 0 where
@@ -52,4 +52,4 @@ abbrev pub FunctionLeaves : Type 0
 FunctionLeaves =
     (c : Context) → IsLawfulContext c → (d : Declaration) (of : Option FunctionType) (list : List Stmt)
     (s : JudgementState) →
-    Leaves c s (function d of list s).1
+    Leaves c s (judge_function d of list s).1

@@ -6,8 +6,8 @@ use Rattle.c_lexer.specs.declared.token.Punct.TheVariants as p
 use Rattle.c_tree.specs.declared.types.TypeNode.{TypeNode}
 use Rattle.c_tree.specs.declared.types.Declaration.{Declaration}
 use Rattle.c_grammar.specs.declared.shapes.Naming.TheVariants as nm
-use Rattle.c_grammar.specs.Types.{bare}
-use Rattle.c_grammar.specs.Tokens.{TypeNames, is_mark, kind_at, behind, begins_type}
+use Rattle.c_grammar.specs.Types.{without_body}
+use Rattle.c_grammar.specs.Tokens.{TypeNames, is_mark, kind_at, token_tail, begins_type}
 use Rattle.c_grammar.specs.Parser.{Parser, and_then}
 use Rattle.c_grammar.specs.ParseSpecifiers.{declaration, braced_list_from, declarators_from, member, members_from}
 use Rattle.c_tree.specs.declared.statements.Stmt.{Stmt}
@@ -18,7 +18,7 @@ use Rattle.c_expression_parser.proofs.Loops.{turn, end}
 
 -- the same with perhaps a comma before the brace that closes
 pub braced_turn : {A : Type 0} (item : Parser A) (n at : ℕ) (found : List A) (ts : List Lexeme) → at < n
-    → braced_list_from item (n - at) found ts ≡ and_then (item ts) (λ x r. if is_mark p.Comma (kind_at r) then (if is_mark p.RightBrace (kind_at (behind r)) then Ok (found ++ x ∷ [], behind r) else braced_list_from item (n - (at + 1)) (found ++ x ∷ []) (behind r)) else Ok (found ++ x ∷ [], r))
+    → braced_list_from item (n - at) found ts ≡ and_then (item ts) (λ x r. if is_mark p.Comma (kind_at r) then (if is_mark p.RightBrace (kind_at (token_tail r)) then Ok (found ++ x ∷ [], token_tail r) else braced_list_from item (n - (at + 1)) (found ++ x ∷ []) (token_tail r)) else Ok (found ++ x ∷ [], r))
 unfolding braced_list_from
 braced_turn item n at found ts = turn (λ m. braced_list_from item m found ts) n at
 
@@ -27,7 +27,7 @@ unfolding braced_list_from
 braced_end item n at found ts = end (λ m. braced_list_from item m found ts) n at
 
 pub declarators_turn : (s : TypeNames) (depth n at : ℕ) (ty : TypeNode) (found : List Declaration) (ts : List Lexeme) → at < n
-    → declarators_from s depth (n - at) ty found ts ≡ and_then (declaration s depth nm.Member ty ts) (λ d r. if is_mark p.Comma (kind_at r) then declarators_from s depth (n - (at + 1)) (bare ty) (found ++ d ∷ []) (behind r) else Ok (found ++ d ∷ [], r))
+    → declarators_from s depth (n - at) ty found ts ≡ and_then (declaration s depth nm.Member ty ts) (λ d r. if is_mark p.Comma (kind_at r) then declarators_from s depth (n - (at + 1)) (without_body ty) (found ++ d ∷ []) (token_tail r) else Ok (found ++ d ∷ [], r))
 unfolding declarators_from
 declarators_turn s depth n at ty found ts = turn (λ m. declarators_from s depth m ty found ts) n at
 
@@ -47,7 +47,7 @@ unfolding members_from
 members_end s depth specifier n at found ts = end (λ m. members_from s depth specifier m found ts) n at
 
 pub items_turn : (s : TypeNames) (depth : ℕ) (stmt : Parser Stmt) (n at : ℕ) (found : List Stmt) (ts : List Lexeme) → at < n
-    → items_from s depth stmt (n - at) found ts ≡ (if is_mark p.RightBrace (kind_at ts) then Ok (found, behind ts)
+    → items_from s depth stmt (n - at) found ts ≡ (if is_mark p.RightBrace (kind_at ts) then Ok (found, token_tail ts)
     else if begins_type s ts then and_then (line s depth ts) (λ xs. items_from s depth stmt (n - (at + 1)) (found ++ locals_of xs))
     else and_then (stmt ts) (λ x. items_from s depth stmt (n - (at + 1)) (found ++ x ∷ [])))
 unfolding items_from
@@ -67,7 +67,7 @@ unfolding stmts_from
 stmts_end s depth stmt n at found ts = end (λ m. stmts_from s depth stmt m found ts) n at
 
 pub sections_turn : (s : TypeNames) (depth : ℕ) (stmt : Parser Stmt) (n at : ℕ) (found : List Section) (ts : List Lexeme) → at < n
-    → sections_from s depth stmt (n - at) found ts ≡ (if is_mark p.RightBrace (kind_at ts) then Ok (found, behind ts) else and_then (section s depth stmt ts) (λ x. sections_from s depth stmt (n - (at + 1)) (found ++ x ∷ [])))
+    → sections_from s depth stmt (n - at) found ts ≡ (if is_mark p.RightBrace (kind_at ts) then Ok (found, token_tail ts) else and_then (section s depth stmt ts) (λ x. sections_from s depth stmt (n - (at + 1)) (found ++ x ∷ [])))
 unfolding sections_from
 sections_turn s depth stmt n at found ts = turn (λ m. sections_from s depth stmt m found ts) n at
 

@@ -4,7 +4,7 @@ ghost use Rattle.std.specs.Prelude.{◌≡◌, ◌++◌, [], length, OnOk};
 ghost use Rattle.c_lexer.specs.declared.token.Punct.TheVariants.{Semicolon};
 ghost use Rattle.c_tree.specs.declared.statements.Stmt as trees;
 ghost use Rattle.c_grammar.specs.Parser.{and_then, expect, pure};
-ghost use Rattle.c_grammar.specs.Types.{bare};
+ghost use Rattle.c_grammar.specs.Types.{without_body};
 ghost use Rattle.c_grammar.specs.Statements.{locals_of};
 ghost use Rattle.c_grammar.specs.ParseExpr.{list_from};
 ghost use Rattle.c_grammar.specs.ParseStatements as model;
@@ -57,7 +57,7 @@ fn locals(
     depth: usize,
     base: &SpecifierType,
 ) -> Result<Seq<LocalDeclarator>, ParseStop>
-    requires { bare base.now ≡ base.now }
+    requires { without_body base.now ≡ base.now }
     ensures { Answers (list_from (model.local scope.now depth base.now) (length tokens.old) [] tokens.old) result
         tokens.new }
 {

@@ -11,7 +11,7 @@ use Rattle.c_typed_tree.specs.Expressions.{type_of}
 use Rattle.c_typed_tree.specs.View.{type_view, expr_view, stmt_view, local_view}
 use Rattle.c_typed_tree.specs.model.View.{opens}
 use Rattle.c_typed_tree.specs.Layout.{is_object}
-use Rattle.c_typed_tree.specs.Typing.{Context, is_same_type, is_void, is_array, is_scalar, is_struct, is_type, is_fit, has_local_type, is_typed}
+use Rattle.c_typed_tree.specs.Typing.{Context, is_same_type, is_void, is_array, is_scalar, is_struct, is_valid_type, is_fit, has_local_type, is_typed}
 use Rattle.c_typed_tree.specs.TypingStatements.{Jumps, is_condition, is_value, is_declared, is_typed_stmt, has_initialised_type}
 use Rattle.c_type_rules.specs.declared.typed.TypedExpression.{TypedExpression}
 use Rattle.c_type_rules.specs.Rulings.{Ruling}
@@ -22,7 +22,7 @@ use Rattle.c_operators.specs.Null.{take_value}
 use Rattle.c_checks.specs.declared.notes.Notes.{Notes}
 use Rattle.c_checks.specs.Checks.{pure, and_then, note_fault}
 use Rattle.c_statement_rules.specs.declared.locals.NewLocal.{NewLocal}
-use Rattle.c_statement_rules.specs.Values.{condition, switch_operand, full_expression, return_of, bad_return, return_value, return_nothing}
+use Rattle.c_statement_rules.specs.Values.{condition_check, switch_check, full_expression, return_of, bad_return, return_value, return_nothing}
 use Rattle.c_statement_rules.specs.Locals.{no_initialiser, with_initialiser, local_with_value}
 use Rattle.c_type_laws.specs.Typed.{IsTypedIn, IsOfType, IsTested, IsSwitched}
 use Rattle.c_type_laws.proofs.Truth.{no_true, also, three, along}
@@ -41,12 +41,12 @@ mapped : {A B : Type 0} (P : A → Type 0) (Q : B → Type 0) (f : A → B) (o :
 mapped P Q f None h g = tt
 mapped P Q f (Some a) h g = g a h
 
-pub condition_typed_in : (c : Context) (a : TypedExpression) (n : Notes) → IsTypedIn c a → IfSome (condition a n).0 (λ x. IsTrue (is_condition c (expr_view x)))
+pub condition_typed_in : (c : Context) (a : TypedExpression) (n : Notes) → IsTypedIn c a → IfSome (condition_check a n).0 (λ x. IsTrue (is_condition c (expr_view x)))
 condition_typed_in c a n h =
     found_of (IsTested c) (λ x. IsTrue (is_condition c (expr_view x))) (rule.condition (decay a)) n (condition_typed c (decay a) (decay_typed c a h).typed)
     (λ x t. also (is_scalar (type_of (expr_view x))) (is_typed c (expr_view x)) t.scalar t.typed)
 
-pub switch_typed_in : (c : Context) (a : TypedExpression) (n : Notes) → IsTypedIn c a → IfSome (switch_operand a n).0 (IsSwitched c)
+pub switch_typed_in : (c : Context) (a : TypedExpression) (n : Notes) → IsTypedIn c a → IfSome (switch_check a n).0 (IsSwitched c)
 switch_typed_in c a n h = found_of (IsSwitched c) (IsSwitched c) (w.switch_operand (decay a)) n (switch_typed c (decay a) (decay_typed c a h).typed) (λ x t. t)
 
 pub expression_value : (c : Context) (a : TypedExpression) → IsTypedIn c a → IsTrue (is_value c (expr_view (full_expression a)))
@@ -90,7 +90,7 @@ empty_typed c j at result n = choose (is_void (type_view result)) refl
 -- ---- initialisers
 
 -- a type of objects that is no array is one of values
-object_kind : (ds : List StructDef) (ty : PlainType) → IsTrue (is_type ds ty) → IsTrue (is_object ds ty) → IsFalse (is_array ty) → IsTrue (is_scalar ty || is_struct ty)
+object_kind : (ds : List StructDef) (ty : PlainType) → IsTrue (is_valid_type ds ty) → IsTrue (is_object ds ty) → IsFalse (is_array ty) → IsTrue (is_scalar ty || is_struct ty)
 object_kind ds Void h o n = no_true o
 object_kind ds (Int b g) h o n = ap (λ i. i || false || false) h
 object_kind ds (Pointer x) h o n = refl

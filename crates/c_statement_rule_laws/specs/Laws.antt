@@ -8,18 +8,18 @@ use Rattle.c_typed_tree.specs.TypingStatements.{Jumps, is_condition, is_value, i
 use Rattle.c_type_rules.specs.declared.typed.TypedExpression.{TypedExpression}
 use Rattle.c_checks.specs.declared.notes.Notes.{Notes}
 use Rattle.c_statement_rules.specs.declared.locals.NewLocal.{NewLocal}
-use Rattle.c_statement_rules.specs.Values.{condition, switch_operand, full_expression, return_value, return_nothing}
+use Rattle.c_statement_rules.specs.Values.{condition_check, switch_check, full_expression, return_value, return_nothing}
 use Rattle.c_statement_rules.specs.Locals.{local_with_value}
 use Rattle.c_type_laws.specs.Typed.{IsTypedIn, IsSwitched}
 
 abbrev pub ConditionIsTyped : Type 0
 ConditionIsTyped =
     (c : Context) (a : TypedExpression) (n : Notes) → IsTypedIn c a →
-    IfSome (condition a n).0 (λ x. IsTrue (is_condition c (expr_view x)))
+    IfSome (condition_check a n).0 (λ x. IsTrue (is_condition c (expr_view x)))
 
 abbrev pub SwitchIsTyped : Type 0
 SwitchIsTyped =
-    (c : Context) (a : TypedExpression) (n : Notes) → IsTypedIn c a → IfSome (switch_operand a n).0 (IsSwitched c)
+    (c : Context) (a : TypedExpression) (n : Notes) → IsTypedIn c a → IfSome (switch_check a n).0 (IsSwitched c)
 
 abbrev pub ExpressionIsValue : Type 0
 ExpressionIsValue = (c : Context) (a : TypedExpression) → IsTypedIn c a →

@@ -60,8 +60,8 @@ abbrev pub local_statement : Option TLocal → Option TStmt
 local_statement l = option_map s.Local l
 
 -- a part that is there
-abbrev pub there : Option TExpr → Option (Option TExpr)
-there value = option_map Some value
+abbrev pub some_part : Option TExpr → Option (Option TExpr)
+some_part value = option_map Some value
 
 abbrev pub first_value : Option TExpr → Option TFirst
 first_value value = option_map f.Value value

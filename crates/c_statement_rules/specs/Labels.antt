@@ -7,7 +7,7 @@ use Rattle.c_typed_tree.specs.declared.statements.TLabel.{TLabel}
 use Rattle.c_typed_tree.specs.declared.statements.TLabel.TheVariants.{Case, Default}
 use Rattle.c_type_faults.specs.declared.faults.Kind.TheVariants.{BadLabel}
 use Rattle.c_type_rules.specs.declared.typed.TypedExpression.{TypedExpression}
-use Rattle.c_constant_rules.specs.Values.{label}
+use Rattle.c_constant_rules.specs.Values.{label_value}
 use Rattle.c_checks.specs.declared.notes.Notes.{Notes}
 use Rattle.c_checks.specs.Checks.{Check, and_then, each, fault, note_fault}
 use Rattle.c_statement_rules.specs.declared.labels.Labels.{Labels}
@@ -59,7 +59,7 @@ case_value (Some ty) at word s = new_case at word s
 
 abbrev pub case_label : Option IntegerType → ℕ → TypedExpression → LabelState → Option TLabel × LabelState
 case_label ty at a s =
-    and_then (beside_labels s.0 (note_fault (label (operand_type ty) a) s.1)) (λ r. each r (case_value ty at))
+    and_then (beside_labels s.0 (note_fault (label_value (operand_type ty) a) s.1)) (λ r. each r (case_value ty at))
 
 -- ---- `default`
 

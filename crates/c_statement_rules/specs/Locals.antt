@@ -18,8 +18,8 @@ use Rattle.c_checks.specs.declared.meanings.NameMeaning.TheVariants as m
 use Rattle.c_checks.specs.declared.notes.Notes.{Notes}
 use Rattle.c_checks.specs.Checks.{Check, pure, and_then, each, fault, note_fault}
 use Rattle.c_checks.specs.Notes.{with_fault}
-use Rattle.c_checks.specs.Scopes.{with_name, stands_here}
-use Rattle.c_judgements.specs.Types.{JudgementState, within, parameter_type}
+use Rattle.c_checks.specs.Scopes.{with_meaning, stands_here}
+use Rattle.c_judgements.specs.Types.{JudgementState, in_env, parameter_type}
 use Rattle.c_statement_rules.specs.declared.locals.NewLocal.{NewLocal}
 use Rattle.c_statement_rules.specs.Objects.{object_type}
 
@@ -28,12 +28,12 @@ abbrev pub BodyState : Type 0
 BodyState = List Local × JudgementState
 
 -- a judgement that declares no local
-abbrev pub beside : {A : Type 0} → List Local → A × JudgementState → A × BodyState
-beside ls x = (x.0, (ls, x.1))
+abbrev pub locals_beside : {A : Type 0} → List Local → A × JudgementState → A × BodyState
+locals_beside ls x = (x.0, (ls, x.1))
 
 -- a judgement that declares nothing
 abbrev pub in_body : {A : Type 0} → BodyState → A × Notes → A × BodyState
-in_body s x = beside s.0 (within s.1.0 x)
+in_body s x = locals_beside s.0 (in_env s.1.0 x)
 
 -- ---- a name that is declared
 
@@ -42,13 +42,13 @@ new_local name ty s = (
   Some (record { number = length s.0; ty = ty }),
   (
     s.0 ++ record { ty = ty; in_memory = not (is_scalar (type_view ty)) } ∷ [],
-    with_name name (m.Local (length s.0) ty) s.1,
+    with_meaning name (m.Local (length s.0) ty) s.1,
   ),
 )
 
 -- nothing is judged of a name whose declaration has a fault
 abbrev pub local_of_type : List ℕ → Option CType → List Local × Env → Option NewLocal × (List Local × Env)
-local_of_type name None s = (None, (s.0, with_name name m.Faulty s.1))
+local_of_type name None s = (None, (s.0, with_meaning name m.Faulty s.1))
 local_of_type name (Some ty) s = new_local name ty s
 
 abbrev pub with_notes : {A : Type 0} → Notes → A × (List Local × Env) → A × BodyState
@@ -66,11 +66,11 @@ abbrev pub local_declared : ℕ → List ℕ → Option DeclaredType → BodySta
 local_declared at name ty s =
     and_then (in_body s (each ty (object_type at) s.1.1)) (λ r. local_named at name r)
 
-abbrev pub no_name : ℕ → CType → Check (Option NewLocal)
-no_name at ty = fault at BadType
+abbrev pub nameless_local : ℕ → CType → Check (Option NewLocal)
+nameless_local at ty = fault at BadType
 
 abbrev pub parameter_named : ℕ → (name : Option (List ℕ)) → Option CType → BodyState → Option NewLocal × BodyState
-parameter_named at None ty s = in_body s (each ty (no_name at) s.1.1)
+parameter_named at None ty s = in_body s (each ty (nameless_local at) s.1.1)
 parameter_named at (Some name) ty s = local_named at name ty s
 
 abbrev pub parameter_declared : ℕ → (name : Option (List ℕ)) → Option DeclaredType → BodyState →
@@ -97,13 +97,13 @@ without_initialiser new = record { number = new.number; init = None }
 
 -- ---- the locals whose address was taken
 
-abbrev pub memory_at : (number : ℕ) → Option Local → List Local → List Local
-memory_at number None ls = ls
-memory_at number (Some l) ls = slice_set ls number (record { ty = l.ty; in_memory = true })
+abbrev pub memory_local_at : (number : ℕ) → Option Local → List Local → List Local
+memory_local_at number None ls = ls
+memory_local_at number (Some l) ls = slice_set ls number (record { ty = l.ty; in_memory = true })
 
-abbrev pub with_memory : (number : ℕ) → List Local → List Local
-with_memory number ls = memory_at number (slice_get ls number) ls
+abbrev pub put_in_memory : (number : ℕ) → List Local → List Local
+put_in_memory number ls = memory_local_at number (slice_get ls number) ls
 
 abbrev pub with_addressed : (numbers : List ℕ) → List Local → List Local
 with_addressed [] ls = ls
-with_addressed (n ∷ ns) ls = with_addressed ns (with_memory n ls)
+with_addressed (n ∷ ns) ls = with_addressed ns (put_in_memory n ls)

@@ -17,12 +17,12 @@ use Rattle.c_operators.specs.Null.{take_value}
 use Rattle.c_checks.specs.Checks.{Check, pure, and_then, fault, note_fault}
 
 -- the condition of an `if` or a loop (6.8.4.1, 6.8.5)
-abbrev pub condition : TypedExpression → Check (Option TExpr)
-condition a n = note_fault (rule.condition (decay a)) n
+abbrev pub condition_check : TypedExpression → Check (Option TExpr)
+condition_check a n = note_fault (rule.condition (decay a)) n
 
 -- the operand of a `switch` (6.8.4.2)
-abbrev pub switch_operand : TypedExpression → Check (Option SwitchValue)
-switch_operand a n = note_fault (w.switch_operand (decay a)) n
+abbrev pub switch_check : TypedExpression → Check (Option SwitchValue)
+switch_check a n = note_fault (w.switch_operand (decay a)) n
 
 -- an expression whose value is not used (6.8.3)
 abbrev pub full_expression : TypedExpression → TExpr

@@ -213,7 +213,7 @@ pub fn local_statement(local: Option<TLocal>) -> Option<TStmt>
 
 /// A part of a `for` that is there.
 pub fn there(value: Option<Box<TExpr>>) -> Option<Option<Box<TExpr>>>
-    ensures { result ≡ spec.there value }
+    ensures { result ≡ spec.some_part value }
 {
     match value {
         None => None,

@@ -4,7 +4,7 @@ ghost use Rattle.std.specs.Prelude.{◌≡◌};
 ghost use Rattle.std.specs.Option.{option_map};
 ghost use Rattle.c_typed_tree.specs.Typing.{is_array};
 ghost use Rattle.c_typed_tree.specs.View.{type_view};
-ghost use Rattle.c_checks.specs.Checks.{Finds, each, both};
+ghost use Rattle.c_checks.specs.Checks.{Finds, each, both_parts};
 ghost use Rattle.c_statement_rules.specs.Locals as spec;
 
 use crate::objects::{object_type, parameter_type};
@@ -110,7 +110,7 @@ fn no_name(
     at: u32,
     ty: Option<CType>,
 ) -> Result<Option<NewLocal>, AllocError>
-    ensures { Finds (each ty (spec.no_name at) notes.old) result notes.new }
+    ensures { Finds (each ty (spec.nameless_local at) notes.old) result notes.new }
 {
     match ty {
         None => Ok(None),
@@ -225,7 +225,7 @@ pub fn initialised_local(
     new: Option<NewLocal>,
     a: Option<TypedExpression>,
 ) -> Result<Option<TLocal>, AllocError>
-    ensures { Finds (both new a spec.local_with_value notes.old) result notes.new }
+    ensures { Finds (both_parts new a spec.local_with_value notes.old) result notes.new }
 {
     match new {
         None => Ok(None),
@@ -251,7 +251,7 @@ pub fn plain_local(new: Option<NewLocal>) -> Option<TLocal>
 
 /// A local whose address was taken is an object of memory.
 fn set_in_memory(locals: &mut Vec<Local>, number: u32)
-    ensures { locals.new.items ≡ spec.with_memory number locals.old.items }
+    ensures { locals.new.items ≡ spec.put_in_memory number locals.old.items }
 {
     match locals.get_mut(number as usize) {
         None => {}

@@ -16,7 +16,7 @@ use std::alloc::{AllocError, Global};
 const MOST_DEPTH: u64 = 256;
 
 fn no_object(notes: &mut Notes<'_>, at: u32) -> Result<Option<CType>, AllocError>
-    ensures { Finds (spec.no_object at notes.old) result notes.new }
+    ensures { Finds (spec.no_object_type at notes.old) result notes.new }
 {
     note(notes, at, Kind::BadType)?;
     Ok(None)

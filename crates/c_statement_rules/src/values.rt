@@ -2,7 +2,7 @@
 
 ghost use Rattle.std.specs.Prelude.{◌≡◌, IfOk};
 ghost use Rattle.std.specs.Option.{option_map};
-ghost use Rattle.c_checks.specs.Checks.{Finds, each, both};
+ghost use Rattle.c_checks.specs.Checks.{Finds, each, both_parts};
 ghost use Rattle.c_statement_rules.specs.Values as spec;
 
 use c_checks::{Notes, note, note_fault};
@@ -22,7 +22,7 @@ pub fn condition(
     notes: &mut Notes<'_>,
     a: Option<TypedExpression>,
 ) -> Result<Option<Box<TExpr>>, AllocError>
-    ensures { Finds (each a spec.condition notes.old) result notes.new }
+    ensures { Finds (each a spec.condition_check notes.old) result notes.new }
 {
     match a {
         None => Ok(None),
@@ -39,7 +39,7 @@ pub fn switch_operand(
     notes: &mut Notes<'_>,
     a: Option<TypedExpression>,
 ) -> Result<Option<SwitchValue>, AllocError>
-    ensures { Finds (each a spec.switch_operand notes.old) result notes.new }
+    ensures { Finds (each a spec.switch_check notes.old) result notes.new }
 {
     match a {
         None => Ok(None),
@@ -109,7 +109,7 @@ pub fn return_value(
     of: &Option<CType>,
     a: Option<TypedExpression>,
 ) -> Result<Option<TStmt>, AllocError>
-    ensures { Finds (both of.now a (spec.return_value at) notes.old) result notes.new }
+    ensures { Finds (both_parts of.now a (spec.return_value at) notes.old) result notes.new }
 {
     match of {
         None => Ok(None),

@@ -19,11 +19,11 @@ use Rattle.c_checks.specs.Scopes.{enter, leave}
 use Rattle.c_judgements.specs.Types.{JudgementState}
 use Rattle.c_statement_rules.specs.declared.jumps.Jumps.{Jumps}
 use Rattle.c_statement_rules.specs.Jumps.{no_jumps, in_switch}
-use Rattle.c_statement_rules.specs.Locals.{BodyState, beside, with_addressed}
+use Rattle.c_statement_rules.specs.Locals.{BodyState, locals_beside, with_addressed}
 use Rattle.c_statements.specs.Parts.{operand_of}
 use Rattle.c_statements.specs.Statements.{statement}
 use Rattle.c_statements.specs.declared.functions.FunctionType.{FunctionType}
-use Rattle.c_statements.specs.Functions.{declared_parameters, parameters_of, result_of, typed_function, without_addresses, function}
+use Rattle.c_statements.specs.Functions.{declared_parameters, parameters_of, result_of, typed_function, without_addresses, judge_function}
 use Rattle.c_statements.specs.model.Lists.{statement_block, switch_statement}
 use Rattle.c_statements.proofs.Rows.{statement-Block, statement-Switch}
 
@@ -37,7 +37,7 @@ pub switch_done : {E : Type 0} (of : Option CType) (j jumps : Jumps) (v : Stmt) 
     → v ≡ s.Switch x list → ys ≡ list → jumps ≡ in_switch j → operand_of x before ≡ (o, behind) → Finds (switch_statement of jumps o ys (ls, behind)) r new → Finds (statement of j v (ls, before)) r new
 switch_done of j jumps v x list ys ls before behind o new (Ok a) form same inner operand given =
     ap (λ z. statement of j z (ls, before)) form ∙ (statement-Switch of j x list (ls, before)
-    ∙ (ap (λ q. and_then (beside ls q) (λ k (u : BodyState). switch_statement of (in_switch j) k list u)) operand
+    ∙ (ap (λ q. and_then (locals_beside ls q) (λ k (u : BodyState). switch_statement of (in_switch j) k list u)) operand
     ∙ (ap (λ k. switch_statement of k o list (ls, behind)) (sym inner) ∙ (ap (λ l. switch_statement of jumps o l (ls, behind)) (sym same) ∙ given))))
 switch_done of j jumps v x list ys ls before behind o new (Err e) form same inner operand given = tt
 
@@ -45,7 +45,7 @@ pub function_done : {E : Type 0} (d : Declaration) (of : Option FunctionType) (l
     (ls ls_p ls_s ls_f : List Local) (found : Option (List TStmt)) (r : Result (Option TypedFn) E)
     → ls ≡ [] → outside ≡ env.outside → env_e ≡ enter env → ps ≡ parameters_of d.ty → ty ≡ result_of of → declared_parameters of ps (ls, (env_e, n)) ≡ (sound, (ls_p, (env_p, n_p))) → params ≡ length ls_p
     → walk (statement ty no_jumps) list (Some []) (ls_p, (env_p, n_p)) ≡ (found, (ls_s, (env_s, n_s))) → env_l ≡ leave outside env_s → ls_f ≡ with_addressed n_s.addressed ls_s → n_f ≡ without_addresses n_s
-    → IfOk r (λ a. a ≡ typed_function d.name ty sound params ls_f found) → Finds (function d of list (env, n)) r (env_l, n_f)
+    → IfOk r (λ a. a ≡ typed_function d.name ty sound params ls_f found) → Finds (judge_function d of list (env, n)) r (env_l, n_f)
 function_done d of list ps env env_e env_p env_s env_l n n_p n_s n_f outside params ty sound ls ls_p ls_s ls_f found (Ok a) start count enters same result declares counts body leaves memory behind given =
     ap (λ t. and_then (declared_parameters of (parameters_of d.ty) ([], (enter env, n))) (λ k (u : BodyState). and_then (walk (statement t no_jumps) list (Some []) u) (λ xs (v : BodyState). (typed_function d.name t k (length u.0) (with_addressed v.1.1.addressed v.0) xs, (leave env.outside v.1.0, without_addresses v.1.1))))) (sym result)
     ∙ (ap (λ q. and_then q (λ k (u : BodyState). and_then (walk (statement ty no_jumps) list (Some []) u) (λ xs (v : BodyState). (typed_function d.name ty k (length u.0) (with_addressed v.1.1.addressed v.0) xs, (leave env.outside v.1.0, without_addresses v.1.1)))))

@@ -19,7 +19,7 @@ use Rattle.c_checks.specs.Checks.{pure, and_then, walk, append_part}
 use Rattle.c_statement_rules.specs.declared.jumps.Jumps.{Jumps}
 use Rattle.c_statement_rules.specs.Jumps.{in_switch}
 use Rattle.c_statement_rules.specs.Labels.{no_labels}
-use Rattle.c_statement_rules.specs.Locals.{BodyState, beside}
+use Rattle.c_statement_rules.specs.Locals.{BodyState, locals_beside}
 use Rattle.c_statement_rules.specs.Forms.{if_else, switch, switch_type, section_under, block}
 use Rattle.c_statements.specs.Parts.{condition_of, operand_of, label_of}
 use Rattle.c_statements.specs.Statements.{SwitchState, beside_locals, in_scope, behind_scope, statement, statement_row, section_row}
@@ -58,13 +58,13 @@ unfolding opens
 statement-Block of j xs w = ap (λ q. (block q.0, behind_scope w q.1)) (statement_row-hidden of j xs (Some []) (in_scope w))
 
 pub statement-If : (of : Option CType) (j : Jumps) (x : Expr) (y : s.Stmt) (z : Option s.Stmt) (w : BodyState)
-    → statement of j (s.If x y z) w ≡ and_then (beside w.0 (condition_of x w.1)) (λ c u. and_then (statement of j y u) (λ a v. and_then (else_statement of j z v) (λ d. pure (if_else c a d))))
+    → statement of j (s.If x y z) w ≡ and_then (locals_beside w.0 (condition_of x w.1)) (λ c u. and_then (statement of j y u) (λ a v. and_then (else_statement of j z v) (λ d. pure (if_else c a d))))
 unfolding opens
 statement-If of j x y None w = refl
 statement-If of j x y (Some z) w = refl
 
 pub statement-Switch : (of : Option CType) (j : Jumps) (x : Expr) (xs : List Section) (w : BodyState)
-    → statement of j (s.Switch x xs) w ≡ and_then (beside w.0 (operand_of x w.1)) (λ o u. switch_statement of (in_switch j) o xs u)
+    → statement of j (s.Switch x xs) w ≡ and_then (locals_beside w.0 (operand_of x w.1)) (λ o u. switch_statement of (in_switch j) o xs u)
 unfolding opens
 statement-Switch of j x xs w =
     ap (λ q. (switch (operand_of x w.1).0 q.0, q.1.1)) (section_row-hidden of (in_switch j) (switch_type (operand_of x w.1).0) xs (Some []) (no_labels, (w.0, (operand_of x w.1).1)))

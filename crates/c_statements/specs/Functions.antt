@@ -18,9 +18,9 @@ use Rattle.c_checks.specs.Scopes.{enter, leave}
 use Rattle.c_judgements.specs.Types.{JudgementState}
 use Rattle.c_statement_rules.specs.declared.locals.NewLocal.{NewLocal}
 use Rattle.c_statement_rules.specs.Jumps.{no_jumps}
-use Rattle.c_statement_rules.specs.Locals.{BodyState, beside, parameter_named, parameter_declared, with_addressed}
+use Rattle.c_statement_rules.specs.Locals.{BodyState, locals_beside, parameter_named, parameter_declared, with_addressed}
 use Rattle.c_statements.specs.declared.functions.FunctionType.{FunctionType}
-use Rattle.c_statements.specs.Parts.{type_of}
+use Rattle.c_statements.specs.Parts.{judge_type}
 use Rattle.c_statements.specs.Statements.{statement}
 
 -- ---- parameters
@@ -35,13 +35,13 @@ parameters_of (n.Pointer' _ target) = []
 parameters_of (n.Array' _ element length) = []
 parameters_of (n.Takes' _ result _ list) = k.items-the_row-Parameter _ list
 
-abbrev pub parameter_of : Parameter → BodyState → Option NewLocal × BodyState
-parameter_of p s = and_then (beside s.0 (type_of p.at p.ty s.1)) (λ ty. parameter_declared p.at p.name ty)
+abbrev pub judge_parameter : Parameter → BodyState → Option NewLocal × BodyState
+judge_parameter p s = and_then (locals_beside s.0 (judge_type p.at p.ty s.1)) (λ ty. parameter_declared p.at p.name ty)
 
 -- whether none has a fault
 abbrev pub parameters : List Parameter → (sound : Bool) → BodyState → Bool × BodyState
 parameters [] sound s = (sound, s)
-parameters (p ∷ ps) sound s = and_then (parameter_of p s) (λ r. parameters ps (sound && is_some r))
+parameters (p ∷ ps) sound s = and_then (judge_parameter p s) (λ r. parameters ps (sound && is_some r))
 
 -- whether none has a fault, and each has its type
 abbrev pub typed_parameters : List Parameter → List CType → (sound : Bool) → BodyState → Bool × BodyState
@@ -76,8 +76,9 @@ abbrev pub without_addresses : Notes → Notes
 without_addresses n = with_taken [] n.texts n
 
 -- the locals whose address was taken are objects of memory
-abbrev pub function : Declaration → Option FunctionType → List Stmt → JudgementState → Option TypedFn × JudgementState
-function d of list s =
+abbrev pub judge_function : Declaration → Option FunctionType → List Stmt → JudgementState →
+    Option TypedFn × JudgementState
+judge_function d of list s =
     and_then (declared_parameters of (parameters_of d.ty) ([], (enter s.0, s.1))) (λ sound u.
     and_then (walk (statement (result_of of) no_jumps) list (Some []) u) (λ found v. (
       typed_function d.name (result_of of) sound (length u.0) (with_addressed v.1.1.addressed v.0) found,

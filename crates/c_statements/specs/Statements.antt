@@ -16,9 +16,9 @@ use Rattle.c_statement_rules.specs.declared.jumps.Jumps.{Jumps}
 use Rattle.c_statement_rules.specs.declared.labels.Labels.{Labels}
 use Rattle.c_statement_rules.specs.Jumps.{in_loop, in_switch, break_statement, continue_statement}
 use Rattle.c_statement_rules.specs.Labels.{no_labels, beside_labels}
-use Rattle.c_statement_rules.specs.Locals.{BodyState, beside, in_body}
+use Rattle.c_statement_rules.specs.Locals.{BodyState, locals_beside, in_body}
 use Rattle.c_statement_rules.specs.Forms.{if_else, while_loop, do_loop, for_loop, switch, section_under, switch_type, block, expression_statement, local_statement}
-use Rattle.c_statements.specs.Parts.{condition_of, value_of, operand_of, optional_condition, optional_value, return_statement, local_of, first_of, label_of}
+use Rattle.c_statements.specs.Parts.{condition_of, full_value, operand_of, optional_condition, optional_value, return_statement, local_of, first_of, label_of}
 
 -- ---- a scope, which is undone where it is left (6.2.1)
 
@@ -44,28 +44,28 @@ module _ (of : Option CType) where
     statement j (s.Block' _ list) w =
         and_then (statement_row j list (Some []) (in_scope w)) (λ found u. (block found, behind_scope w u))
     statement j (s.If' x _ (b.more_of-Stmt y b.end_of-Stmt) z) w =
-        and_then (beside w.0 (condition_of x w.1)) (λ c u. and_then (statement j y u) (λ a v.
+        and_then (locals_beside w.0 (condition_of x w.1)) (λ c u. and_then (statement j y u) (λ a v.
         and_then (else_held j z v) (λ d. pure (if_else c a d))))
     statement j (s.While' x _ (b.more_of-Stmt y b.end_of-Stmt)) w =
-        and_then (beside w.0 (condition_of x w.1)) (λ c u. and_then (statement in_loop y u) (λ a.
+        and_then (locals_beside w.0 (condition_of x w.1)) (λ c u. and_then (statement in_loop y u) (λ a.
         pure (while_loop c a)))
     statement j (s.Do' _ (b.more_of-Stmt y b.end_of-Stmt) x) w =
-        and_then (statement in_loop y w) (λ a u. and_then (beside u.0 (condition_of x u.1)) (λ c.
+        and_then (statement in_loop y w) (λ a u. and_then (locals_beside u.0 (condition_of x u.1)) (λ c.
         pure (do_loop a c)))
     -- a `for` is a scope of its own (6.8.5)
     statement j (s.For' first c e _ (b.more_of-Stmt y b.end_of-Stmt)) w =
-        and_then (first_of first (in_scope w)) (λ p u. and_then (beside u.0 (optional_condition c u.1)) (λ q v.
-        and_then (beside v.0 (optional_value e v.1)) (λ r x. and_then (statement in_loop y x) (λ a z.
+        and_then (first_of first (in_scope w)) (λ p u. and_then (locals_beside u.0 (optional_condition c u.1)) (λ q v.
+        and_then (locals_beside v.0 (optional_value e v.1)) (λ r x. and_then (statement in_loop y x) (λ a z.
         (for_loop p q r a, behind_scope w z)))))
     statement j (s.Switch' x _ list) w =
-        and_then (beside w.0 (operand_of x w.1)) (λ o u.
+        and_then (locals_beside w.0 (operand_of x w.1)) (λ o u.
         and_then (section_row (in_switch j) (switch_type o) list (Some []) (no_labels, u)) (λ found v.
         (switch o found, v.1)))
     statement j (s.Break at) w = in_body w (break_statement j at w.1.1)
     statement j (s.Continue at) w = in_body w (continue_statement j at w.1.1)
-    statement j (s.Return at x) w = beside w.0 (return_statement of at x w.1)
+    statement j (s.Return at x) w = locals_beside w.0 (return_statement of at x w.1)
     statement j (s.Expression x) w =
-        beside w.0 (and_then (value_of x w.1) (λ v. pure (expression_statement v)))
+        locals_beside w.0 (and_then (full_value x w.1) (λ v. pure (expression_statement v)))
     statement j s.Empty w = (Some t.Empty, w)
     statement j (s.Local d) w = and_then (local_of d w) (λ r. pure (local_statement r))
 

@@ -48,7 +48,7 @@ fn parameter_of<'a>(
     env: &mut Env<'a>,
     notes: &mut Notes<'a>,
 ) -> Result<Option<NewLocal>, AllocError>
-    ensures { Finds (spec.parameter_of p.now (locals.old, (env.old, notes.old)))
+    ensures { Finds (spec.judge_parameter p.now (locals.old, (env.old, notes.old)))
         result (locals.new, (env.new, notes.new)) }
 {
     let ty = type_of(alloc, &p.ty, env, notes, p.at)?;
@@ -214,7 +214,7 @@ pub fn function<'a>(
     env: &mut Env<'a>,
     notes: &mut Notes<'a>,
 ) -> Result<Option<TypedFn>, AllocError>
-    ensures { Finds (spec.function declaration.now of list.now (env.old, notes.old)) result (env.new, notes.new) }
+    ensures { Finds (spec.judge_function declaration.now of list.now (env.old, notes.old)) result (env.new, notes.new) }
 {
     let mut locals = Seq::new(alloc);
     let outside = enter(env);

@@ -41,7 +41,7 @@ pub(crate) fn value_of<'a>(
     env: &mut Env<'a>,
     notes: &mut Notes<'a>,
 ) -> Result<Option<Box<TExpr>>, AllocError>
-    ensures { Finds (spec.value_of e.now (env.old, notes.old)) result (env.new, notes.new) }
+    ensures { Finds (spec.full_value e.now (env.old, notes.old)) result (env.new, notes.new) }
 {
     let a = judge(alloc, e, env, notes)?;
     full_expression(alloc, a)
@@ -124,7 +124,7 @@ pub(crate) fn type_of<'a>(
     notes: &mut Notes<'a>,
     at: u32,
 ) -> Result<Option<DeclaredType>, AllocError>
-    ensures { Finds (spec.type_of at node.now (env.old, notes.old)) result (env.new, notes.new) }
+    ensures { Finds (spec.judge_type at node.now (env.old, notes.old)) result (env.new, notes.new) }
 {
     let of = leaf(alloc, node, env, notes, at)?;
     derive(alloc, node, env, notes, at, of)

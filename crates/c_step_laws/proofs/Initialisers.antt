@@ -10,17 +10,17 @@ use Rattle.c_type_rules.specs.Conversions.{decay}
 use Rattle.c_operators.specs.Null.{take_value}
 use Rattle.c_checks.specs.declared.notes.Notes.{Notes}
 use Rattle.c_checks.specs.Checks.{each}
-use Rattle.c_judgements.specs.Texts.{bytes_of}
+use Rattle.c_judgements.specs.Texts.{spelling_bytes}
 use Rattle.c_judgements.specs.Types.{JudgementState}
 use Rattle.c_expressions.specs.Expressions.{judge}
 use Rattle.c_initial_values.specs.declared.parts.ObjectPart.{ObjectPart}
-use Rattle.c_initial_values.specs.Cells.{put, text_cells}
-use Rattle.c_initial_values.specs.Parts.{is_aggregate, is_room_for, room_of, part_of}
+use Rattle.c_initial_values.specs.Cells.{place_piece, text_cells}
+use Rattle.c_initial_values.specs.Parts.{is_aggregate, is_room_for, part_room, part_of}
 use Rattle.c_initial_values.specs.Values.{initial_value}
 use Rattle.c_initialisers.specs.declared.lists.InitialiserItems.{InitialiserItems}
 use Rattle.c_initialisers.specs.declared.lists.InitialiserItems.TheVariants as t
-use Rattle.c_initialisers.specs.Unfit.{judge_init, judge_items, is_whole_with, no_place, unfit}
-use Rattle.c_initialisers.specs.Values.{Filling, FillingState, beside, scalar_value, constant_value, value_of, text_in, text_value, expression_value, value_by}
+use Rattle.c_initialisers.specs.Unfit.{judge_init, judge_items, is_whole_with, no_place, faulty_init}
+use Rattle.c_initialisers.specs.Values.{Filling, FillingState, cells_beside, scalar_value, constant_value, fill_value, text_in, text_value, expression_value, value_or_text}
 use Rattle.c_initialisers.specs.Initialisers.{with_item, with_surplus, counted_by, if_part, list_of, scalar_list, list_in, initialise, item_row, object_cells}
 use Rattle.c_note_laws.specs.Steps.{NoteSteps}
 use Rattle.c_note_laws.proofs.Forms.{ruled, each_adds}
@@ -39,7 +39,7 @@ mutual
   items_steps i.end_of-Init whole s = NoteSteps.Stays
   items_steps (i.more_of-Init x xs) whole s = let r = judge_init x s in NoteSteps.Follows (init_steps x s) (items_steps xs (is_whole_with whole r.0) r.1)
 
-pub unfit_steps : (kind : Kind) (x : i.Init) (s : JudgementState) → NoteSteps s.1 (unfit kind x s).1.1
+pub unfit_steps : (kind : Kind) (x : i.Init) (s : JudgementState) → NoteSteps s.1 (faulty_init kind x s).1.1
 unfit_steps kind x s =
     let r = judge_init x s in
     NoteSteps.Follows (init_steps x s) (each_adds r.0 (no_place kind) r.1.1 (λ at. NoteSteps.AddsFault at kind))
@@ -49,14 +49,14 @@ unfit_steps kind x s =
 scalar_steps : (ty : CType) (place : ℕ) (a : TypedExpression) (f : Filling) → NoteSteps f.1 (scalar_value ty place a f).1.1
 scalar_steps ty place a f = NoteSteps.Follows (ruled (initial_value f.1.structs a) f.1) (ruled (take_value ty a) (constant_value a f.1).1)
 
-value_steps : (ty : CType) (place : ℕ) (a : TypedExpression) (f : Filling) → NoteSteps f.1 (value_of ty place a f).1.1
+value_steps : (ty : CType) (place : ℕ) (a : TypedExpression) (f : Filling) → NoteSteps f.1 (fill_value ty place a f).1.1
 value_steps ty place a f = choose (is_aggregate ty)
   where
-    choose : (b : Bool) → NoteSteps f.1 (if b then beside f.0 (no_place BadInit a.at f.1) else scalar_value ty place (decay a) f).1.1
+    choose : (b : Bool) → NoteSteps f.1 (if b then cells_beside f.0 (no_place BadInit a.at f.1) else scalar_value ty place (decay a) f).1.1
     choose true = NoteSteps.AddsFault a.at BadInit
     choose false = scalar_steps ty place (decay a) f
 
-judged_value_steps : (ty : CType) (place : ℕ) (o : Option TypedExpression) (f : Filling) → NoteSteps f.1 (each o (value_of ty place) f).1.1
+judged_value_steps : (ty : CType) (place : ℕ) (o : Option TypedExpression) (f : Filling) → NoteSteps f.1 (each o (fill_value ty place) f).1.1
 judged_value_steps ty place None f = NoteSteps.Stays
 judged_value_steps ty place (Some a) f = value_steps ty place a f
 
@@ -66,14 +66,14 @@ expression_steps ty place x s = NoteSteps.Follows (judge_adds x s.1) (judged_val
 text_steps : (place room at : ℕ) (bytes : List ℕ) (f : Filling) → NoteSteps f.1 (text_value place room at bytes f).1.1
 text_steps place room at bytes f = choose (is_room_for room bytes)
   where
-    choose : (b : Bool) → NoteSteps f.1 (if b then (Some at, (put place (text_cells room bytes) f.0, f.1)) else beside f.0 (no_place BadInit at f.1)).1.1
+    choose : (b : Bool) → NoteSteps f.1 (if b then (Some at, (place_piece place (text_cells room bytes) f.0, f.1)) else cells_beside f.0 (no_place BadInit at f.1)).1.1
     choose true = NoteSteps.Stays
     choose false = NoteSteps.AddsFault at BadInit
 
-by_steps : (room : Option ℕ) (text : Option (ℕ × List (List ℕ))) (ty : CType) (place : ℕ) (x : Expr) (s : FillingState) → NoteSteps s.1.1 (value_by room text ty place x s).1.1.1
+by_steps : (room : Option ℕ) (text : Option (ℕ × List (List ℕ))) (ty : CType) (place : ℕ) (x : Expr) (s : FillingState) → NoteSteps s.1.1 (value_or_text room text ty place x s).1.1.1
 by_steps None text ty place x s = expression_steps ty place x s
 by_steps (Some room) None ty place x s = expression_steps ty place x s
-by_steps (Some room) (Some spelled) ty place x s = text_steps place room spelled.0 (bytes_of spelled.1) (s.0, s.1.1)
+by_steps (Some room) (Some spelled) ty place x s = text_steps place room spelled.0 (spelling_bytes spelled.1) (s.0, s.1.1)
 
 -- ---- lists
 
@@ -102,7 +102,7 @@ mutual
   unfolding initialise
 
   pub initialise_steps : (x : i.Init) (ty : CType) (place : ℕ) (s : FillingState) → NoteSteps s.1.1 (initialise x ty place s).1.1.1
-  initialise_steps (i.Value x) ty place s = by_steps (room_of ty) (text_in x) ty place x s
+  initialise_steps (i.Value x) ty place s = by_steps (part_room ty) (text_in x) ty place x s
   initialise_steps (i.List' brace _ items) ty place s =
       let r = item_row items ty place 0 t.Fitting s in
       NoteSteps.Follows (row_steps items ty place 0 t.Fitting s) (list_in_steps ty brace r.0 r.1.1.1)
@@ -110,7 +110,7 @@ mutual
   row_steps : {m : _} (xs : i.Row_of-Init m) (ty : CType) (place k : ℕ) (found : InitialiserItems) (s : FillingState) → NoteSteps s.1.1 (item_row xs ty place k found s).1.1.1
   row_steps i.end_of-Init ty place k found s = NoteSteps.Stays
   row_steps (i.more_of-Init x xs) ty place k found s =
-      of_part (λ r. NoteSteps s.1.1 (item_row xs ty place (k + 1) r.0 r.1).1.1.1) (part_of s.1.1.structs ty k) (counted_by with_surplus found (beside s.0 (judge_init x s.1)))
+      of_part (λ r. NoteSteps s.1.1 (item_row xs ty place (k + 1) r.0 r.1).1.1.1) (part_of s.1.1.structs ty k) (counted_by with_surplus found (cells_beside s.0 (judge_init x s.1)))
       (λ p. counted_by with_item found (initialise x p.ty (place + p.place) s))
       (let r = judge_init x s.1 in NoteSteps.Follows (init_steps x s.1) (row_steps xs ty place (k + 1) (with_surplus found r.0) (s.0, r.1)))
       (λ p. let r = initialise x p.ty (place + p.place) s in NoteSteps.Follows (initialise_steps x p.ty (place + p.place) s) (row_steps xs ty place (k + 1) (with_item found r.0) r.1))

@@ -16,11 +16,11 @@ use Rattle.c_typed_tree.specs.View.{type_view}
 use Rattle.c_typed_tree.specs.Typing.{is_array, is_void}
 use Rattle.c_declared_types.specs.declared.declared.DeclaredType.{DeclaredType}
 use Rattle.c_declared_types.specs.declared.declared.DeclaredType.TheVariants as d
-use Rattle.c_declared_types.specs.Declarators.{parameter_of}
+use Rattle.c_declared_types.specs.Declarators.{adjusted_parameter}
 use Rattle.c_type_faults.specs.declared.faults.Kind.TheVariants.{BadType, BadInit, BadReturn, BadLabel, Redeclared}
 use Rattle.c_type_rules.specs.declared.typed.TypedExpression.{TypedExpression}
 use Rattle.c_type_rules.specs.Rulings.{Ruling}
-use Rattle.c_constant_rules.specs.Values.{label}
+use Rattle.c_constant_rules.specs.Values.{label_value}
 use Rattle.c_operators.specs.Null.{take_value}
 use Rattle.c_scopes.specs.Names.{find}
 use Rattle.c_checks.specs.declared.notes.Notes.{Notes}
@@ -33,12 +33,12 @@ use Rattle.c_expressions.specs.Expressions.{judge}
 use Rattle.c_statement_rules.specs.declared.labels.Labels.{Labels}
 use Rattle.c_statement_rules.specs.declared.locals.NewLocal.{NewLocal}
 use Rattle.c_statement_rules.specs.Labels.{LabelState, beside_labels, bad_label, operand_type, has_word, with_words, with_default, new_case, case_value, case_label, default_label}
-use Rattle.c_statement_rules.specs.Locals.{BodyState, in_body, local_of_type, with_notes, local_named, local_declared, no_name, parameter_named, no_initialiser, initialiser, local_with_value}
-use Rattle.c_statement_rules.specs.Objects.{no_object, object_type}
-use Rattle.c_statement_rules.specs.Values.{condition, switch_operand, return_of, bad_return, return_value, return_nothing}
-use Rattle.c_tag_bodies.specs.Members.{is_member}
+use Rattle.c_statement_rules.specs.Locals.{BodyState, in_body, local_of_type, with_notes, local_named, local_declared, nameless_local, parameter_named, no_initialiser, initialiser, local_with_value}
+use Rattle.c_statement_rules.specs.Objects.{no_object_type, object_type}
+use Rattle.c_statement_rules.specs.Values.{condition_check, switch_check, return_of, bad_return, return_value, return_nothing}
+use Rattle.c_tag_bodies.specs.Members.{is_member_type}
 use Rattle.c_statements.specs.declared.functions.FunctionType.{FunctionType}
-use Rattle.c_statements.specs.Parts.{condition_of, operand_of, optional_condition, optional_value, return_statement, type_of, initialiser_of, local_of, first_of, label_of}
+use Rattle.c_statements.specs.Parts.{condition_of, operand_of, optional_condition, optional_value, return_statement, judge_type, initialiser_of, local_of, first_of, label_of}
 use Rattle.c_statements.specs.Functions.{parameters, typed_parameters, declared_parameters}
 use Rattle.c_statements.specs.Functions as fn
 use Rattle.c_note_laws.specs.Steps.{NoteSteps}
@@ -52,10 +52,10 @@ pub judged_part : {A : Type 0} (x : Expr) (s : JudgementState) (f : TypedExpress
 judged_part x s f h = NoteSteps.Follows (judge_adds x s) (each_adds (judge x s).0 f (judge x s).1.1 (λ a. h a (judge x s).1.1))
 
 pub condition_steps : (x : Expr) (s : JudgementState) → NoteSteps s.1 (condition_of x s).1.1
-condition_steps x s = judged_part x s condition (λ a n. ruled _ n)
+condition_steps x s = judged_part x s condition_check (λ a n. ruled _ n)
 
 pub operand_steps : (x : Expr) (s : JudgementState) → NoteSteps s.1 (operand_of x s).1.1
-operand_steps x s = judged_part x s switch_operand (λ a n. ruled _ n)
+operand_steps x s = judged_part x s switch_check (λ a n. ruled _ n)
 
 pub optional_condition_steps : (o : Option Expr) (s : JudgementState) → NoteSteps s.1 (optional_condition o s).1.1
 optional_condition_steps None s = NoteSteps.Stays
@@ -87,15 +87,15 @@ return_steps of at (Some x) s =
 
 -- ---- locals
 
-pub type_steps : (at : ℕ) (ty : TypeNode) (s : JudgementState) → NoteSteps s.1 (type_of at ty s).1.1
+pub type_steps : (at : ℕ) (ty : TypeNode) (s : JudgementState) → NoteSteps s.1 (judge_type at ty s).1.1
 type_steps at ty s =
     let l = leaf s.0 at ty s.1 in
     NoteSteps.Follows (leaf_adds s.0 at ty s.1) (derive_adds at ty l.0 (s.0, l.1))
 
 pub object_type_steps : (at : ℕ) (ty : DeclaredType) (n : Notes) → NoteSteps n (object_type at ty n).1
-object_type_steps at (d.Value ty) n = choose (is_member n.structs ty)
+object_type_steps at (d.Value ty) n = choose (is_member_type n.structs ty)
   where
-    choose : (b : Bool) → NoteSteps n (if b then (Some ty, n) else no_object at n).1
+    choose : (b : Bool) → NoteSteps n (if b then (Some ty, n) else no_object_type at n).1
     choose true = NoteSteps.Stays
     choose false = NoteSteps.AddsFault at BadType
 object_type_steps at (d.Unsized element) n = NoteSteps.AddsFault at BadType
@@ -128,7 +128,7 @@ initialised_steps new (Some x) w =
 
 pub local_steps : (d : LocalDeclarator) (w : BodyState) → NoteSteps w.1.1 (local_of d w).1.1.1
 local_steps d w =
-    let ty = type_of d.declaration.at d.declaration.ty w.1 in
+    let ty = judge_type d.declaration.at d.declaration.ty w.1 in
     let u : BodyState = (w.0, ty.1) in
     let new = local_declared d.declaration.at d.declaration.name ty.0 u in
     NoteSteps.Follows (type_steps d.declaration.at d.declaration.ty w.1)
@@ -164,7 +164,7 @@ case_of_steps ty at (Err f) u = NoteSteps.AddsFault f.at f.kind
 
 pub case_steps : (ty : Option IntegerType) (at : ℕ) (o : Option TypedExpression) (u : LabelState) → NoteSteps u.1 (each o (case_label ty at) u).1.1
 case_steps ty at None u = NoteSteps.Stays
-case_steps ty at (Some a) u = case_of_steps ty at (label (operand_type ty) a) u
+case_steps ty at (Some a) u = case_of_steps ty at (label_value (operand_type ty) a) u
 
 default_steps : (at : ℕ) (u : LabelState) → NoteSteps u.1 (default_label at u).1.1
 default_steps at u = choose u.0.has_default
@@ -180,19 +180,19 @@ label_steps ty (l.Default at) w = default_steps at (w.0, w.1.1)
 -- ---- parameters
 
 pub parameter_named_steps : (at : ℕ) (name : Option (List ℕ)) (ty : Option CType) (w : BodyState) → NoteSteps w.1.1 (parameter_named at name ty w).1.1.1
-parameter_named_steps at None ty w = each_adds ty (no_name at) w.1.1 (λ x. NoteSteps.AddsFault at BadType)
+parameter_named_steps at None ty w = each_adds ty (nameless_local at) w.1.1 (λ x. NoteSteps.AddsFault at BadType)
 parameter_named_steps at (Some name) ty w = named_steps at name ty w
 
-parameter_steps : (p : Parameter) (w : BodyState) → NoteSteps w.1.1 (fn.parameter_of p w).1.1.1
+parameter_steps : (p : Parameter) (w : BodyState) → NoteSteps w.1.1 (fn.judge_parameter p w).1.1.1
 parameter_steps p w =
-    let ty = type_of p.at p.ty w.1 in
+    let ty = judge_type p.at p.ty w.1 in
     let r = in_body (w.0, ty.1) (each ty.0 (parameter_type p.at) ty.1.1) in
     NoteSteps.Follows (type_steps p.at p.ty w.1)
-    (NoteSteps.Follows (each_adds ty.0 (parameter_type p.at) ty.1.1 (λ x. within_adds p.at (parameter_of x) ty.1.1)) (parameter_named_steps p.at p.name r.0 r.1))
+    (NoteSteps.Follows (each_adds ty.0 (parameter_type p.at) ty.1.1 (λ x. within_adds p.at (adjusted_parameter x) ty.1.1)) (parameter_named_steps p.at p.name r.0 r.1))
 
 parameters_steps : (ps : List Parameter) (sound : Bool) (w : BodyState) → NoteSteps w.1.1 (parameters ps sound w).1.1.1
 parameters_steps [] sound w = NoteSteps.Stays
-parameters_steps (p ∷ ps) sound w = let r = fn.parameter_of p w in NoteSteps.Follows (parameter_steps p w) (parameters_steps ps (sound && is_some r.0) r.1)
+parameters_steps (p ∷ ps) sound w = let r = fn.judge_parameter p w in NoteSteps.Follows (parameter_steps p w) (parameters_steps ps (sound && is_some r.0) r.1)
 
 pub typed_parameters_steps : (ps : List Parameter) (tys : List CType) (sound : Bool) (w : BodyState) → NoteSteps w.1.1 (typed_parameters ps tys sound w).1.1.1
 typed_parameters_steps [] [] sound w = NoteSteps.Stays

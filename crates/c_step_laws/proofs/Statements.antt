@@ -21,7 +21,7 @@ use Rattle.c_statement_rules.specs.Locals.{BodyState}
 use Rattle.c_statements.specs.Parts.{condition_of, operand_of, optional_condition, optional_value, first_of, label_of}
 use Rattle.c_statements.specs.Statements.{SwitchState, in_scope, statement, statement_row, else_held, section_row}
 use Rattle.c_statements.specs.declared.functions.FunctionType.{FunctionType}
-use Rattle.c_statements.specs.Functions.{parameters_of, declared_parameters, result_of, function}
+use Rattle.c_statements.specs.Functions.{parameters_of, declared_parameters, result_of, judge_function}
 use Rattle.c_note_laws.specs.Steps.{NoteSteps}
 use Rattle.c_note_laws.proofs.Walks.{judge_adds}
 use Rattle.c_step_laws.proofs.Parts.{condition_steps, operand_steps, optional_condition_steps, optional_value_steps, return_steps, local_steps, walk_steps, first_steps, label_steps, declared_steps}
@@ -93,7 +93,7 @@ module _ (of : Option CType) where
         NoteSteps.Follows (label_steps ty label (w.0, w.1.1))
         (NoteSteps.Follows (row_steps j list (Some []) u) (sections_steps j ty rest (append_part found (section_under l.0 r.0)) (l.1.0, r.1)))
 
-pub function_steps : (d : Declaration) (of : Option FunctionType) (list : List s.Stmt) (s : JudgementState) → NoteSteps s.1 (function d of list s).1.1
+pub function_steps : (d : Declaration) (of : Option FunctionType) (list : List s.Stmt) (s : JudgementState) → NoteSteps s.1 (judge_function d of list s).1.1
 function_steps d of list s =
     let start : BodyState = ([], (enter s.0, s.1)) in
     let u = declared_parameters of (parameters_of d.ty) start in

@@ -8,14 +8,14 @@ use Rattle.c_type_faults.specs.declared.faults.Kind.{Kind}
 use Rattle.c_judgements.specs.Types.{JudgementState}
 use Rattle.c_note_laws.specs.Steps.{NoteSteps}
 use Rattle.c_statements.specs.declared.functions.FunctionType.{FunctionType}
-use Rattle.c_statements.specs.Functions.{function}
+use Rattle.c_statements.specs.Functions.{judge_function}
 use Rattle.c_initialisers.specs.Initialisers.{object_cells}
-use Rattle.c_initialisers.specs.Unfit.{judge_init, unfit}
+use Rattle.c_initialisers.specs.Unfit.{judge_init, faulty_init}
 
 abbrev pub FunctionsTakeSteps : Type 0
 FunctionsTakeSteps =
     (d : Declaration) (of : Option FunctionType) (list : List Stmt) (s : JudgementState) →
-    NoteSteps s.1 (function d of list s).1.1
+    NoteSteps s.1 (judge_function d of list s).1.1
 
 abbrev pub InitialisersTakeSteps : Type 0
 InitialisersTakeSteps = (ty : CType) (x : Init) (s : JudgementState) → NoteSteps s.1 (object_cells ty x s).1.1
@@ -23,4 +23,5 @@ InitialisersTakeSteps = (ty : CType) (x : Init) (s : JudgementState) → NoteSte
 -- what an initialiser is made of, where it initialises nothing
 abbrev pub InitialisersAreJudgedBySteps : Type 0
 InitialisersAreJudgedBySteps =
-    (x : Init) (s : JudgementState) → NoteSteps s.1 (judge_init x s).1.1 × ((kind : Kind) → NoteSteps s.1 (unfit kind x s).1.1)
+    (x : Init) (s : JudgementState) → NoteSteps s.1 (judge_init x s).1.1
+    × ((kind : Kind) → NoteSteps s.1 (faulty_init kind x s).1.1)

@@ -7,7 +7,7 @@ use Rattle.c_typed_tree.specs.declared.types.Member.{Member}
 use Rattle.c_typed_tree.specs.Types.{PlainType, Void, Int, Pointer, Array, Struct}
 use Rattle.c_typed_tree.specs.View.{type_view}
 use Rattle.c_typed_tree.specs.Layout.{is_complete, is_object, size_of, align_of, aligned_up, MembersLieFrom, end_from, greatest_align}
-use Rattle.c_typed_tree.specs.Typing.{is_type, depth_of, most_depth}
+use Rattle.c_typed_tree.specs.Typing.{is_valid_type, depth_of, most_depth}
 use Rattle.c_typed_tree.specs.Lawful.{IsLawfulStruct, IsStruct, IsCompleteStruct, is_object_type, greatest_depth}
 use Rattle.c_type_laws.proofs.Truth.{no_true, front, back, also, three, along}
 use Rattle.c_type_laws.proofs.Types.{known_size, known_object}
@@ -59,24 +59,24 @@ module _ (ds es : List StructDef) (g : Grow ds es) where
 
   -- ---- types
 
-  pub type_stays : (x : PlainType) → IsTrue (is_type ds x) → IsTrue (is_type es x)
+  pub type_stays : (x : PlainType) → IsTrue (is_valid_type ds x) → IsTrue (is_valid_type es x)
   type_stays Void h = refl
   type_stays (Int n s) h = h
   type_stays (Pointer x) h = type_stays x h
   type_stays (Array x n) h =
-      also (is_type es x) (is_object es (Array x n)) (type_stays x (front (is_type ds x) (is_object ds (Array x n)) h))
-      (known_object ds es g.known (Array x n) (back (is_type ds x) (is_object ds (Array x n)) h))
+      also (is_valid_type es x) (is_object es (Array x n)) (type_stays x (front (is_valid_type ds x) (is_object ds (Array x n)) h))
+      (known_object ds es g.known (Array x n) (back (is_valid_type ds x) (is_object ds (Array x n)) h))
   type_stays (Struct n) h = there_stays n h
 
   object_in : (x : PlainType) → IsTrue (is_object_type ds x) → IsTrue (is_object ds x)
-  object_in x h = back (is_type ds x) (is_object ds x) (front (is_type ds x && is_object ds x) (nat_le (depth_of ds x) most_depth) h)
+  object_in x h = back (is_valid_type ds x) (is_object ds x) (front (is_valid_type ds x && is_object ds x) (nat_le (depth_of ds x) most_depth) h)
 
   object_type_stays : (x : PlainType) → IsTrue (is_object_type ds x) → IsTrue (is_object_type es x)
   object_type_stays x h =
-      let parts = front (is_type ds x && is_object ds x) (nat_le (depth_of ds x) most_depth) h in
-      three (is_type es x) (is_object es x) (nat_le (depth_of es x) most_depth) (type_stays x (front (is_type ds x) (is_object ds x) parts))
+      let parts = front (is_valid_type ds x && is_object ds x) (nat_le (depth_of ds x) most_depth) h in
+      three (is_valid_type es x) (is_object es x) (nat_le (depth_of es x) most_depth) (type_stays x (front (is_valid_type ds x) (is_object ds x) parts))
       (known_object ds es g.known x (object_in x h))
-      (along (λ d. nat_le d most_depth) (same_depth ds es g.known x (object_in x h)) (back (is_type ds x && is_object ds x) (nat_le (depth_of ds x) most_depth) h))
+      (along (λ d. nat_le d most_depth) (same_depth ds es g.known x (object_in x h)) (back (is_valid_type ds x && is_object ds x) (nat_le (depth_of ds x) most_depth) h))
 
   -- ---- members
 

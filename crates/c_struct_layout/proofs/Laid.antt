@@ -7,26 +7,26 @@ use Rattle.c_typed_tree.specs.Lawful.{greatest_depth}
 use Rattle.c_typed_tree.specs.Typing.{depth_of}
 use Rattle.c_typed_tree.specs.View.{type_view}
 use Rattle.c_struct_layout.specs.declared.fields.Field.{Field}
-use Rattle.c_struct_layout.specs.StructLayout.{end_of, members_from, end_behind, deepest, struct_with, struct_of}
+use Rattle.c_struct_layout.specs.StructLayout.{end_after, members_from, end_behind, deepest_member, struct_with, struct_of}
 
 lies : (ds : List StructDef) (end : ℕ) (fs : List Field) → MembersLieFrom ds end (members_from ds end fs)
 lies ds end [] = tt
-lies ds end (f ∷ fs) = (refl, lies ds (end_of ds end f) fs)
+lies ds end (f ∷ fs) = (refl, lies ds (end_after ds end f) fs)
 
 ends : (ds : List StructDef) (end : ℕ) (fs : List Field)
     → end_from ds end (members_from ds end fs) ≡ end_behind ds end fs
 ends ds end [] = refl
-ends ds end (f ∷ fs) = ends ds (end_of ds end f) fs
+ends ds end (f ∷ fs) = ends ds (end_after ds end f) fs
 
 deep_from : (ds : List StructDef) (end : ℕ) (fs : List Field)
-    → greatest_depth ds (members_from ds end fs) ≡ deepest ds fs
+    → greatest_depth ds (members_from ds end fs) ≡ deepest_member ds fs
 deep_from ds end [] = refl
-deep_from ds end (f ∷ fs) = ap (max (depth_of ds (type_view f.ty))) (deep_from ds (end_of ds end f) fs)
+deep_from ds end (f ∷ fs) = ap (max (depth_of ds (type_view f.ty))) (deep_from ds (end_after ds end f) fs)
 
 module _ (ds : List StructDef) (tag : List ℕ) (fs : List Field) where
   whole : StructDef
   whole =
-      struct_with ds tag (members_from ds 0 fs) (deepest ds fs)
+      struct_with ds tag (members_from ds 0 fs) (deepest_member ds fs)
       (aligned_up (greatest_align ds (members_from ds 0 fs)) (end_behind ds 0 fs))
 
   is_whole : (d : StructDef) → struct_of ds tag fs ≡ Some d → whole ≡ d

@@ -10,28 +10,28 @@ use Rattle.c_typed_tree.specs.View.{type_view}
 use Rattle.c_struct_layout.specs.declared.fields.Field.{Field}
 
 -- a member of which the one before ends at `end`
-abbrev pub place_of : List StructDef → (end : ℕ) → Field → ℕ
-place_of ds end f = aligned_up (align_of ds (type_view f.ty)) end
+abbrev pub offset_after : List StructDef → (end : ℕ) → Field → ℕ
+offset_after ds end f = aligned_up (align_of ds (type_view f.ty)) end
 
-abbrev pub end_of : List StructDef → (end : ℕ) → Field → ℕ
-end_of ds end f = place_of ds end f + size_of ds (type_view f.ty)
+abbrev pub end_after : List StructDef → (end : ℕ) → Field → ℕ
+end_after ds end f = offset_after ds end f + size_of ds (type_view f.ty)
 
-abbrev pub member_of : List StructDef → (end : ℕ) → Field → Member
-member_of ds end f = record { name = f.name; ty = f.ty; offset = place_of ds end f }
+abbrev pub member_after : List StructDef → (end : ℕ) → Field → Member
+member_after ds end f = record { name = f.name; ty = f.ty; offset = offset_after ds end f }
 
 -- the members in order, and where the last one ends
 abbrev pub members_from : List StructDef → (end : ℕ) → List Field → List Member
 members_from ds end [] = []
-members_from ds end (f ∷ fs) = member_of ds end f ∷ members_from ds (end_of ds end f) fs
+members_from ds end (f ∷ fs) = member_after ds end f ∷ members_from ds (end_after ds end f) fs
 
 abbrev pub end_behind : List StructDef → (end : ℕ) → List Field → ℕ
 end_behind ds end [] = end
-end_behind ds end (f ∷ fs) = end_behind ds (end_of ds end f) fs
+end_behind ds end (f ∷ fs) = end_behind ds (end_after ds end f) fs
 
 -- the depth of the deepest member
-abbrev pub deepest : List StructDef → List Field → ℕ
-deepest ds [] = 0
-deepest ds (f ∷ fs) = max (depth_of ds (type_view f.ty)) (deepest ds fs)
+abbrev pub deepest_member : List StructDef → List Field → ℕ
+deepest_member ds [] = 0
+deepest_member ds (f ∷ fs) = max (depth_of ds (type_view f.ty)) (deepest_member ds fs)
 
 -- a struct of these members, of this size
 abbrev pub struct_with : List StructDef → (tag : List ℕ) → (members : List Member) → (depth size : ℕ) → StructDef
@@ -56,5 +56,5 @@ whole_size ds ms end = aligned_up (greatest_align ds ms) end
 -- the struct, unless it is larger than the data may be
 abbrev pub struct_of : List StructDef → (tag : List ℕ) → List Field → Option StructDef
 struct_of ds tag fs =
-    struct_within ds tag (members_from ds 0 fs) (deepest ds fs)
+    struct_within ds tag (members_from ds 0 fs) (deepest_member ds fs)
     (whole_size ds (members_from ds 0 fs) (end_behind ds 0 fs))

@@ -117,7 +117,7 @@ fn depth(structs: &[StructDef], ty: &CType) -> u64
 /// The depth of the deepest member.
 fn deepest(structs: &[StructDef], fields: &[Field]) -> u64
     requires { All (λ f. depth_of structs.now (type_view f.ty) ≤ most_depth) fields.now }
-    ensures value { result ≡ spec.deepest structs.now fields.now }
+    ensures value { result ≡ spec.deepest_member structs.now fields.now }
     ensures bound { result ≤ most_depth }
 {
     let mut most = 0;

@@ -6,10 +6,10 @@ use Rattle.c_tree.specs.declared.expressions.Expr.TheBlock as k
 use Rattle.c_declared_types.specs.declared.declared.DeclaredType.{DeclaredType}
 use Rattle.c_checks.specs.Checks.{and_then}
 use Rattle.c_judgements.specs.Leaves.{leaf}
-use Rattle.c_judgements.specs.Types.{JudgementState, within}
+use Rattle.c_judgements.specs.Types.{JudgementState, in_env}
 use Rattle.c_expressions.specs.Expressions.{derive}
 use Rattle.c_tag_bodies.specs.declared.members.Members.{Members}
-use Rattle.c_tag_bodies.specs.Enums.{behind, constant_row}
+use Rattle.c_tag_bodies.specs.Enums.{then_rest, constant_row}
 use Rattle.c_tag_bodies.specs.Members.{no_members, member_declared}
 use Rattle.c_tag_bodies.specs.Structs.{DefinedTags, with_body, enum_begun, struct_begun, struct_ended}
 
@@ -17,8 +17,8 @@ use Rattle.c_tag_bodies.specs.Structs.{DefinedTags, with_body, enum_begun, struc
 abbrev pub TagScope : Type 0
 TagScope = DefinedTags × JudgementState
 
-abbrev pub beside : {A : Type 0} → DefinedTags → A × JudgementState → A × TagScope
-beside ts x = (x.0, (ts, x.1))
+abbrev pub tags_beside : {A : Type 0} → DefinedTags → A × JudgementState → A × TagScope
+tags_beside ts x = (x.0, (ts, x.1))
 
 -- ---- the parts of a body, with what stands between them
 
@@ -26,17 +26,17 @@ abbrev pub enum_entered : ℕ → (tag : Option (List ℕ)) → TagScope → Jud
 enum_entered at tag s = (s.1.0, enum_begun s.0 at tag s.1.1)
 
 abbrev pub struct_entered : ℕ → (tag : Option (List ℕ)) → TagScope → Option ℕ × TagScope
-struct_entered at tag s = beside (with_body tag s.0) (within s.1.0 (struct_begun s.0 at tag s.1.1))
+struct_entered at tag s = tags_beside (with_body tag s.0) (in_env s.1.0 (struct_begun s.0 at tag s.1.1))
 
 abbrev pub struct_left : ℕ → (tag : Option (List ℕ)) → (number : Option ℕ) → Members × TagScope → TagScope
 struct_left at tag number w = (w.1.0, (w.1.1.0, struct_ended at tag number w.0 w.1.1.1))
 
 -- the type of what is declared, behind the bodies of its specifier
 abbrev pub type_behind : ℕ → t.TypeNode → TagScope → Option DeclaredType × TagScope
-type_behind at ty s = beside s.0 (and_then (within s.1.0 (leaf s.1.0 at ty s.1.1)) (λ of. derive at ty of))
+type_behind at ty s = tags_beside s.0 (and_then (in_env s.1.0 (leaf s.1.0 at ty s.1.1)) (λ of. derive at ty of))
 
 abbrev pub member_entered : ℕ → List ℕ → Members → Option DeclaredType × TagScope → Members × TagScope
-member_entered at name m r = beside r.1.0 (within r.1.1.0 (member_declared at name m r.0 r.1.1.1))
+member_entered at name m r = tags_beside r.1.0 (in_env r.1.1.0 (member_declared at name m r.0 r.1.1.1))
 
 -- ---- whatever declarator stands around the specifier
 
@@ -58,7 +58,7 @@ unfoldable mutual
   pub members_held : ℕ → (tag : Option (List ℕ)) → k.Held-TypeNode-Struct-2 → TagScope → TagScope
   members_held at tag k.TypeNode-Struct-2-None' s = s
   members_held at tag (k.TypeNode-Struct-2-Some' _ members) s =
-      behind (struct_entered at tag s) (λ number u. struct_left at tag number (member_row members (no_members, u)))
+      then_rest (struct_entered at tag s) (λ number u. struct_left at tag number (member_row members (no_members, u)))
 
   pub member_row : {m : _} → k.Row_of-Declaration m → Members × TagScope → Members × TagScope
   member_row k.end_of-Declaration w = w

@@ -19,14 +19,14 @@ abbrev pub no_members : Members
 no_members = record { names = []; fields = []; faulty = false }
 
 -- objects have the type of a member, and it is no deeper than a type may be
-abbrev pub is_member : List StructDef → CType → Bool
-is_member ds ty = is_object ds (type_view ty) && is_deep_at_most ds most_depth ty
+abbrev pub is_member_type : List StructDef → CType → Bool
+is_member_type ds ty = is_object ds (type_view ty) && is_deep_at_most ds most_depth ty
 
 abbrev pub no_member : ℕ → Check (Option CType)
 no_member at = fault at BadType
 
 abbrev pub member_type : ℕ → DeclaredType → Check (Option CType)
-member_type at (d.Value ty) n = if is_member n.structs ty then (Some ty, n) else no_member at n
+member_type at (d.Value ty) n = if is_member_type n.structs ty then (Some ty, n) else no_member at n
 member_type at (d.Unsized element) n = no_member at n
 member_type at (d.Function of parameters) n = no_member at n
 

@@ -13,10 +13,10 @@ use Rattle.c_type_faults.specs.declared.faults.Kind.TheVariants.{Redeclared, Bad
 use Rattle.c_checks.specs.declared.notes.Notes.{Notes}
 use Rattle.c_checks.specs.Checks.{Check, pure, and_then, fault}
 use Rattle.c_checks.specs.Notes.{with_fault, new_struct}
-use Rattle.c_judgements.specs.Leaves.{incomplete, tagged_struct, tagged_enum}
+use Rattle.c_judgements.specs.Leaves.{incomplete_struct, tagged_struct, tagged_enum}
 use Rattle.c_judgements.specs.Members.{struct_number}
 use Rattle.c_tag_bodies.specs.declared.members.Members.{Members}
-use Rattle.c_tag_bodies.specs.Members.{is_member}
+use Rattle.c_tag_bodies.specs.Members.{is_member_type}
 
 -- the tags that have a body, from its beginning on: there is one at most for each (6.7.2.3)
 abbrev pub DefinedTags : Type 0
@@ -36,17 +36,17 @@ abbrev pub enum_begun : DefinedTags → ℕ → (tag : Option (List ℕ)) → No
 enum_begun ts at None n = n
 enum_begun ts at (Some name) n = tagged_body ts at name n
 
-abbrev pub number_of : Option DeclaredType → Option ℕ
-number_of None = None
-number_of (Some (d.Value ty)) = struct_number (type_view ty)
-number_of (Some (d.Unsized element)) = None
-number_of (Some (d.Function of parameters)) = None
+abbrev pub struct_number_of : Option DeclaredType → Option ℕ
+struct_number_of None = None
+struct_number_of (Some (d.Value ty)) = struct_number (type_view ty)
+struct_number_of (Some (d.Unsized element)) = None
+struct_number_of (Some (d.Function of parameters)) = None
 
 abbrev pub add_untagged : Check (Option ℕ)
-add_untagged n = and_then (new_struct (incomplete []) n) (λ number. pure (Some number))
+add_untagged n = and_then (new_struct (incomplete_struct []) n) (λ number. pure (Some number))
 
 abbrev pub number_for_tag : ℕ → List ℕ → Check (Option ℕ)
-number_for_tag at name n = and_then (tagged_struct at name n) (λ ty. pure (number_of ty))
+number_for_tag at name n = and_then (tagged_struct at name n) (λ ty. pure (struct_number_of ty))
 
 abbrev pub no_body : ℕ → Check (Option ℕ)
 no_body at = fault at Redeclared
@@ -61,7 +61,7 @@ struct_begun ts at (Some name) n = if is_some (find name ts) then no_body at n e
 -- the struct of these members, where objects have their types, as they did where the members stand; None where it is
 -- larger than the data may be
 abbrev pub struct_where : List StructDef → (tag : List ℕ) → List Field → Option StructDef
-struct_where ds tag fs = if list_all (λ f. is_member ds f.ty) fs then struct_of ds tag fs else None
+struct_where ds tag fs = if list_all (λ f. is_member_type ds f.ty) fs then struct_of ds tag fs else None
 
 abbrev pub tag_name : Option (List ℕ) → List ℕ
 tag_name None = []
@@ -106,11 +106,11 @@ with_members number structure names n =
     if is_complete (slice_get n.structs number) then n else with_struct number structure names n
 
 -- a struct has the members that are without a fault
-abbrev pub complete : ℕ → (number : ℕ) → Members → Option StructDef → Notes → Notes
-complete at number m None n = too_large at m.faulty n
-complete at number m (Some structure) n = with_members number structure m.names n
+abbrev pub finish_struct : ℕ → (number : ℕ) → Members → Option StructDef → Notes → Notes
+finish_struct at number m None n = too_large at m.faulty n
+finish_struct at number m (Some structure) n = with_members number structure m.names n
 
 abbrev pub struct_ended : ℕ → (tag : Option (List ℕ)) → (number : Option ℕ) → Members → Notes → Notes
 struct_ended at tag None m n = n
 struct_ended at tag (Some number) m n =
-    with_untagged at tag number (complete at number m (struct_where n.structs (tag_name tag) m.fields) n)
+    with_untagged at tag number (finish_struct at number m (struct_where n.structs (tag_name tag) m.fields) n)

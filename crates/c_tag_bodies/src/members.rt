@@ -41,7 +41,7 @@ pub(crate) fn no_members<'a>(alloc: Global) -> Members<'a>
 
 /// Whether a member may have the type.
 pub fn is_member(structs: &[StructDef], ty: &CType) -> bool
-    ensures { result ≡ spec.is_member structs.now ty.now }
+    ensures { result ≡ spec.is_member_type structs.now ty.now }
 {
     is_object(structs, ty) && is_deep_at_most(structs, MOST_DEPTH, ty)
 }

@@ -9,7 +9,7 @@ ghost use Rattle.c_typed_tree.specs.Layout.{is_object};
 ghost use Rattle.c_typed_tree.specs.Typing.{depth_of, most_depth};
 ghost use Rattle.c_typed_tree.specs.View.{type_view};
 ghost use Rattle.c_checks.specs.Checks.{Finds};
-ghost use Rattle.c_tag_bodies.specs.Members.{is_member};
+ghost use Rattle.c_tag_bodies.specs.Members.{is_member_type};
 ghost use Rattle.c_tag_bodies.specs.Structs as spec;
 
 use crate::members::{Members, is_member};
@@ -78,7 +78,7 @@ pub(crate) fn begin_enum<'a>(
 
 /// The number of a struct.
 fn number_of(ty: Option<DeclaredType>) -> Option<u32>
-    ensures { result ≡ spec.number_of ty }
+    ensures { result ≡ spec.struct_number_of ty }
 {
     match ty {
         None => None,
@@ -140,7 +140,7 @@ pub(crate) fn begin_struct<'a>(
 
 /// Whether members may have the types of these.
 fn are_members(structs: &[StructDef], fields: &[Field]) -> bool
-    ensures value { result ≡ list_all (λ f. is_member structs.now f.ty) fields.now }
+    ensures value { result ≡ list_all (λ f. is_member_type structs.now f.ty) fields.now }
     ensures objects { OnTrue result (All (λ f. IsTrue (is_object structs.now (type_view f.ty))) fields.now) }
     ensures shallow { OnTrue result (All (λ f. depth_of structs.now (type_view f.ty) ≤ most_depth) fields.now) }
 {
@@ -256,7 +256,7 @@ fn complete<'a>(
     structure: Option<StructDef>,
     members: &mut Members<'a>,
 ) -> Result<(), AllocError>
-    ensures { OnOk result (notes.new ≡ spec.complete at number members.old structure notes.old) }
+    ensures { OnOk result (notes.new ≡ spec.finish_struct at number members.old structure notes.old) }
 {
     match structure {
         None => too_large(notes, at, members.faulty),

@@ -2,7 +2,7 @@
 use Rattle.std.proofs.Common.{◌≡◌, ℕ, zero, suc, ◌+◌, ◌<◌, ◌≤◌, max, List, [], ◌∷◌, ◌++◌, length, get_or, take, sym, ap, ◌∙◌, arith, subst, Bool, true, false}
 use Rattle.std.specs.Prelude.{IsTrue, ◌↔◌}
 use Rattle.std.proofs.lemmas.List.{take_more}
-use Rattle.c_tree.specs.Nodes.{Node, Nodes, node, none, more, both, append_nodes, nodes_of, node_height, nodes_height}
+use Rattle.c_tree.specs.Nodes.{Node, Nodes, node, none, more, two_nodes, append_nodes, nodes_of, node_height, nodes_height}
 
 height-append : {A : Type 0} (f : A → Node) (xs : List A) (x : A) → nodes_height (nodes_of f (xs ++ x ∷ [])) ≡ max (nodes_height (nodes_of f xs)) (node_height (f x))
 height-append f [] x = omega arith
@@ -49,9 +49,9 @@ height-append_nodes none ns = omega arith
 height-append_nodes (more m ms) ns = let e = height-append_nodes ms ns in omega (arith, e)
 
 -- what stands before the last of the nodes within the bound, and the last
-pub last-is : (ok : Bool) (ms : Nodes) (x y n : Node) (ns : Nodes) (most : ℕ) → append_nodes ms (more x (both y n)) ≡ ns → nodes_height (append_nodes ms (both x y)) ≤ most → (IsTrue ok ↔ (node_height n ≤ most)) → IsTrue ok ↔ (nodes_height ns ≤ most)
+pub last-is : (ok : Bool) (ms : Nodes) (x y n : Node) (ns : Nodes) (most : ℕ) → append_nodes ms (more x (two_nodes y n)) ≡ ns → nodes_height (append_nodes ms (two_nodes x y)) ≤ most → (IsTrue ok ↔ (node_height n ≤ most)) → IsTrue ok ↔ (nodes_height ns ≤ most)
 last-is ok ms x y n ns most e h g =
-    let j = height-append_nodes ms (more x (both y n)) in let k = height-append_nodes ms (both x y) in
+    let j = height-append_nodes ms (more x (two_nodes y n)) in let k = height-append_nodes ms (two_nodes x y) in
     subst (λ z. IsTrue ok ↔ (nodes_height z ≤ most)) e ((λ holds. let r = g.0 holds in omega (arith, h, j, k, r)), (λ all. g.1 (omega (arith, all, j))))
 
 pub ruleset heights = (height-some, height-append_nodes)

@@ -31,8 +31,8 @@ mutual
 abbrev pub lone : Node → Nodes
 lone n = more n none
 
-abbrev pub both : Node → Node → Nodes
-both m n = more m (more n none)
+abbrev pub two_nodes : Node → Node → Nodes
+two_nodes m n = more m (more n none)
 
 -- the nodes of a list's elements
 abbrev pub nodes_of : {A : Type 0} → (A → Node) → List A → Nodes
@@ -54,19 +54,19 @@ unfoldable mutual
   expr_node (e.Unary' at op _ (k.more_of-Expr x k.end_of-Expr)) =
       node (codes "unary " ++ unary_word op) (lone (expr_node x))
   expr_node (e.Binary' at op _ (k.more_of-Expr x k.end_of-Expr) _ (k.more_of-Expr y k.end_of-Expr)) =
-      node (codes "binary " ++ binary_word op) (both (expr_node x) (expr_node y))
+      node (codes "binary " ++ binary_word op) (two_nodes (expr_node x) (expr_node y))
   expr_node (e.Assign' at op _ (k.more_of-Expr x k.end_of-Expr) _ (k.more_of-Expr y k.end_of-Expr)) =
-      node (codes "assign " ++ assign_word op) (both (expr_node x) (expr_node y))
+      node (codes "assign " ++ assign_word op) (two_nodes (expr_node x) (expr_node y))
   expr_node (e.Conditional' at _ (k.more_of-Expr x k.end_of-Expr) _ (k.more_of-Expr y k.end_of-Expr) _
       (k.more_of-Expr z k.end_of-Expr)) =
-      node (codes "choose") (more (expr_node x) (both (expr_node y) (expr_node z)))
+      node (codes "choose") (more (expr_node x) (two_nodes (expr_node y) (expr_node z)))
   expr_node (e.Cast' at _ (k.more_of-TypeName place ty k.end_of-TypeName) _ (k.more_of-Expr x k.end_of-Expr)) =
-      node (codes "cast") (both (type_node ty) (expr_node x))
+      node (codes "cast") (two_nodes (type_node ty) (expr_node x))
   expr_node (e.SizeOfValue' at _ (k.more_of-Expr x k.end_of-Expr)) = node (codes "sizeof") (lone (expr_node x))
   expr_node (e.SizeOfType' at _ (k.more_of-TypeName place ty k.end_of-TypeName)) =
       node (codes "sizeof") (lone (type_node ty))
   expr_node (e.Index' at _ (k.more_of-Expr x k.end_of-Expr) _ (k.more_of-Expr y k.end_of-Expr)) =
-      node (codes "index") (both (expr_node x) (expr_node y))
+      node (codes "index") (two_nodes (expr_node x) (expr_node y))
   expr_node (e.Field' at _ (k.more_of-Expr x k.end_of-Expr) name) = node (codes "field " ++ name) (lone (expr_node x))
   expr_node (e.Arrow' at _ (k.more_of-Expr x k.end_of-Expr) name) = node (codes "arrow " ++ name) (lone (expr_node x))
   expr_node (e.Postfix' at op _ (k.more_of-Expr x k.end_of-Expr)) =
@@ -156,12 +156,12 @@ unfoldable mutual
   stmt_node (s.If' condition _ (b.more_of-Stmt y b.end_of-Stmt) otherwise) =
       node (codes "if") (more (expr_node condition) (more (stmt_node y) (stmt_held otherwise)))
   stmt_node (s.While' condition _ (b.more_of-Stmt y b.end_of-Stmt)) =
-      node (codes "while") (both (expr_node condition) (stmt_node y))
+      node (codes "while") (two_nodes (expr_node condition) (stmt_node y))
   stmt_node (s.Do' _ (b.more_of-Stmt y b.end_of-Stmt) condition) =
-      node (codes "do") (both (stmt_node y) (expr_node condition))
+      node (codes "do") (two_nodes (stmt_node y) (expr_node condition))
   stmt_node (s.For' first condition step _ (b.more_of-Stmt y b.end_of-Stmt)) =
       node (codes "for") (append_nodes (first_nodes first)
-      (more (part_of_for condition) (both (part_of_for step) (stmt_node y))))
+      (more (part_of_for condition) (two_nodes (part_of_for step) (stmt_node y))))
   stmt_node (s.Switch' operand _ sections) = node (codes "switch") (more (expr_node operand) (section_row sections))
   stmt_node (s.Break at) = node (codes "break") none
   stmt_node (s.Continue at) = node (codes "continue") none

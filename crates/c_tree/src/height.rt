@@ -5,7 +5,7 @@
 #![tactic(auto, using(crate::proofs::Rows::rows, crate::proofs::Heights::heights), unfolding(crate::specs::model::Open::opens))]
 
 ghost use Rattle.std.specs.Prelude.{◌≤◌, ◌↔◌, IsTrue};
-ghost use Rattle.c_tree.specs.Nodes.{node_height, nodes_height, expr_node, type_node, nodes_of, both, append_nodes, optional, local_node, first_nodes, part_of_for, label_nodes, stmt_node, init_node, optional_init, end_nodes, external_node, unit_height};
+ghost use Rattle.c_tree.specs.Nodes.{node_height, nodes_height, expr_node, type_node, nodes_of, two_nodes, append_nodes, optional, local_node, first_nodes, part_of_for, label_nodes, stmt_node, init_node, optional_init, end_nodes, external_node, unit_height};
 ghost use Rattle.c_tree.specs.model.Parts.{children_of, constant_node, member_node, parameter_node, section_node, else_nodes};
 
 use crate::{
@@ -269,7 +269,7 @@ fn is_head_within(
     most: u32,
 ) -> bool
     ensures { IsTrue result ↔ (nodes_height (append_nodes (first_nodes first.now)
-        (both (part_of_for condition.now) (part_of_for step.now))) ≤ most) }
+        (two_nodes (part_of_for condition.now) (part_of_for step.now))) ≤ most) }
 {
     is_first_within(first, most)
         && is_part_of_for_within(condition, most)

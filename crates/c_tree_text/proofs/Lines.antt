@@ -3,7 +3,7 @@ use Rattle.std.proofs.Common.{◌≡◌, ℕ, List, [], ◌∷◌, ◌++◌, Res
 use Rattle.std.specs.Prelude.{OnOk}
 use Rattle.std.proofs.lemmas.List.{take_more}
 use Rattle.c_tree.specs.Words.{spellings_text}
-use Rattle.c_tree.specs.Nodes.{Node, Nodes, node, none, more, lone, both, append_nodes, nodes_of, node_text, nodes_text}
+use Rattle.c_tree.specs.Nodes.{Node, Nodes, node, none, more, lone, two_nodes, append_nodes, nodes_of, node_text, nodes_text}
 use Rattle.c_tree.specs.model.Parts.{line_text}
 
 -- what follows where the call succeeds
@@ -50,21 +50,21 @@ nodes_are r o0 o1 p ms ns e h = on_ok r h (λ g. g ∙ ap (λ k. o0 ++ nodes_tex
 pub first_and : {A E : Type 0} (r : Result A E) (o0 o1 o2 p : List ℕ) (x : Node) (ms ns : Nodes) → more x ms ≡ ns → o1 ≡ o0 ++ node_text p x → OnOk r (o2 ≡ o1 ++ nodes_text p ms) → OnOk r (o2 ≡ o0 ++ nodes_text p ns)
 first_and r o0 o1 o2 p x ms ns e h g = on_ok r g (λ k. behind o0 o1 o2 (node_text p x) (nodes_text p ms) h k ∙ ap (λ z. o0 ++ nodes_text p z) e)
 
-pub two : {A E : Type 0} (r : Result A E) (o0 o1 o2 p : List ℕ) (x y : Node) (ns : Nodes) → both x y ≡ ns → o1 ≡ o0 ++ node_text p x → OnOk r (o2 ≡ o1 ++ node_text p y) → OnOk r (o2 ≡ o0 ++ nodes_text p ns)
+pub two : {A E : Type 0} (r : Result A E) (o0 o1 o2 p : List ℕ) (x y : Node) (ns : Nodes) → two_nodes x y ≡ ns → o1 ≡ o0 ++ node_text p x → OnOk r (o2 ≡ o1 ++ node_text p y) → OnOk r (o2 ≡ o0 ++ nodes_text p ns)
 two r o0 o1 o2 p x y ns e h g = first_and r o0 o1 o2 p x (lone y) ns e h (on_ok r g (λ k. k ∙ ap (λ z. o1 ++ z) (sym (append-nil (node_text p y)))))
 
-pub three : {A E : Type 0} (r : Result A E) (o0 o1 o2 o3 p : List ℕ) (x y z : Node) (ns : Nodes) → more x (both y z) ≡ ns → o1 ≡ o0 ++ node_text p x → o2 ≡ o1 ++ node_text p y → OnOk r (o3 ≡ o2 ++ node_text p z)
+pub three : {A E : Type 0} (r : Result A E) (o0 o1 o2 o3 p : List ℕ) (x y z : Node) (ns : Nodes) → more x (two_nodes y z) ≡ ns → o1 ≡ o0 ++ node_text p x → o2 ≡ o1 ++ node_text p y → OnOk r (o3 ≡ o2 ++ node_text p z)
     → OnOk r (o3 ≡ o0 ++ nodes_text p ns)
-three r o0 o1 o2 o3 p x y z ns e h g k = first_and r o0 o1 o3 p x (both y z) ns e h (two r o1 o2 o3 p y z (both y z) refl g k)
+three r o0 o1 o2 o3 p x y z ns e h g k = first_and r o0 o1 o3 p x (two_nodes y z) ns e h (two r o1 o2 o3 p y z (two_nodes y z) refl g k)
 
-pub four : {A E : Type 0} (r : Result A E) (o0 o1 o2 o3 o4 p : List ℕ) (ms : Nodes) (x y z : Node) (ns : Nodes) → append_nodes ms (more x (both y z)) ≡ ns → o1 ≡ o0 ++ nodes_text p ms → o2 ≡ o1 ++ node_text p x → o3 ≡ o2 ++ node_text p y
+pub four : {A E : Type 0} (r : Result A E) (o0 o1 o2 o3 o4 p : List ℕ) (ms : Nodes) (x y z : Node) (ns : Nodes) → append_nodes ms (more x (two_nodes y z)) ≡ ns → o1 ≡ o0 ++ nodes_text p ms → o2 ≡ o1 ++ node_text p x → o3 ≡ o2 ++ node_text p y
     → OnOk r (o4 ≡ o3 ++ node_text p z) → OnOk r (o4 ≡ o0 ++ nodes_text p ns)
 four r o0 o1 o2 o3 o4 p ms x y z ns e h g k l =
-    on_ok r (three r o1 o2 o3 o4 p x y z (more x (both y z)) refl g k l) (λ m.
-    behind o0 o1 o4 (nodes_text p ms) (nodes_text p (more x (both y z))) h m ∙ ap (λ w. o0 ++ w) (sym (nodes_text-append_nodes p ms (more x (both y z)))) ∙ ap (λ w. o0 ++ nodes_text p w) e)
+    on_ok r (three r o1 o2 o3 o4 p x y z (more x (two_nodes y z)) refl g k l) (λ m.
+    behind o0 o1 o4 (nodes_text p ms) (nodes_text p (more x (two_nodes y z))) h m ∙ ap (λ w. o0 ++ w) (sym (nodes_text-append_nodes p ms (more x (two_nodes y z)))) ∙ ap (λ w. o0 ++ nodes_text p w) e)
 
-pub both_is : {A B : Type 0} (f : A → Node) (g : B → Node) (x y : A) (v w : B) → x ≡ y → v ≡ w → both (f x) (g v) ≡ both (f y) (g w)
-both_is f g x y v w h k = ap (λ z. both (f z) (g v)) h ∙ ap (λ z. both (f y) (g z)) k
+pub both_is : {A B : Type 0} (f : A → Node) (g : B → Node) (x y : A) (v w : B) → x ≡ y → v ≡ w → two_nodes (f x) (g v) ≡ two_nodes (f y) (g w)
+both_is f g x y v w h k = ap (λ z. two_nodes (f z) (g v)) h ∙ ap (λ z. two_nodes (f y) (g z)) k
 
 pub more_is : {A : Type 0} (f : A → Node) (x y : A) (ms ns : Nodes) → x ≡ y → ms ≡ ns → more (f x) ms ≡ more (f y) ns
 more_is f x y ms ns h k = ap (λ z. more (f z) ms) h ∙ ap (more (f y)) k

@@ -6,7 +6,7 @@ use Rattle.std.proofs.lemmas.List.Elements.{All-cons}
 use Rattle.c_type_faults.specs.declared.faults.Kind.{Kind}
 use Rattle.c_type_faults.specs.declared.faults.Kind.TheVariants as k
 use Rattle.c_type_faults.specs.declared.faults.Fault.{Fault}
-use Rattle.c_type_faults.specs.Faults.{kind_number, is_before, inserted, sorted_onto, sorted, head}
+use Rattle.c_type_faults.specs.Faults.{kind_number, is_before, insert_fault, sorted_onto, sort_faults, head}
 use Rattle.c_type_faults.specs.model.Earlier.{earlier}
 use Rattle.c_type_faults.proofs.Sorted.{head-inserted}
 
@@ -87,7 +87,7 @@ least_onto done [] f e = record {
   before = λ d same. let is : f ≡ d = cc in subst (λ x. worth f ≤ worth x) is (omega arith);
 }
 least_onto done (g ∷ gs) f e =
-    let rest = least_onto (inserted g done) gs f e in
+    let rest = least_onto (insert_fault g done) gs f e in
     let low = lower g (head done) in
     let first : worth f ≤ worth (earlier g (head done)) = rest.before (earlier g (head done)) (head-inserted g done) in
     record {
@@ -95,21 +95,21 @@ least_onto done (g ∷ gs) f e =
       before = λ d same. omega (arith, first, low.other d same);
     }
 
-pub least : (fs : List Fault) (f : Fault) → head (sorted fs) ≡ Some f → All (λ g. is_before g f ≡ false) fs
+pub least : (fs : List Fault) (f : Fault) → head (sort_faults fs) ≡ Some f → All (λ g. is_before g f ≡ false) fs
 least fs f e = (least_onto [] fs f e).all
 
 -- some faults have a first one
-not_empty : (f : Fault) (gs : List Fault) → inserted f gs ≡ [] → ⊥
+not_empty : (f : Fault) (gs : List Fault) → insert_fault f gs ≡ [] → ⊥
 not_empty f gs e = let h = ap head e in let g = head-inserted f gs in cc
 
 onto_empty : (done fs : List Fault) → sorted_onto done fs ≡ [] → done ≡ []
 onto_empty done [] e = e
-onto_empty done (f ∷ fs) e = absurd (not_empty f done (onto_empty (inserted f done) fs e))
+onto_empty done (f ∷ fs) e = absurd (not_empty f done (onto_empty (insert_fault f done) fs e))
 
 no_head : (fs : List Fault) → head fs ≡ None → fs ≡ []
 no_head [] e = refl
 no_head (f ∷ fs) e = let clash : ⊥ = cc in absurd clash
 
-pub some : (fs : List Fault) → head (sorted fs) ≡ None → fs ≡ []
+pub some : (fs : List Fault) → head (sort_faults fs) ≡ None → fs ≡ []
 some [] e = refl
-some (f ∷ fs) e = absurd (not_empty f [] (onto_empty (inserted f []) fs (no_head (sorted (f ∷ fs)) e)))
+some (f ∷ fs) e = absurd (not_empty f [] (onto_empty (insert_fault f []) fs (no_head (sort_faults (f ∷ fs)) e)))

@@ -30,17 +30,17 @@ is_before f g =
     else false
 
 -- a fault more in a sorted list, where the same fault counts once
-abbrev pub inserted : Fault → List Fault → List Fault
-inserted f [] = f ∷ []
-inserted f (g ∷ gs) = if is_before f g then f ∷ g ∷ gs else if is_before g f then g ∷ inserted f gs else g ∷ gs
+abbrev pub insert_fault : Fault → List Fault → List Fault
+insert_fault f [] = f ∷ []
+insert_fault f (g ∷ gs) = if is_before f g then f ∷ g ∷ gs else if is_before g f then g ∷ insert_fault f gs else g ∷ gs
 
 abbrev pub sorted_onto : List Fault → List Fault → List Fault
 sorted_onto done [] = done
-sorted_onto done (f ∷ fs) = sorted_onto (inserted f done) fs
+sorted_onto done (f ∷ fs) = sorted_onto (insert_fault f done) fs
 
 -- the faults in order, each once
-abbrev pub sorted : List Fault → List Fault
-sorted fs = sorted_onto [] fs
+abbrev pub sort_faults : List Fault → List Fault
+sort_faults fs = sorted_onto [] fs
 
 abbrev pub head : List Fault → Option Fault
 head [] = None

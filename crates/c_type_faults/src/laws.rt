@@ -2,10 +2,10 @@
 
 ghost use Rattle.std.specs.Prelude.{◌≡◌, [], List, All, None, Some, false};
 ghost use Rattle.c_type_faults.specs.declared.faults.Fault.{Fault};
-ghost use Rattle.c_type_faults.specs.Faults.{is_before, sorted, head};
+ghost use Rattle.c_type_faults.specs.Faults.{is_before, sort_faults, head};
 
 /// Of some faults there is a first one, and none of them comes before it.
 pub fn the_first_is_least()
-    ensures some { (fs : List Fault) → head (sorted fs) ≡ None → fs ≡ [] }
-    ensures least { (fs : List Fault) (f : Fault) → head (sorted fs) ≡ Some f → All (λ g. is_before g f ≡ false) fs }
+    ensures some { (fs : List Fault) → head (sort_faults fs) ≡ None → fs ≡ [] }
+    ensures least { (fs : List Fault) (f : Fault) → head (sort_faults fs) ≡ Some f → All (λ g. is_before g f ≡ false) fs }
 {}

@@ -57,7 +57,7 @@ fn earlier(f: Fault, g: Option<Fault>) -> Fault
 
 /// The first of faults by their places, and of those at one place by the numbers of their kinds. It takes no memory.
 pub fn least(faults: &[Fault]) -> Option<Fault>
-    ensures { result ≡ spec.head (spec.sorted faults.now) }
+    ensures { result ≡ spec.head (spec.sort_faults faults.now) }
 {
     let mut found = None;
     for fault in faults {

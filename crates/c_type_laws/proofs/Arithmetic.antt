@@ -17,17 +17,17 @@ use Rattle.c_typed_tree.specs.Constants.{is_integer}
 use Rattle.c_typed_tree.specs.Typing as rules
 use Rattle.c_typed_tree.specs.Typing.{Context, is_same_type, is_array, is_pointer, is_scalar, is_promoted, points_to_object, has_binary_type, has_unary_type, has_promoted_type, is_arithmetic}
 use Rattle.c_type_rules.specs.declared.typed.TypedExpression.{TypedExpression}
-use Rattle.c_type_rules.specs.Values.{integer_type, int, long, integer, is_same, convert_tree, binary}
-use Rattle.c_type_rules.specs.Arithmetic.{promoted_type, unary_of, unary_arithmetic, common_type, arithmetic_of, arithmetic, shift_of, shift, sum, difference}
-use Rattle.c_type_rules.specs.Comparisons.{negation, logical, are_pointers_of_one_type, ordered_pointers, comparison_of, comparison}
+use Rattle.c_type_rules.specs.Values.{type_of_integer, int, long, integer, is_same, convert_tree, binary_rvalue}
+use Rattle.c_type_rules.specs.Arithmetic.{promoted_type, unary_of, unary_arithmetic, common_type, arithmetic_of, arithmetic, shift_of, bitwise_shift, addition, subtraction}
+use Rattle.c_type_rules.specs.Comparisons.{not_operation, logical, are_pointers_of_one_type, ordered_pointers, comparison_of, comparison}
 use Rattle.c_type_laws.specs.Typed.{IsTypedIn, IsOfType, AreKnown}
 use Rattle.c_type_laws.proofs.Truth.{front, back, also, three, along, either_left, either_right, first_of_three, second_of_three, third_of_three, given}
 use Rattle.c_type_laws.proofs.Types.{same, alike, integer_known, integer_from, integer_fits, promote_promoted, common_promoted, promoted, integer_no_array, pointer_no_array, object_pointer_is, known_pointer}
 use Rattle.c_type_laws.proofs.Values.{fit_in, tree_in, integer_operand, unary_made, binary_made}
 
 -- an integer type is no array
-pub plain_integer : (s : IntegerType) → IsFalse (is_array (type_view (integer_type s)))
-plain_integer s = integer_no_array (type_view (integer_type s)) (integer_from (type_view (integer_type s)) s (integer_known s))
+pub plain_integer : (s : IntegerType) → IsFalse (is_array (type_view (type_of_integer s)))
+plain_integer s = integer_no_array (type_view (type_of_integer s)) (integer_from (type_view (type_of_integer s)) s (integer_known s))
 
 int_is : IsTrue (is_same_type (type_view int) rules.int)
 unfolding type_view
@@ -128,7 +128,7 @@ module _ (c : Context) where
       (p c.structs ty ty count (three (is_promoted ty) (is_promoted count) (is_same_type ty ty) (promoted (promote s) (promote_promoted s)) (promoted (promote r) (promote_promoted r)) (alike ty)))
       (plain_integer (promote s))
 
-  pub shift_typed : (at : ℕ) (op : BinaryOp) (x y : TypedExpression) → Shifts op → IsTypedIn c x → IsTypedIn c y → IfOk (shift at op x y) (IsTypedIn c)
+  pub shift_typed : (at : ℕ) (op : BinaryOp) (x y : TypedExpression) → Shifts op → IsTypedIn c x → IsTypedIn c y → IfOk (bitwise_shift at op x y) (IsTypedIn c)
   shift_typed at op x y p h g = shift_of_typed at op x y (integer x) (integer y) p h g refl refl
 
   -- ---- `+` and `-` with pointers
@@ -136,7 +136,7 @@ module _ (c : Context) where
   plain_pointer : (x : PlainType) → IsTrue (points_to_object c.structs x) → IsFalse (is_array x)
   plain_pointer x h = pointer_no_array x (object_pointer_is c.structs x h)
 
-  pub sum_typed : (ds : List StructDef) (at : ℕ) (x y : TypedExpression) → AreKnown ds c.structs → IsTypedIn c x → IsTypedIn c y → IfOk (sum ds at x y) (IsTypedIn c)
+  pub sum_typed : (ds : List StructDef) (at : ℕ) (x y : TypedExpression) → AreKnown ds c.structs → IsTypedIn c x → IsTypedIn c y → IfOk (addition ds at x y) (IsTypedIn c)
   sum_typed ds at x y known h g =
       let left = type_view x.ty in
       let right = type_view y.ty in
@@ -158,7 +158,7 @@ module _ (c : Context) where
       (λ n. tt))
       (λ n. arithmetic_typed at b.Add x y add_computes h g))
 
-  pub difference_typed : (ds : List StructDef) (at : ℕ) (x y : TypedExpression) → AreKnown ds c.structs → IsTypedIn c x → IsTypedIn c y → IfOk (difference ds at x y) (IsTypedIn c)
+  pub difference_typed : (ds : List StructDef) (at : ℕ) (x y : TypedExpression) → AreKnown ds c.structs → IsTypedIn c x → IsTypedIn c y → IfOk (subtraction ds at x y) (IsTypedIn c)
   difference_typed ds at x y known h g =
       let left = type_view x.ty in
       let right = type_view y.ty in
@@ -179,7 +179,7 @@ module _ (c : Context) where
 
   -- ---- comparisons, and operators that ask whether an operand is zero
 
-  pub negation_typed : (at : ℕ) (a : TypedExpression) → IsTypedIn c a → IfOk (negation at a) (IsTypedIn c)
+  pub negation_typed : (at : ℕ) (a : TypedExpression) → IsTypedIn c a → IfOk (not_operation at a) (IsTypedIn c)
   negation_typed at a h =
       given (IsTypedIn c) (is_scalar (type_view a.ty)) _ _
       (λ s. unary_made c at int u.Not a.tree h.tree (integer_fits c.structs i.Int)
@@ -199,13 +199,13 @@ module _ (c : Context) where
 
   -- a comparison of two values of one type
   pub compared : (at : ℕ) (op : BinaryOp) (ty : PlainType) (x y : TExpr) → Compares op → IsOfType c ty x → IsOfType c ty y → IsTrue (is_promoted ty || is_pointer ty)
-      → IsTypedIn c (binary at int op x y)
+      → IsTypedIn c (binary_rvalue at int op x y)
   compared at op ty x y p h g k =
       binary_made c at int op ty ty x y h g (integer_fits c.structs i.Int)
       (p c.structs (type_view int) ty ty (three (is_same_type (type_view int) rules.int) (is_same_type ty ty) (is_promoted ty || is_pointer ty) int_is (alike ty) k)) (plain_integer i.Int)
 
   pub integers_compared : (at : ℕ) (op : BinaryOp) (x y : TypedExpression) (s r : IntegerType) → Compares op → IsTypedIn c x → IsTypedIn c y → integer x ≡ Some s → integer y ≡ Some r
-      → IsTypedIn c (binary at int op (convert_tree (common_type s r) x) (convert_tree (common_type s r) y))
+      → IsTypedIn c (binary_rvalue at int op (convert_tree (common_type s r) x) (convert_tree (common_type s r) y))
   integers_compared at op x y s r p h g k l =
       let ty = type_view (common_type s r) in
       compared at op ty (convert_tree (common_type s r) x) (convert_tree (common_type s r) y) p (integer_operand c (common s r) x s h k) (integer_operand c (common s r) y r g l)

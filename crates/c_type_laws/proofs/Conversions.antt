@@ -11,12 +11,12 @@ use Rattle.c_typed_tree.specs.View.{type_view, expr_view}
 use Rattle.c_typed_tree.specs.model.View.{opens}
 use Rattle.c_typed_tree.specs.Layout.{integer_of}
 use Rattle.c_typed_tree.specs.Constants.{is_integer, is_null_constant}
-use Rattle.c_typed_tree.specs.Typing.{Context, is_same_type, is_void, is_array, is_struct, is_pointer, is_scalar, is_pointer_to_void, is_promoted, is_type, is_fit, is_cast, is_conversion, is_place, has_rule, is_typed}
+use Rattle.c_typed_tree.specs.Typing.{Context, is_same_type, is_void, is_array, is_struct, is_pointer, is_scalar, is_pointer_to_void, is_promoted, is_valid_type, is_fit, is_cast, is_conversion, is_place, has_rule, is_typed}
 use Rattle.c_type_rules.specs.declared.typed.TypedExpression.{TypedExpression}
 use Rattle.c_type_rules.specs.Values.{integer, is_same, convert_tree}
 use Rattle.c_type_rules.specs.Arithmetic.{common_type}
 use Rattle.c_type_rules.specs.Comparisons.{condition}
-use Rattle.c_type_rules.specs.Conversions.{is_taken_as_pointer, value_for_type, is_castable, cast_value, cast, void_pointer, meet, equal_pointers, equality_of, equality, choice_in, choice_met, choice_apart, choice_of, choice}
+use Rattle.c_type_rules.specs.Conversions.{is_taken_as_pointer, value_for_type, is_castable, cast_value, cast_ruling, void_pointer, meet, equal_pointers, equality_of, equality_test, choice_in, choice_met, choice_apart, choice_of, choice}
 use Rattle.c_type_laws.specs.Typed.{IsTypedIn, IsOfType, IsTested}
 use Rattle.c_type_laws.proofs.Truth.{no_true, also, three, four, five, along, either, either_left, either_right, first_of_three, second_of_three, third_of_three, later_of_three, first_of_four, given, given_some, if_true}
 use Rattle.c_type_laws.proofs.Types.{same, alike, equal, integer_fits, common_promoted, promoted, fit_type, void_no_array, integer_no_array, pointer_no_array, void_pointer_is}
@@ -121,7 +121,7 @@ module _ (c : Context) where
       (along (λ from. is_cast (type_view to) from (is_null_constant (expr_view a.tree))) h.type rule) h.tree) refl n
 
   pub cast_typed : (at : ℕ) (to : t.CType) (a : TypedExpression) (null : Bool) → IsValueIn c a → IsTrue (is_fit c.structs (type_view to)) → (IsTrue null → IsNull a)
-      → IfOk (cast at to a null) (IsTypedIn c)
+      → IfOk (cast_ruling at to a null) (IsTypedIn c)
   cast_typed at to a null h fit n =
       given (IsTypedIn c) (is_castable to a null) _ _
       (λ k. cast_made at to a h.typed fit (castable_cast (type_view to) (type_view a.ty) (is_null_constant (expr_view a.tree)) null h.value n k) (castable_plain (type_view to) (type_view a.ty) null k))
@@ -192,7 +192,7 @@ module _ (c : Context) where
   equality_of_typed at op a b na nb None q p h g m n k l = equal_typed at op a b (meet a.ty b.ty na nb) p h g (meet_says a b na nb h g m n)
 
   pub equality_typed : (at : ℕ) (op : BinaryOp) (a b : TypedExpression) (na nb : Bool) → Compares op → IsTypedIn c a → IsTypedIn c b → (IsTrue na → IsNull a) → (IsTrue nb → IsNull b)
-      → IfOk (equality at op a b na nb) (IsTypedIn c)
+      → IfOk (equality_test at op a b na nb) (IsTypedIn c)
   equality_typed at op a b na nb p h g m n = equality_of_typed at op a b na nb (integer a) (integer b) p h g m n refl refl
 
   -- ---- `?:`
@@ -227,7 +227,7 @@ module _ (c : Context) where
       pointer_kind false false c d h = no_true h
 
   -- a type of values that is no integer type
-  value_kind : (ty : PlainType) → IsFalse (is_array ty) → integer_of ty ≡ None → IsTrue (is_type c.structs ty) → IsTrue (is_promoted ty || is_pointer ty || is_void ty || is_struct ty)
+  value_kind : (ty : PlainType) → IsFalse (is_array ty) → integer_of ty ≡ None → IsTrue (is_valid_type c.structs ty) → IsTrue (is_promoted ty || is_pointer ty || is_void ty || is_struct ty)
   value_kind Void n k h = refl
   value_kind (Int b s) n k h = no_true (sym (ap is_some k) ∙ h)
   value_kind (Pointer x) n k h = refl

@@ -20,10 +20,10 @@ use Rattle.c_type_rules.specs.declared.typed.TypedExpression.{TypedExpression}
 use Rattle.c_type_rules.specs.Rulings.{Ruling}
 use Rattle.c_type_rules.specs.Conversions.{decay}
 use Rattle.c_type_rules.specs.Comparisons.{condition}
-use Rattle.c_operators.specs.Null.{is_null, is_null_for, take_value}
-use Rattle.c_operators.specs.Unary.{unary}
-use Rattle.c_operators.specs.Binary.{between, binary, subscript, condition_tree, conditional_on, conditional}
-use Rattle.c_operators.specs.Assigned.{with_value, assign}
+use Rattle.c_operators.specs.Null.{is_null_value, is_null_for, take_value}
+use Rattle.c_operators.specs.Unary.{unary_ruling}
+use Rattle.c_operators.specs.Binary.{binary_operation, binary_ruling, subscript, condition_tree, conditional_on, conditional_ruling}
+use Rattle.c_operators.specs.Assigned.{assign_rvalue, assign}
 use Rattle.c_operators.specs.Casts.{cast_to, size_of_type}
 use Rattle.c_type_laws.specs.Typed.{IsTypedIn, IsOfType, AreKnown, TakesMemory, IsFitType, IsSmallType, IsTested}
 use Rattle.c_type_laws.proofs.Truth.{no_true, also, along, either_left, either_right, if_true}
@@ -53,7 +53,7 @@ null_type (Postfix ty op x) h = no_true h
 null_type (Comma ty xs) h = no_true h
 
 module _ (c : Context) where
-  null_says : (a : TypedExpression) → IsTypedIn c a → IsTrue (is_null a) → IsNull a
+  null_says : (a : TypedExpression) → IsTypedIn c a → IsTrue (is_null_value a) → IsNull a
   null_says a h n =
       let own = type_view a.ty in
       let zero = is_null_constant (expr_view a.tree) in
@@ -62,14 +62,14 @@ module _ (c : Context) where
       (λ i z. either_right (is_integer own && zero) (is_pointer_to_void own) (along is_pointer_to_void (sym h.type) (null_type (expr_view a.tree) z))) n
 
   null_for : (to : t.CType) (a : TypedExpression) → IsTypedIn c a → IsTrue (is_null_for to a) → IsNull a
-  null_for to a h n = if_true (is_pointer (type_view to)) (is_null a) false (λ p z. null_says a h z) (λ p z. no_true z) n
+  null_for to a h n = if_true (is_pointer (type_view to)) (is_null_value a) false (λ p z. null_says a h z) (λ p z. no_true z) n
 
   pub take_typed : (to : t.CType) (a : TypedExpression) → IsTrue (is_fit c.structs (type_view to)) → IsTypedIn c a → IfOk (take_value to a) (IsOfType c (type_view to))
   take_typed to a fit h = let v = decay_typed c a h in value_for_type_typed c to (decay a) (is_null_for to (decay a)) v.typed fit (null_for to (decay a) v.typed)
 
   -- ---- in front of an operand
 
-  pub unary_typed : (ds : List StructDef) (at : ℕ) (op : UnaryOp) (a : TypedExpression) → AreKnown ds c.structs → TakesMemory c op a.place → IsTypedIn c a → IfOk (unary ds at op a) (IsTypedIn c)
+  pub unary_typed : (ds : List StructDef) (at : ℕ) (op : UnaryOp) (a : TypedExpression) → AreKnown ds c.structs → TakesMemory c op a.place → IsTypedIn c a → IfOk (unary_ruling ds at op a) (IsTypedIn c)
   unary_typed ds at u.Increment a known memory h = step_before_typed c ds at u.Increment a (λ es ls ty x k. k) known h
   unary_typed ds at u.Decrement a known memory h = step_before_typed c ds at u.Decrement a (λ es ls ty x k. k) known h
   unary_typed ds at u.Address a known memory h = address_typed c at a h memory
@@ -81,7 +81,7 @@ module _ (c : Context) where
 
   -- ---- between operands
 
-  between_typed : (ds : List StructDef) (at : ℕ) (op : BinaryOp) (x y : TypedExpression) → AreKnown ds c.structs → IsTypedIn c x → IsTypedIn c y → IfOk (between ds at op x y) (IsTypedIn c)
+  between_typed : (ds : List StructDef) (at : ℕ) (op : BinaryOp) (x y : TypedExpression) → AreKnown ds c.structs → IsTypedIn c x → IsTypedIn c y → IfOk (binary_operation ds at op x y) (IsTypedIn c)
   between_typed ds at b.LogicalOr x y known h g = arith.logical_typed c at b.LogicalOr x y (λ es ty l r k. k) h g
   between_typed ds at b.LogicalAnd x y known h g = arith.logical_typed c at b.LogicalAnd x y (λ es ty l r k. k) h g
   between_typed ds at b.Or x y known h g = arith.arithmetic_typed c at b.Or x y arith.or_computes h g
@@ -103,7 +103,7 @@ module _ (c : Context) where
   between_typed ds at b.Divide x y known h g = arith.arithmetic_typed c at b.Divide x y arith.divide_computes h g
   between_typed ds at b.Remainder x y known h g = arith.arithmetic_typed c at b.Remainder x y arith.remainder_computes h g
 
-  pub binary_typed : (ds : List StructDef) (at : ℕ) (op : BinaryOp) (x y : TypedExpression) → AreKnown ds c.structs → IsTypedIn c x → IsTypedIn c y → IfOk (binary ds at op x y) (IsTypedIn c)
+  pub binary_typed : (ds : List StructDef) (at : ℕ) (op : BinaryOp) (x y : TypedExpression) → AreKnown ds c.structs → IsTypedIn c x → IsTypedIn c y → IfOk (binary_ruling ds at op x y) (IsTypedIn c)
   binary_typed ds at op x y known h g = between_typed ds at op (decay x) (decay y) known (decay_typed c x h).typed (decay_typed c y g).typed
 
   pub subscript_typed : (ds : List StructDef) (at : ℕ) (x y : TypedExpression) → AreKnown ds c.structs → IsTypedIn c x → IsTypedIn c y → IfOk (subscript ds at x y) (IsTypedIn c)
@@ -122,12 +122,12 @@ module _ (c : Context) where
       choice_typed c at test (decay x) (decay y) (is_null_for (decay y).ty (decay x)) (is_null_for (decay x).ty (decay y)) s left right
       (null_for (decay y).ty (decay x) left.typed) (null_for (decay x).ty (decay y) right.typed)
 
-  pub conditional_typed : (at : ℕ) (q x y : TypedExpression) → IsTypedIn c q → IsTypedIn c x → IsTypedIn c y → IfOk (conditional at q x y) (IsTypedIn c)
+  pub conditional_typed : (at : ℕ) (q x y : TypedExpression) → IsTypedIn c q → IsTypedIn c x → IsTypedIn c y → IfOk (conditional_ruling at q x y) (IsTypedIn c)
   conditional_typed at q x y k h g = conditional_on_typed at (condition (decay q)) x y (condition_typed c (decay q) (decay_typed c q k).typed) h g
 
   -- ---- assignments
 
-  with_value_typed : (ds : List StructDef) (at : ℕ) (op : AssignOp) (x y : TypedExpression) → AreKnown ds c.structs → IsTypedIn c x → IsTypedIn c y → IfOk (with_value ds at op x y) (IsTypedIn c)
+  with_value_typed : (ds : List StructDef) (at : ℕ) (op : AssignOp) (x y : TypedExpression) → AreKnown ds c.structs → IsTypedIn c x → IsTypedIn c y → IfOk (assign_rvalue ds at op x y) (IsTypedIn c)
   with_value_typed ds at o.Set x y known h g = assigned.set_typed c at x y (is_null_for x.ty y) h g (null_for x.ty y g)
   with_value_typed ds at o.Multiply x y known h g = assigned.compound_typed c ds at o.Multiply x y assigned.multiply_compound known h g
   with_value_typed ds at o.Divide x y known h g = assigned.compound_typed c ds at o.Divide x y assigned.divide_compound known h g

@@ -17,15 +17,15 @@ use Rattle.c_typed_tree.specs.View.{type_view, expr_view}
 use Rattle.c_typed_tree.specs.model.View.{opens}
 use Rattle.c_typed_tree.specs.Layout.{is_object, size_of}
 use Rattle.c_typed_tree.specs.Constants.{is_integer}
-use Rattle.c_typed_tree.specs.Typing.{Context, is_same_type, is_array, is_struct, is_scalar, is_fit, points_to, points_to_object, is_element, is_member, target_of, has_step_type, has_unary_type, is_place, is_in_memory, is_number, has_rule, is_typed, depth_behind, most_depth}
+use Rattle.c_typed_tree.specs.Typing.{Context, is_same_type, is_array, is_struct, is_scalar, is_fit, points_to, points_to_object, is_element, is_member, target_of, has_step_type, has_unary_type, is_place, is_in_memory, is_number_of, has_rule, is_typed, depth_behind, most_depth}
 use Rattle.c_type_rules.specs.declared.typed.PlaceKind.{PlaceKind}
 use Rattle.c_type_rules.specs.declared.typed.PlaceKind.TheVariants as p
 use Rattle.c_type_rules.specs.declared.typed.TypedExpression.{TypedExpression}
 use Rattle.c_type_rules.specs.Types.{points_to_struct}
-use Rattle.c_type_rules.specs.Values.{integer_type}
+use Rattle.c_type_rules.specs.Values.{type_of_integer}
 use Rattle.c_place_rules.specs.declared.members.FoundMember.{FoundMember}
-use Rattle.c_place_rules.specs.Places.{target, led_to, object_of, dereference_of, dereference, element_at, element_by_index, index, is_somewhere, address, is_assignable, is_steppable, step_before, postfix, step_behind}
-use Rattle.c_place_rules.specs.Members.{place_of_member, field_found, is_struct_place, field, arrow_found, arrow, number, size}
+use Rattle.c_place_rules.specs.Places.{target, pointed_place, object_of, dereference_of, dereference, element_at, element_by_index, index, is_somewhere, address, is_assignable, is_steppable, step_before, postfix_rvalue, step_behind}
+use Rattle.c_place_rules.specs.Members.{place_of_member, field_found, is_struct_place, field, arrow_found, arrow, number_rvalue, size}
 use Rattle.c_type_laws.specs.Typed.{is_memory, IsTypedIn, AreKnown, IsMemberOf}
 use Rattle.c_type_laws.proofs.Truth.{no_true, also, three, four, along, either, either_left, either_right, given, given_some, if_true}
 use Rattle.c_type_laws.proofs.Types.{alike, equal, integer_known, integer_fits, fit_type, pointer_fits, target_depth, target_fits, scalar_no_array, struct_no_array, known_object, known_pointer}
@@ -98,7 +98,7 @@ assignable_plain a h = either (is_scalar (type_view a.ty)) (is_struct (type_view
 
 module _ (c : Context) where
   led_typed : (at : ℕ) (ty : t.CType) (x : e.TExpr) → IsTrue (is_typed c (expr_view x)) → type_of (expr_view x) ≡ type_view ty → IsTrue (is_place (expr_view x)) → IsTrue (is_in_memory c.locals (expr_view x))
-      → IsTrue (nat_le (depth_behind (type_view ty)) most_depth) → IsTypedIn c (led_to at ty x)
+      → IsTrue (nat_le (depth_behind (type_view ty)) most_depth) → IsTypedIn c (pointed_place at ty x)
   led_typed at ty x h g stands memory depth = record {
     tree = h;
     type = g;
@@ -209,7 +209,7 @@ module _ (c : Context) where
       (λ s. tt)
 
   postfix_made : (at : ℕ) (ty : t.CType) (op : StepOp) (x : e.TExpr) → IsTrue (is_typed c (expr_view x)) → IsTrue (is_fit c.structs (type_view ty))
-      → IsTrue (has_step_type c.structs (type_view ty) (type_of (expr_view x)) && is_place (expr_view x)) → IsFalse (is_array (type_view ty)) → IsTypedIn c (postfix at ty op x)
+      → IsTrue (has_step_type c.structs (type_view ty) (type_of (expr_view x)) && is_place (expr_view x)) → IsFalse (is_array (type_view ty)) → IsTypedIn c (postfix_rvalue at ty op x)
   unfolding opens
   postfix_made at ty op x h fit rule n =
       value_typed c at ty (e.Postfix ty op x) (three (is_fit c.structs (type_view ty)) (has_rule c (Postfix (type_view ty) op (expr_view x))) (is_typed c (expr_view x)) fit rule h) refl n
@@ -260,11 +260,11 @@ module _ (c : Context) where
 
   -- ---- numbers, and sizes
 
-  pub number_typed : (at : ℕ) (u : IntegerType) (word : ℕ) → IsTrue (is_word u word) → IsTypedIn c (number at u word)
+  pub number_typed : (at : ℕ) (u : IntegerType) (word : ℕ) → IsTrue (is_word u word) → IsTypedIn c (number_rvalue at u word)
   unfolding opens
   number_typed at u word h =
-      value_typed c at (integer_type u) (e.Number (integer_type u) word)
-      (also (is_fit c.structs (type_view (integer_type u))) (has_rule c (form.Number (type_view (integer_type u)) word)) (integer_fits c.structs u) (ap (λ o. is_number o word) (integer_known u) ∙ h)) refl (plain_integer u)
+      value_typed c at (type_of_integer u) (e.Number (type_of_integer u) word)
+      (also (is_fit c.structs (type_view (type_of_integer u))) (has_rule c (form.Number (type_view (type_of_integer u)) word)) (integer_fits c.structs u) (ap (λ o. is_number_of o word) (integer_known u) ∙ h)) refl (plain_integer u)
 
   pub size_typed : (ds : List StructDef) (at : ℕ) (ty : t.CType) → (IsTrue (is_object ds (type_view ty)) → size_of ds (type_view ty) < 2 ^ 64) → IfOk (size ds at ty) (IsTypedIn c)
   size_typed ds at ty small =

@@ -33,10 +33,10 @@ use Rattle.c_type_rules.specs.declared.typed.TypedExpression.{TypedExpression}
 use Rattle.c_type_rules.specs.Values.{integer}
 use Rattle.c_type_rules.specs.Conversions.{decay}
 use Rattle.c_constant_rules.specs.Values as constants
-use Rattle.c_primary_rules.specs.Primary.{literal, integer_constant, character_value, character_constant, local, object}
-use Rattle.c_primary_rules.specs.Calls.{call}
-use Rattle.c_primary_rules.specs.Commas.{nothing, with_value, gathered_from, comma_of, comma}
-use Rattle.c_primary_rules.specs.Switches.{switched_of, switch_operand}
+use Rattle.c_primary_rules.specs.Primary.{literal_value, integer_constant, character_value, character_constant, local, static_object}
+use Rattle.c_primary_rules.specs.Calls.{call_rvalue}
+use Rattle.c_primary_rules.specs.Commas.{no_operands, with_operand, comma_operands, comma_tree, comma_value}
+use Rattle.c_primary_rules.specs.Switches.{switch_value, switch_operand}
 use Rattle.c_primary_rules.specs.declared.commas.CommaOperands.{CommaOperands}
 use Rattle.c_type_laws.specs.Typed.{may_be_memory, IsTypedIn, AreTypedIn, AreOfTypes, IsFunctionOf, IsSwitched}
 use Rattle.c_type_laws.proofs.Truth.{no_true, also, three, along}
@@ -52,7 +52,7 @@ literal_word n (Some u) = is_word-extension u n
 
 based_word : (decimal : Bool) (suffix : List ℕ) (q : Option ℕ) → IfSome (option_and_then (number.literal decimal suffix) q) (λ l. IsTrue (is_word l.ty l.word))
 based_word decimal suffix None = tt
-based_word decimal suffix (Some n) = literal_word n (number.type_of decimal (number.has_u suffix) (number.has_l suffix) n)
+based_word decimal suffix (Some n) = literal_word n (number.constant_type decimal (number.has_u suffix) (number.has_l suffix) n)
 
 based : (base : ℕ) (p : ℕ → Bool) (s : List ℕ) → IfSome (number.literal_in base p s) (λ l. IsTrue (is_word l.ty l.word))
 based base p s = based_word (base == 10) (drop (prefix_len p s) s) (number.word_of_number (value_in base (take (prefix_len p s) s)))
@@ -61,9 +61,9 @@ chosen : {A : Type 0} (P : A → Type 0) (b : Bool) (x y : Option A) → IfSome 
 chosen P true x y h g = h
 chosen P false x y h g = g
 
-pub integer_word : (s : List ℕ) → IfSome (number.integer s) (λ l. IsTrue (is_word l.ty l.word))
+pub integer_word : (s : List ℕ) → IfSome (number.integer_literal s) (λ l. IsTrue (is_word l.ty l.word))
 integer_word s =
-    chosen (λ (l : IntegerLiteral). IsTrue (is_word l.ty l.word)) (number.is_hexadecimal s) (number.literal_in 16 is_hex (drop 2 s))
+    chosen (λ (l : IntegerLiteral). IsTrue (is_word l.ty l.word)) (number.is_hex_constant s) (number.literal_in 16 is_hex (drop 2 s))
     (if number.is_octal_constant s then number.literal_in 8 is_octal s else number.literal_in 10 is_digit s) (based 16 is_hex (drop 2 s))
     (chosen (λ (l : IntegerLiteral). IsTrue (is_word l.ty l.word)) (number.is_octal_constant s) (number.literal_in 8 is_octal s) (number.literal_in 10 is_digit s) (based 8 is_octal s) (based 10 is_digit s))
 
@@ -80,16 +80,16 @@ character_word s = chosen (λ n. IsTrue (is_word i.Int n)) _ None (behind_quote 
 
 -- ---- values of constants
 
-pub label_word : (u : IntegerType) (a : TypedExpression) → IfOk (constants.label u a) (λ n. IsTrue (is_word u n))
-label_word u a = of (integer a) (constants.value_of a)
+pub label_word : (u : IntegerType) (a : TypedExpression) → IfOk (constants.label_value u a) (λ n. IsTrue (is_word u n))
+label_word u a = of (integer a) (constants.constant_of a)
   where
-    of : (q : Option IntegerType) (r : Option ℕ) → IfOk (constants.label_of u a.at q r) (λ n. IsTrue (is_word u n))
+    of : (q : Option IntegerType) (r : Option ℕ) → IfOk (constants.label_value_of u a.at q r) (λ n. IsTrue (is_word u n))
     of None r = tt
     of (Some s) None = tt
     of (Some s) (Some n) = is_word-extension u _
 
 pub given_word : (a : TypedExpression) → IfOk (constants.given_value a) (λ n. IsTrue (is_word i.Int n))
-given_word a = of (integer a) (constants.value_of a)
+given_word a = of (integer a) (constants.constant_of a)
   where
     kept : (b : Bool) (n : ℕ) (q : Fault) → IsTrue (is_word i.Int n) → IfOk (if b then Ok n else Err q) (λ n. IsTrue (is_word i.Int n))
     kept true n q h = h
@@ -109,12 +109,12 @@ next_word at before = of (sum i.Int before 1) (sum-word i.Int before 1)
     of o.Undefined h = tt
 
 module _ (c : Context) where
-  literal_typed : (at : ℕ) (q : Option IntegerLiteral) → IfSome q (λ l. IsTrue (is_word l.ty l.word)) → IfOk (literal at q) (IsTypedIn c)
+  literal_typed : (at : ℕ) (q : Option IntegerLiteral) → IfSome q (λ l. IsTrue (is_word l.ty l.word)) → IfOk (literal_value at q) (IsTypedIn c)
   literal_typed at None h = tt
   literal_typed at (Some l) h = number_typed c at l.ty l.word h
 
   pub integer_constant_typed : (at : ℕ) (s : List ℕ) → IfOk (integer_constant at s) (IsTypedIn c)
-  integer_constant_typed at s = literal_typed at (number.integer s) (integer_word s)
+  integer_constant_typed at s = literal_typed at (number.integer_literal s) (integer_word s)
 
   value_of_character : (at : ℕ) (q : Option ℕ) → IfSome q (λ n. IsTrue (is_word i.Int n)) → IfOk (character_value at q) (IsTypedIn c)
   value_of_character at None h = tt
@@ -141,7 +141,7 @@ module _ (c : Context) where
   }
 
   pub object_typed : (at number : ℕ) (ty : t.CType) → IsTrue (has_global_type c.structs (slice_get c.globals number) (type_view ty)) → IsTrue (is_fit c.structs (type_view ty))
-      → IsTrue (nat_le (depth_behind (type_view ty)) most_depth) → IsTypedIn c (object at number ty)
+      → IsTrue (nat_le (depth_behind (type_view ty)) most_depth) → IsTypedIn c (static_object at number ty)
   unfolding opens
   object_typed at number ty rule fit depth = record {
     tree = also (is_fit c.structs (type_view ty)) (has_rule c (form.Global (type_view ty) number)) fit rule;
@@ -165,7 +165,7 @@ module _ (c : Context) where
   all_typed (ty ∷ ts) [] h = absurd h
   all_typed (ty ∷ ts) (x ∷ xs) h = also (is_typed c (expr_view x)) (are_typed c (exprs_view xs)) h.0.typed (all_typed ts xs h.1)
 
-  pub call_typed : (at : ℕ) (callee : Callee) (ty : t.CType) (ts : List t.CType) (xs : List e.TExpr) → IsFunctionOf c callee ty ts → AreOfTypes c ts xs → IsTypedIn c (call at callee ty xs)
+  pub call_typed : (at : ℕ) (callee : Callee) (ty : t.CType) (ts : List t.CType) (xs : List e.TExpr) → IsFunctionOf c callee ty ts → AreOfTypes c ts xs → IsTypedIn c (call_rvalue at callee ty xs)
   call_typed at callee ty ts xs f h =
       let own = type_view ty in
       value_typed c at ty (e.Call ty callee xs)
@@ -221,14 +221,14 @@ module _ (c : Context) where
   plain_in : (a : TypedExpression) → IsValueIn c a → IsPlain a.tree
   plain_in a h = record { typed = h.typed.tree; plain = ap (λ ty. not (is_array ty)) h.typed.type ∙ ap not h.value }
 
-  first_gathered : (a : TypedExpression) → IsValueIn c a → OneAtLeast (with_value a nothing)
+  first_gathered : (a : TypedExpression) → IsValueIn c a → OneAtLeast (with_operand a no_operands)
   unfolding ArePlain
   first_gathered a h = record { all = (plain_in a h, tt); head = (a.tree, [], refl) }
 
   appended : (xs : List e.TExpr) (x : e.TExpr) → (y : e.TExpr) × (ys : List e.TExpr) × (xs ≡ y ∷ ys) → (y : e.TExpr) × (ys : List e.TExpr) × (xs ++ x ∷ [] ≡ y ∷ ys)
   appended xs x h = (h.0, h.1 ++ x ∷ [], ap (λ l. l ++ x ∷ []) h.2)
 
-  more_gathered : (g : CommaOperands) (a : TypedExpression) → OneAtLeast g → IsValueIn c a → TwoAtLeast (with_value a g)
+  more_gathered : (g : CommaOperands) (a : TypedExpression) → OneAtLeast g → IsValueIn c a → TwoAtLeast (with_operand a g)
   unfolding ArePlain
   more_gathered g a s h = record {
     one = record { all = more_plain g.trees a.tree s.all (plain_in a h); head = appended g.trees a.tree s.head };
@@ -238,11 +238,11 @@ module _ (c : Context) where
     value = h.value;
   }
 
-  all_gathered : (xs : List TypedExpression) (g : CommaOperands) → AreTypedIn c xs → TwoAtLeast g → TwoAtLeast (gathered_from g xs)
+  all_gathered : (xs : List TypedExpression) (g : CommaOperands) → AreTypedIn c xs → TwoAtLeast g → TwoAtLeast (comma_operands g xs)
   all_gathered [] g h s = s
-  all_gathered (a ∷ rest) g h s = all_gathered rest (with_value (decay a) g) h.1 (more_gathered g (decay a) s.one (decay_typed c a h.0))
+  all_gathered (a ∷ rest) g h s = all_gathered rest (with_operand (decay a) g) h.1 (more_gathered g (decay a) s.one (decay_typed c a h.0))
 
-  comma_made : (at : ℕ) (g : CommaOperands) → TwoAtLeast g → IsTypedIn c (comma_of at g)
+  comma_made : (at : ℕ) (g : CommaOperands) → TwoAtLeast g → IsTypedIn c (comma_tree at g)
   comma_made at g s =
       let own = type_view g.last in
       value_typed c at g.last (e.Comma g.last g.trees)
@@ -250,15 +250,15 @@ module _ (c : Context) where
       (three (is_fit c.structs own) (has_rule c (form.Comma own (exprs_view g.trees))) (are_typed c (exprs_view g.trees)) s.fit s.operands (plain_typed g.trees s.one.all)))
       (ap type_of (view_comma g.last g.trees)) s.value
 
-  pub comma_typed : (at : ℕ) (a b : TypedExpression) (rest : List TypedExpression) → IsTypedIn c a → IsTypedIn c b → AreTypedIn c rest → IsTypedIn c (comma at (a ∷ b ∷ rest))
+  pub comma_typed : (at : ℕ) (a b : TypedExpression) (rest : List TypedExpression) → IsTypedIn c a → IsTypedIn c b → AreTypedIn c rest → IsTypedIn c (comma_value at (a ∷ b ∷ rest))
   comma_typed at a b rest h g k =
-      comma_made at (gathered_from (with_value (decay b) (with_value (decay a) nothing)) rest)
-      (all_gathered rest (with_value (decay b) (with_value (decay a) nothing)) k
-      (more_gathered (with_value (decay a) nothing) (decay b) (first_gathered (decay a) (decay_typed c a h)) (decay_typed c b g)))
+      comma_made at (comma_operands (with_operand (decay b) (with_operand (decay a) no_operands)) rest)
+      (all_gathered rest (with_operand (decay b) (with_operand (decay a) no_operands)) k
+      (more_gathered (with_operand (decay a) no_operands) (decay b) (first_gathered (decay a) (decay_typed c a h)) (decay_typed c b g)))
 
   -- ---- the operand of `switch`
 
-  switched_typed : (a : TypedExpression) (q : Option IntegerType) → IsTypedIn c a → integer a ≡ q → IfOk (switched_of a q) (IsSwitched c)
+  switched_typed : (a : TypedExpression) (q : Option IntegerType) → IsTypedIn c a → integer a ≡ q → IfOk (switch_value a q) (IsSwitched c)
   switched_typed a None h k = tt
   switched_typed a (Some s) h k = record { value = integer_operand c (promote s) a s h k; promoted = promoted (promote s) (promote_promoted s) }
 

@@ -11,8 +11,8 @@ use Rattle.c_typed_tree.specs.View.{type_view}
 use Rattle.c_typed_tree.specs.model.View.{opens}
 use Rattle.c_typed_tree.specs.Layout.{integer_of, is_complete, is_object, size_of, struct_size}
 use Rattle.c_typed_tree.specs.Constants.{is_integer}
-use Rattle.c_typed_tree.specs.Typing.{is_same_type, is_same_integer, is_promoted_integer, is_promoted, is_common_integer, is_common, is_array, is_pointer, is_void, is_struct, is_scalar, is_pointer_to_void, points_to_object, is_type, depth_behind, is_fit}
-use Rattle.c_type_rules.specs.Values.{integer_type}
+use Rattle.c_typed_tree.specs.Typing.{is_same_type, is_same_integer, is_promoted_integer, is_promoted, is_common_integer, is_common, is_array, is_pointer, is_void, is_struct, is_scalar, is_pointer_to_void, points_to_object, is_valid_type, depth_behind, is_fit}
+use Rattle.c_type_rules.specs.Values.{type_of_integer}
 use Rattle.c_type_laws.specs.Typed.{AreKnown}
 use Rattle.c_type_laws.proofs.Truth.{no_true, front, back, also, three, along, either, one_of}
 
@@ -67,7 +67,7 @@ equal x y e = subst (λ z. IsTrue (is_same_type x z)) e (alike x)
 
 -- ---- integer types
 
-pub integer_known : (u : IntegerType) → integer_of (type_view (integer_type u)) ≡ Some u
+pub integer_known : (u : IntegerType) → integer_of (type_view (type_of_integer u)) ≡ Some u
 unfolding opens
 integer_known i.Char = refl
 integer_known i.UnsignedChar = refl
@@ -78,14 +78,14 @@ integer_known i.UnsignedInt = refl
 integer_known i.Long = refl
 integer_known i.UnsignedLong = refl
 
-pub integer_is : (u : IntegerType) → type_view (integer_type u) ≡ Int (bytes u) (is_signed u)
+pub integer_is : (u : IntegerType) → type_view (type_of_integer u) ≡ Int (bytes u) (is_signed u)
 unfolding opens
 integer_is u = refl
 
 pub integer_from : (ty : PlainType) (u : IntegerType) → integer_of ty ≡ Some u → IsTrue (is_integer ty)
 integer_from ty u e = ap is_some e
 
-pub integer_fits : (ds : List StructDef) (u : IntegerType) → IsTrue (is_fit ds (type_view (integer_type u)))
+pub integer_fits : (ds : List StructDef) (u : IntegerType) → IsTrue (is_fit ds (type_view (type_of_integer u)))
 unfolding opens
 integer_fits ds i.Char = refl
 integer_fits ds i.UnsignedChar = refl
@@ -118,7 +118,7 @@ longer_is P s u h g =
 pub common_promoted : (s u : IntegerType) → IsPromoted (common s u)
 common_promoted s u = longer_is IsPromoted (promote s) (promote u) (promote_promoted s) (promote_promoted u)
 
-pub promoted : (u : IntegerType) → IsPromoted u → IsTrue (is_promoted (type_view (integer_type u)))
+pub promoted : (u : IntegerType) → IsPromoted u → IsTrue (is_promoted (type_view (type_of_integer u)))
 promoted u h = ap is_promoted_integer (integer_known u) ∙ h
 
 pub common_again : (s u : IntegerType) → IsTrue (is_same_integer (common s (common s u)) (common s u))
@@ -187,22 +187,22 @@ common_again i.UnsignedLong i.UnsignedInt = refl
 common_again i.UnsignedLong i.Long = refl
 common_again i.UnsignedLong i.UnsignedLong = refl
 
-pub common_with : (left right : PlainType) (s u : IntegerType) → integer_of left ≡ Some s → right ≡ type_view (integer_type (common s u)) → IsTrue (is_common left right)
+pub common_with : (left right : PlainType) (s u : IntegerType) → integer_of left ≡ Some s → right ≡ type_view (type_of_integer (common s u)) → IsTrue (is_common left right)
 common_with left right s u e f =
     ap (λ o. is_common_integer o (integer_of right)) e
     ∙ (ap (λ r. is_common_integer (Some s) (integer_of r)) f ∙ (ap (is_common_integer (Some s)) (integer_known (common s u)) ∙ common_again s u))
 
 -- ---- depths
 
-pub fit_type : (ds : List StructDef) (x : PlainType) → IsTrue (is_fit ds x) → IsTrue (is_type ds x)
-fit_type ds x h = front (is_type ds x) (nat_le (depth_behind x) 257) h
+pub fit_type : (ds : List StructDef) (x : PlainType) → IsTrue (is_fit ds x) → IsTrue (is_valid_type ds x)
+fit_type ds x h = front (is_valid_type ds x) (nat_le (depth_behind x) 257) h
 
 pub fit_depth : (ds : List StructDef) (x : PlainType) → IsTrue (is_fit ds x) → IsTrue (nat_le (depth_behind x) 257)
-fit_depth ds x h = back (is_type ds x) (nat_le (depth_behind x) 257) h
+fit_depth ds x h = back (is_valid_type ds x) (nat_le (depth_behind x) 257) h
 
 -- a pointer to what is no deeper than a type may be
-pub pointer_fits : (ds : List StructDef) (x : PlainType) → IsTrue (is_type ds x) → IsTrue (nat_le (depth_behind x) 256) → IsTrue (is_fit ds (Pointer x))
-pointer_fits ds x h d = also (is_type ds x) (nat_le (1 + depth_behind x) 257) h (let k = leb-true (depth_behind x) 256 d in le-leb (1 + depth_behind x) 257 (omega arith))
+pub pointer_fits : (ds : List StructDef) (x : PlainType) → IsTrue (is_valid_type ds x) → IsTrue (nat_le (depth_behind x) 256) → IsTrue (is_fit ds (Pointer x))
+pointer_fits ds x h d = also (is_valid_type ds x) (nat_le (1 + depth_behind x) 257) h (let k = leb-true (depth_behind x) 256 d in le-leb (1 + depth_behind x) 257 (omega arith))
 
 -- what a pointer leads to, and an array has
 pub target_depth : (ds : List StructDef) (x : PlainType) → IsTrue (is_fit ds (Pointer x)) → IsTrue (nat_le (depth_behind x) 256)
@@ -211,12 +211,12 @@ target_depth ds x h = let k = leb-true (1 + depth_behind x) 257 (fit_depth ds (P
 pub target_fits : (ds : List StructDef) (x : PlainType) → IsTrue (is_fit ds (Pointer x)) → IsTrue (is_fit ds x)
 target_fits ds x h =
     let k = leb-true (1 + depth_behind x) 257 (fit_depth ds (Pointer x) h) in
-    also (is_type ds x) (nat_le (depth_behind x) 257) (fit_type ds (Pointer x) h) (le-leb (depth_behind x) 257 (omega arith))
+    also (is_valid_type ds x) (nat_le (depth_behind x) 257) (fit_type ds (Pointer x) h) (le-leb (depth_behind x) 257 (omega arith))
 
 pub decayed_fits : (ds : List StructDef) (x : PlainType) (n : ℕ) → IsTrue (is_fit ds (Array x n)) → IsTrue (is_fit ds (Pointer x))
 decayed_fits ds x n h =
     let k = leb-true (1 + depth_behind x) 257 (fit_depth ds (Array x n) h) in
-    pointer_fits ds x (front (is_type ds x) (is_object ds (Array x n)) (fit_type ds (Array x n) h)) (le-leb (depth_behind x) 256 (omega arith))
+    pointer_fits ds x (front (is_valid_type ds x) (is_object ds (Array x n)) (fit_type ds (Array x n) h)) (le-leb (depth_behind x) 256 (omega arith))
 
 -- ---- types that are no arrays
 

@@ -12,7 +12,7 @@ use Rattle.c_typed_tree.specs.model.View.{opens}
 use Rattle.c_typed_tree.specs.Constants.{is_integer, is_null_constant}
 use Rattle.c_typed_tree.specs.Typing.{Context, is_same_type, is_array, is_pointer, is_pointer_to_void, is_fit, has_binary_type, has_unary_type, decays, is_conversion, is_place, has_rule, is_typed, are_typed}
 use Rattle.c_type_rules.specs.declared.typed.TypedExpression.{TypedExpression}
-use Rattle.c_type_rules.specs.Values.{integer_type, integer, is_same, value, convert_tree, unary, binary}
+use Rattle.c_type_rules.specs.Values.{type_of_integer, integer, is_same, rvalue, convert_tree, unary_rvalue, binary_rvalue}
 use Rattle.c_type_rules.specs.Conversions.{element, decayed_to, decay}
 use Rattle.c_type_laws.specs.Typed.{IsTypedIn, IsOfType}
 use Rattle.c_type_laws.proofs.Truth.{no_true, front, also, three, four, along, second_of_four, first_of_four, third_of_four, fourth_of_four}
@@ -68,7 +68,7 @@ element_says (t.Struct n) = refl
 -- a value, which is no array
 pub record IsValueIn (c : Context) (a : TypedExpression) : Type 0 where
   pub typed : IsTypedIn c a
-  pub value : IsFalse (is_array (type_view a.ty))
+  pub rvalue : IsFalse (is_array (type_view a.ty))
 
 module _ (c : Context) where
   pub fit_of : (x : Expr) → IsTrue (is_typed c x) → IsTrue (is_fit c.structs (type_of x))
@@ -107,7 +107,7 @@ module _ (c : Context) where
 
   -- a value is no place
   pub value_typed : (at : ℕ) (ty : t.CType) (x : e.TExpr) → IsTrue (is_typed c (expr_view x)) → type_of (expr_view x) ≡ type_view ty
-      → IsFalse (is_array (type_view ty)) → IsTypedIn c (value at ty x)
+      → IsFalse (is_array (type_view ty)) → IsTypedIn c (rvalue at ty x)
   value_typed at ty x h g n = record { tree = h; type = g; place = λ s. no_true s; array = λ y. no_true (sym n ∙ y) }
 
   -- ---- conversions
@@ -139,23 +139,23 @@ module _ (c : Context) where
       (record { typed = h.tree; type = h.type ∙ sym (same (type_view to) (type_view a.ty) s) })
 
   -- an integer in an integer type
-  pub integer_operand : (u : IntegerType) (a : TypedExpression) (s : IntegerType) → IsTypedIn c a → integer a ≡ Some s → IsOfType c (type_view (integer_type u)) (convert_tree (integer_type u) a)
+  pub integer_operand : (u : IntegerType) (a : TypedExpression) (s : IntegerType) → IsTypedIn c a → integer a ≡ Some s → IsOfType c (type_view (type_of_integer u)) (convert_tree (type_of_integer u) a)
   integer_operand u a s h known =
-      converted (integer_type u) a h (integer_fits c.structs u)
-      (integer_conversion (type_view (integer_type u)) (type_view a.ty) (is_null_constant (expr_view a.tree)) (is_place (expr_view a.tree))
-      (integer_from (type_view (integer_type u)) u (integer_known u)) (integer_from (type_view a.ty) s known))
+      converted (type_of_integer u) a h (integer_fits c.structs u)
+      (integer_conversion (type_view (type_of_integer u)) (type_view a.ty) (is_null_constant (expr_view a.tree)) (is_place (expr_view a.tree))
+      (integer_from (type_view (type_of_integer u)) u (integer_known u)) (integer_from (type_view a.ty) s known))
 
   -- ---- operators
 
   pub unary_made : (at : ℕ) (ty : t.CType) (op : UnaryOp) (x : e.TExpr) → IsTrue (is_typed c (expr_view x)) → IsTrue (is_fit c.structs (type_view ty))
-      → IsTrue (has_unary_type c.structs c.locals op (type_view ty) (expr_view x)) → IsFalse (is_array (type_view ty)) → IsTypedIn c (unary at ty op x)
+      → IsTrue (has_unary_type c.structs c.locals op (type_view ty) (expr_view x)) → IsFalse (is_array (type_view ty)) → IsTypedIn c (unary_rvalue at ty op x)
   unfolding opens
   unary_made at ty op x h fit rule n =
       value_typed at ty (e.Unary ty op x)
       (three (is_fit c.structs (type_view ty)) (has_rule c (Unary (type_view ty) op (expr_view x))) (is_typed c (expr_view x)) fit rule h) refl n
 
   pub binary_made : (at : ℕ) (ty : t.CType) (op : BinaryOp) (left right : PlainType) (x y : e.TExpr) → IsOfType c left x → IsOfType c right y → IsTrue (is_fit c.structs (type_view ty))
-      → IsTrue (has_binary_type c.structs op (type_view ty) left right) → IsFalse (is_array (type_view ty)) → IsTypedIn c (binary at ty op x y)
+      → IsTrue (has_binary_type c.structs op (type_view ty) left right) → IsFalse (is_array (type_view ty)) → IsTypedIn c (binary_rvalue at ty op x y)
   unfolding opens
   binary_made at ty op left right x y h g fit rule n =
       value_typed at ty (e.Binary ty op x y)

@@ -22,13 +22,13 @@ use Rattle.c_place_rules.specs.declared.members.FoundMember.{FoundMember}
 use Rattle.c_place_rules.specs.Places.{step_behind}
 use Rattle.c_place_rules.specs.Members.{field, arrow, size}
 use Rattle.c_constant_rules.specs.Values as constants
-use Rattle.c_primary_rules.specs.Primary.{integer_constant, character_constant, enumeration_constant, local, object}
-use Rattle.c_primary_rules.specs.Calls.{call}
-use Rattle.c_primary_rules.specs.Commas.{comma}
+use Rattle.c_primary_rules.specs.Primary.{integer_constant, character_constant, enumeration_constant, local, static_object}
+use Rattle.c_primary_rules.specs.Calls.{call_rvalue}
+use Rattle.c_primary_rules.specs.Commas.{comma_value}
 use Rattle.c_primary_rules.specs.Switches.{switch_operand}
 use Rattle.c_operators.specs.Null.{take_value}
-use Rattle.c_operators.specs.Unary.{unary}
-use Rattle.c_operators.specs.Binary.{binary, subscript, conditional, condition_tree}
+use Rattle.c_operators.specs.Unary.{unary_ruling}
+use Rattle.c_operators.specs.Binary.{binary_ruling, subscript, conditional_ruling, condition_tree}
 use Rattle.c_operators.specs.Assigned.{assign}
 use Rattle.c_operators.specs.Casts.{cast_to, size_of_type}
 use Rattle.c_type_laws.specs.Typed.{IsTypedIn, AreTypedIn, IsOfType, AreOfTypes, AreKnown, IsMemberOf, IsFunctionOf, IsSwitched, TakesMemory, IsFitType, IsSmall, IsSmallType, IsTested}
@@ -39,13 +39,13 @@ abbrev pub UnaryIsTyped : Type 0
 UnaryIsTyped =
     (c : Context) (structs : List StructDef) (at : ℕ) (op : UnaryOp) (a : TypedExpression) →
     AreKnown structs c.structs → TakesMemory c op a.place →
-    IsTypedIn c a → IfOk (unary structs at op a) (IsTypedIn c)
+    IsTypedIn c a → IfOk (unary_ruling structs at op a) (IsTypedIn c)
 
 abbrev pub BinaryIsTyped : Type 0
 BinaryIsTyped =
     (c : Context) (structs : List StructDef) (at : ℕ) (op : BinaryOp) (x y : TypedExpression) →
     AreKnown structs c.structs →
-    IsTypedIn c x → IsTypedIn c y → IfOk (binary structs at op x y) (IsTypedIn c)
+    IsTypedIn c x → IsTypedIn c y → IfOk (binary_ruling structs at op x y) (IsTypedIn c)
 
 abbrev pub AssignmentIsTyped : Type 0
 AssignmentIsTyped =
@@ -56,7 +56,7 @@ AssignmentIsTyped =
 abbrev pub ChoiceIsTyped : Type 0
 ChoiceIsTyped =
     (c : Context) (at : ℕ) (q x y : TypedExpression) → IsTypedIn c q → IsTypedIn c x → IsTypedIn c y →
-    IfOk (conditional at q x y) (IsTypedIn c)
+    IfOk (conditional_ruling at q x y) (IsTypedIn c)
 
 abbrev pub StepIsTyped : Type 0
 StepIsTyped =
@@ -67,7 +67,7 @@ StepIsTyped =
 abbrev pub CommaIsTyped : Type 0
 CommaIsTyped =
     (c : Context) (at : ℕ) (a b : TypedExpression) (rest : List TypedExpression) → IsTypedIn c a → IsTypedIn c b →
-    AreTypedIn c rest → IsTypedIn c (comma at (a ∷ b ∷ rest))
+    AreTypedIn c rest → IsTypedIn c (comma_value at (a ∷ b ∷ rest))
 
 -- ---- elements and members
 
@@ -137,18 +137,19 @@ ObjectIsTyped =
     (c : Context) (at number : ℕ) (ty : CType) →
     IsTrue (has_global_type c.structs (slice_get c.globals number) (type_view ty)) →
     IsTrue (is_fit c.structs (type_view ty)) →
-    IsTrue (nat_le (depth_behind (type_view ty)) most_depth) → IsTypedIn c (object at number ty)
+    IsTrue (nat_le (depth_behind (type_view ty)) most_depth) → IsTypedIn c (static_object at number ty)
 
 abbrev pub CallIsTyped : Type 0
 CallIsTyped =
     (c : Context) (at : ℕ) (callee : Callee) (result : CType) (parameters : List CType) (arguments : List TExpr) →
     IsFunctionOf c callee result parameters →
-    AreOfTypes c parameters arguments → IsTypedIn c (call at callee result arguments)
+    AreOfTypes c parameters arguments → IsTypedIn c (call_rvalue at callee result arguments)
 
 -- ---- values of constants are words of their types
 
 abbrev pub LabelIsWord : Type 0
-LabelIsWord = (t : IntegerType) (a : TypedExpression) → IfOk (constants.label t a) (λ word. IsTrue (is_word t word))
+LabelIsWord = (t : IntegerType) (a : TypedExpression) → IfOk (constants.label_value t a)
+    (λ word. IsTrue (is_word t word))
 
 abbrev pub GivenIsWord : Type 0
 GivenIsWord = (a : TypedExpression) → IfOk (constants.given_value a) (λ word. IsTrue (is_word i.Int word))

@@ -18,7 +18,7 @@ use Rattle.c_typed_tree.specs.Typing.{Context, callee_signature, is_promoted, is
 use Rattle.c_type_rules.specs.declared.typed.PlaceKind.{PlaceKind}
 use Rattle.c_type_rules.specs.declared.typed.PlaceKind.TheVariants as p
 use Rattle.c_type_rules.specs.declared.typed.TypedExpression.{TypedExpression}
-use Rattle.c_type_rules.specs.Values.{integer_type}
+use Rattle.c_type_rules.specs.Values.{type_of_integer}
 use Rattle.c_primary_rules.specs.declared.switches.SwitchValue.{SwitchValue}
 use Rattle.c_place_rules.specs.declared.members.FoundMember.{FoundMember}
 use Rattle.c_place_rules.specs.Places.{is_somewhere}
@@ -90,8 +90,8 @@ pub record IsFunctionOf (c : Context) (callee : Callee) (result : CType) (parame
 
 -- the operand of a `switch`, of its promoted type
 pub record IsSwitched (c : Context) (s : SwitchValue) : Type 0 where
-  pub value : IsOfType c (type_view (integer_type s.ty)) s.tree
-  pub promoted : IsTrue (is_promoted (type_view (integer_type s.ty)))
+  pub value : IsOfType c (type_view (type_of_integer s.ty)) s.tree
+  pub promoted : IsTrue (is_promoted (type_view (type_of_integer s.ty)))
 
 -- `&` takes the address of a place that is in memory
 abbrev pub TakesMemory : Context → UnaryOp → PlaceKind → Type 0

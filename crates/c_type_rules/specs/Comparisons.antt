@@ -10,7 +10,7 @@ use Rattle.c_type_faults.specs.declared.faults.Kind.TheVariants.{BadOperand}
 use Rattle.c_type_rules.specs.declared.typed.TypedExpression.{TypedExpression}
 use Rattle.c_type_rules.specs.Rulings.{Ruling, fault}
 use Rattle.c_typed_tree.specs.Typing.{is_pointer, is_scalar}
-use Rattle.c_type_rules.specs.Values.{int, integer, is_same, unary, binary, binary_in}
+use Rattle.c_type_rules.specs.Values.{int, integer, is_same, unary_rvalue, binary_rvalue, binary_in}
 use Rattle.c_type_rules.specs.Arithmetic.{common_type}
 
 -- ---- conditions: integers and pointers
@@ -18,14 +18,14 @@ use Rattle.c_type_rules.specs.Arithmetic.{common_type}
 abbrev pub condition : TypedExpression → Ruling TExpr
 condition a = if is_scalar (type_view a.ty) then Ok a.tree else fault a.at BadOperand
 
-abbrev pub negation : ℕ → TypedExpression → Ruling TypedExpression
-negation at a = if is_scalar (type_view a.ty) then Ok (unary at int Not a.tree) else fault at BadOperand
+abbrev pub not_operation : ℕ → TypedExpression → Ruling TypedExpression
+not_operation at a = if is_scalar (type_view a.ty) then Ok (unary_rvalue at int Not a.tree) else fault at BadOperand
 
 -- `&&` and `||`
 abbrev pub logical : ℕ → BinaryOp → (left right : TypedExpression) → Ruling TypedExpression
 logical at op a b =
     if is_scalar (type_view a.ty) then
-    (if is_scalar (type_view b.ty) then Ok (binary at int op a.tree b.tree) else fault at BadOperand)
+    (if is_scalar (type_view b.ty) then Ok (binary_rvalue at int op a.tree b.tree) else fault at BadOperand)
     else fault at BadOperand
 
 -- ---- `<`, `>`, `<=` and `>=`: integers in their common type, or pointers of one type
@@ -35,7 +35,7 @@ are_pointers_of_one_type a b = is_pointer (type_view a.ty) && is_same a.ty b.ty
 
 abbrev pub ordered_pointers : ℕ → BinaryOp → (left right : TypedExpression) → Ruling TypedExpression
 ordered_pointers at op a b =
-    if are_pointers_of_one_type a b then Ok (binary at int op a.tree b.tree) else fault at BadOperand
+    if are_pointers_of_one_type a b then Ok (binary_rvalue at int op a.tree b.tree) else fault at BadOperand
 
 abbrev pub comparison_of : ℕ → BinaryOp → (left right : TypedExpression) → Option IntegerType → Option IntegerType →
     Ruling TypedExpression

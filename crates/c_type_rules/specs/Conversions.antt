@@ -11,7 +11,7 @@ use Rattle.c_type_rules.specs.declared.typed.TypedExpression.{TypedExpression}
 use Rattle.c_type_rules.specs.Rulings.{Ruling, fault}
 use Rattle.c_typed_tree.specs.Constants.{is_integer}
 use Rattle.c_typed_tree.specs.Typing.{is_void, is_pointer, is_pointer_to_void}
-use Rattle.c_type_rules.specs.Values.{int, is_same, integer, value, convert_tree, binary_in}
+use Rattle.c_type_rules.specs.Values.{int, is_same, integer, rvalue, convert_tree, binary_in}
 use Rattle.c_type_rules.specs.Arithmetic.{common_type}
 
 -- ---- an array becomes a pointer to its first element (6.3.2.1)
@@ -26,7 +26,7 @@ element (t.Struct number) = None
 
 abbrev pub decayed_to : TypedExpression → Option t.CType → TypedExpression
 decayed_to a None = a
-decayed_to a (Some e) = value a.at (t.Pointer e) (x.Convert (t.Pointer e) a.tree)
+decayed_to a (Some e) = rvalue a.at (t.Pointer e) (x.Convert (t.Pointer e) a.tree)
 
 abbrev pub decay : TypedExpression → TypedExpression
 decay a = decayed_to a (element a.ty)
@@ -63,10 +63,10 @@ is_castable to a null =
     else false
 
 abbrev pub cast_value : ℕ → t.CType → x.TExpr → TypedExpression
-cast_value at to operand = value at to (x.Cast to operand)
+cast_value at to operand = rvalue at to (x.Cast to operand)
 
-abbrev pub cast : ℕ → t.CType → TypedExpression → (null : Bool) → Ruling TypedExpression
-cast at to a null = if is_castable to a null then Ok (cast_value at to a.tree) else fault at BadConversion
+abbrev pub cast_ruling : ℕ → t.CType → TypedExpression → (null : Bool) → Ruling TypedExpression
+cast_ruling at to a null = if is_castable to a null then Ok (cast_value at to a.tree) else fault at BadConversion
 
 -- ---- the type in which two operands meet of which one is a pointer (6.5.9, 6.5.15): their own; beside a null pointer
 -- constant the other's; beside a pointer to void that one
@@ -105,14 +105,14 @@ equality_of at op a b na nb (Some s) (Some u) = Ok (binary_in at int op (common_
 equality_of at op a b na nb (Some s) None = equal_pointers at op a b (meet a.ty b.ty na nb)
 equality_of at op a b na nb None u = equal_pointers at op a b (meet a.ty b.ty na nb)
 
-abbrev pub equality : ℕ → BinaryOp → (left right : TypedExpression) → (null_left null_right : Bool) →
+abbrev pub equality_test : ℕ → BinaryOp → (left right : TypedExpression) → (null_left null_right : Bool) →
     Ruling TypedExpression
-equality at op a b na nb = equality_of at op a b na nb (integer a) (integer b)
+equality_test at op a b na nb = equality_of at op a b na nb (integer a) (integer b)
 
 -- ---- `?:`, with its condition
 
 abbrev pub choice_in : ℕ → x.TExpr → t.CType → (holds fails : TypedExpression) → TypedExpression
-choice_in at c ty a b = value at ty (x.Conditional ty c (convert_tree ty a) (convert_tree ty b))
+choice_in at c ty a b = rvalue at ty (x.Conditional ty c (convert_tree ty a) (convert_tree ty b))
 
 abbrev pub choice_met : ℕ → x.TExpr → (holds fails : TypedExpression) → Option t.CType → Ruling TypedExpression
 choice_met at c a b None = fault at BadOperand

@@ -92,7 +92,7 @@ fn each_promoted(
     right: CType,
 ) -> Result<TypedExpression, AllocError>
     ensures { IfOk result
-        (λ r. r ≡ values.binary at left op (values.convert_tree left a) (values.convert_tree right b)) }
+        (λ r. r ≡ values.binary_rvalue at left op (values.convert_tree left a) (values.convert_tree right b)) }
 {
     let a = convert_tree(alloc, &left, a)?;
     let b = convert_tree(alloc, &right, b)?;
@@ -107,7 +107,7 @@ pub fn shift(
     a: TypedExpression,
     b: TypedExpression,
 ) -> Result<TypedExpression, Refusal>
-    ensures { RuleGives (spec.shift at op a b) result }
+    ensures { RuleGives (spec.bitwise_shift at op a b) result }
 {
     match integer_of(&a.ty) {
         None => Err(refuse(at, Kind::BadOperand)),
@@ -126,7 +126,7 @@ pub fn sum(
     a: TypedExpression,
     b: TypedExpression,
 ) -> Result<TypedExpression, Refusal>
-    ensures { RuleGives (spec.sum structs.now at a b) result }
+    ensures { RuleGives (spec.addition structs.now at a b) result }
 {
     if points_to_object(structs, &a.ty) {
         if is_integer(&b.ty) {
@@ -151,7 +151,7 @@ pub fn difference(
     a: TypedExpression,
     b: TypedExpression,
 ) -> Result<TypedExpression, Refusal>
-    ensures { RuleGives (spec.difference structs.now at a b) result }
+    ensures { RuleGives (spec.subtraction structs.now at a b) result }
 {
     if points_to_object(structs, &a.ty) {
         if is_integer(&b.ty) {

@@ -27,7 +27,7 @@ pub fn condition(a: TypedExpression) -> Result<Box<TExpr>, Refusal>
 
 /// `!`.
 pub fn negation(alloc: Global, at: u32, a: TypedExpression) -> Result<TypedExpression, Refusal>
-    ensures { RuleGives (spec.negation at a) result }
+    ensures { RuleGives (spec.not_operation at a) result }
 {
     if is_scalar(&a.ty) {
         let ty = integer_type(IntegerType::Int);

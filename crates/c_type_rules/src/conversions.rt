@@ -137,7 +137,7 @@ pub fn cast(
     a: TypedExpression,
     null: bool,
 ) -> Result<TypedExpression, Refusal>
-    ensures { RuleGives (spec.cast at to a null) result }
+    ensures { RuleGives (spec.cast_ruling at to a null) result }
 {
     if is_castable(&to, &a, null) {
         return Ok(cast_tree(alloc, at, to, a.tree)?);
@@ -246,7 +246,7 @@ pub fn equality(
     null_left: bool,
     null_right: bool,
 ) -> Result<TypedExpression, Refusal>
-    ensures { RuleGives (spec.equality at op a b null_left null_right) result }
+    ensures { RuleGives (spec.equality_test at op a b null_left null_right) result }
 {
     match integer_of(&a.ty) {
         None => {

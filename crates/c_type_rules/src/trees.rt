@@ -36,7 +36,7 @@ pub fn unary(
     op: UnaryOp,
     operand: Box<TExpr>,
 ) -> Result<TypedExpression, AllocError>
-    ensures { IfOk result (λ r. r ≡ spec.unary at of op operand) }
+    ensures { IfOk result (λ r. r ≡ spec.unary_rvalue at of op operand) }
 {
     let ty = of.copy(alloc)?;
     let tree = Box::new(alloc, TExpr::Unary { ty, op, operand })?;
@@ -52,7 +52,7 @@ pub fn binary(
     left: Box<TExpr>,
     right: Box<TExpr>,
 ) -> Result<TypedExpression, AllocError>
-    ensures { IfOk result (λ r. r ≡ spec.binary at of op left right) }
+    ensures { IfOk result (λ r. r ≡ spec.binary_rvalue at of op left right) }
 {
     let ty = of.copy(alloc)?;
     let tree = Box::new(

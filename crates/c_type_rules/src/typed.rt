@@ -30,7 +30,7 @@ pub struct TypedExpression {
 
 /// A value.
 pub fn value(at: u32, ty: CType, tree: Box<TExpr>) -> TypedExpression
-    ensures { result ≡ spec.value at ty tree }
+    ensures { result ≡ spec.rvalue at ty tree }
 {
     TypedExpression {
         at,

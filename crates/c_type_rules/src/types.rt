@@ -16,7 +16,7 @@ use data_object::MOST_DATA;
 
 /// The type of an integer type's values.
 pub fn integer_type(t: IntegerType) -> CType
-    ensures { result ≡ values.integer_type t }
+    ensures { result ≡ values.type_of_integer t }
 {
     CType::Int {
         bytes: t.bytes(),

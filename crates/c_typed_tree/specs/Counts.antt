@@ -34,10 +34,10 @@ optional_nodes (Some x) = expr_nodes x
 abbrev pub declared_nodes : LocalDeclaration → ℕ
 declared_nodes d = optional_nodes d.init
 
-abbrev pub first_nodes : First → ℕ
-first_nodes Nothing = 0
-first_nodes (Value x) = expr_nodes x
-first_nodes (Locals ds) = sum_by declared_nodes ds
+abbrev pub first_part_nodes : First → ℕ
+first_part_nodes Nothing = 0
+first_part_nodes (Value x) = expr_nodes x
+first_part_nodes (Locals ds) = sum_by declared_nodes ds
 
 abbrev mutual
   pub stmt_nodes : Stmt → ℕ
@@ -45,7 +45,7 @@ abbrev mutual
   stmt_nodes (If x s h) = 1 + expr_nodes x + stmt_nodes s + else_nodes h
   stmt_nodes (While x s) = 1 + expr_nodes x + stmt_nodes s
   stmt_nodes (Do s x) = 1 + expr_nodes x + stmt_nodes s
-  stmt_nodes (For first x y s) = 1 + first_nodes first + optional_nodes x + optional_nodes y + stmt_nodes s
+  stmt_nodes (For first x y s) = 1 + first_part_nodes first + optional_nodes x + optional_nodes y + stmt_nodes s
   stmt_nodes (Switch x ss) = 1 + expr_nodes x + sections_nodes ss
   stmt_nodes Break = 1
   stmt_nodes Continue = 1

@@ -13,7 +13,7 @@ use Rattle.c_typed_tree.specs.Statements.{Stmt, Block}
 use Rattle.c_typed_tree.specs.Types.{PlainType}
 use Rattle.c_typed_tree.specs.View.{type_view, stmt_view}
 use Rattle.c_typed_tree.specs.Layout.{is_object, IsLaidOut}
-use Rattle.c_typed_tree.specs.Typing.{is_same_type, int, is_void, is_scalar, is_type, depth_of, most_depth, Signature, Context}
+use Rattle.c_typed_tree.specs.Typing.{is_same_type, int, is_void, is_scalar, is_valid_type, depth_of, most_depth, Signature, Context}
 use Rattle.c_typed_tree.specs.TypingStatements.{no_jumps, is_typed_stmt}
 use Rattle.c_typed_tree.specs.Counts.{function_nodes}
 use Rattle.c_typed_tree.specs.Declarations.{declarations, due_declarations}
@@ -22,7 +22,7 @@ use Rattle.c_typed_tree.specs.Declarations.{declarations, due_declarations}
 
 -- a type of objects, no deeper than a type may be
 abbrev pub is_object_type : List StructDef → PlainType → Bool
-is_object_type ds ty = is_type ds ty && is_object ds ty && nat_le (depth_of ds ty) most_depth
+is_object_type ds ty = is_valid_type ds ty && is_object ds ty && nat_le (depth_of ds ty) most_depth
 
 -- ---- structs
 
@@ -58,11 +58,11 @@ IsLawfulStruct ds d = IsStruct ds d d.complete
 abbrev pub type_of_local : Local → PlainType
 type_of_local l = type_view l.ty
 
-abbrev pub parameters_of : TypedFn → List PlainType
-parameters_of f = map type_of_local (take f.params f.locals)
+abbrev pub types_of_parameters : TypedFn → List PlainType
+types_of_parameters f = map type_of_local (take f.params f.locals)
 
 abbrev pub signature_of : TypedFn → Signature
-signature_of f = record { result = type_view f.result; params = parameters_of f }
+signature_of f = record { result = type_view f.result; params = types_of_parameters f }
 
 -- what the numbers in a function of a unit name
 abbrev pub context_of : TypedUnit → TypedFn → Context
@@ -103,7 +103,7 @@ pub record IsTypedFn (u : TypedUnit) (f : TypedFn) : Type 0 where
   pub name : IsTrue (is_identifier f.name)
   pub result : IsTrue (is_result u.structs (type_view f.result))
   pub params : f.params ≤ length f.locals
-  pub scalars : IsTrue (list_all is_scalar (parameters_of f))
+  pub scalars : IsTrue (list_all is_scalar (types_of_parameters f))
   pub count : length f.locals < 2 ^ 32
   pub locals : IsTrue (list_all (is_lawful_local u.structs) f.locals)
   pub block : IsTrue (is_block (stmt_view f.body))

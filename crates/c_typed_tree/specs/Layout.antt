@@ -63,7 +63,8 @@ aligned_up (suc a) place = (place + a) / suc a * suc a
 abbrev pub MembersLieFrom : List StructDef → (end : ℕ) → List Member → Type 0
 MembersLieFrom ds end [] = Unit {0}
 MembersLieFrom ds end (m ∷ ms) =
-    (m.offset ≡ aligned_up (align_of ds (type_view m.ty)) end) × MembersLieFrom ds (m.offset + size_of ds (type_view m.ty)) ms
+    (m.offset ≡ aligned_up (align_of ds (type_view m.ty)) end)
+    × MembersLieFrom ds (m.offset + size_of ds (type_view m.ty)) ms
 
 -- the end of the last member
 abbrev pub end_from : List StructDef → (end : ℕ) → List Member → ℕ

@@ -33,16 +33,16 @@ abbrev pub is_global : Referent → ℕ → Bool
 is_global (AGlobal n) k = n == k
 is_global name k = false
 
-abbrev pub is_function : Referent → Callee → Bool
-is_function (AFunction f) g = is_same_callee f g
-is_function name g = false
+abbrev pub is_callee : Referent → Callee → Bool
+is_callee (AFunction f) g = is_same_callee f g
+is_callee name g = false
 
 abbrev mutual
   pub names : Referent → Expr → Bool
   names a (Number ty n) = false
   names a (Local ty k) = is_local a k
   names a (Global ty k) = is_global a k
-  names a (Call ty callee xs) = is_function a callee || any_names a xs
+  names a (Call ty callee xs) = is_callee a callee || any_names a xs
   names a (Unary ty op x) = names a x
   names a (Binary ty op x y) = names a x || names a y
   names a (Assign ty op x y) = names a x || names a y

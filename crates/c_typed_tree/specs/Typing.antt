@@ -95,12 +95,12 @@ is_pointer_to_void _ = false
 
 -- a type of which all parts are there: sizes of integers, numbers of structs, and arrays of objects no larger than
 -- the data may be
-abbrev pub is_type : List StructDef → PlainType → Bool
-is_type ds Void = true
-is_type ds (Int n s) = is_integer (Int n s)
-is_type ds (Pointer target) = is_type ds target
-is_type ds (Array element n) = is_type ds element && is_object ds (Array element n)
-is_type ds (Struct n) = is_some (slice_get ds n)
+abbrev pub is_valid_type : List StructDef → PlainType → Bool
+is_valid_type ds Void = true
+is_valid_type ds (Int n s) = is_integer (Int n s)
+is_valid_type ds (Pointer target) = is_valid_type ds target
+is_valid_type ds (Array element n) = is_valid_type ds element && is_object ds (Array element n)
+is_valid_type ds (Struct n) = is_some (slice_get ds n)
 
 -- how deep a type is. A struct behind a pointer, or one that is not complete, is 1 deep
 abbrev pub struct_depth : Option StructDef → ℕ
@@ -127,7 +127,7 @@ abbrev pub most_depth : ℕ
 most_depth = 256
 
 abbrev pub is_fit : List StructDef → PlainType → Bool
-is_fit ds ty = is_type ds ty && nat_le (depth_behind ty) (1 + most_depth)
+is_fit ds ty = is_valid_type ds ty && nat_le (depth_behind ty) (1 + most_depth)
 
 -- ---- operators, by the types of their operands and of the result
 
@@ -337,9 +337,9 @@ are_operands ty (more_exprs x no_exprs) = false
 are_operands ty (more_exprs x (more_exprs y ys)) = has_last_type ty (type_of x) (more_exprs y ys)
 
 -- a number is a word as its type holds it
-abbrev pub is_number : Option IntegerType → ℕ → Bool
-is_number None n = false
-is_number (Some t) n = is_word t n
+abbrev pub is_number_of : Option IntegerType → ℕ → Bool
+is_number_of None n = false
+is_number_of (Some t) n = is_word t n
 
 -- an operator in front of an operand (C99 6.5.3)
 abbrev pub has_unary_type : List StructDef → List l.Local → UnaryOp → (ty : PlainType) → Expr → Bool
@@ -354,7 +354,7 @@ has_unary_type ds ls u.Not ty x = has_truth_type ty (type_of x)
 
 -- the rule of each form, beside that its parts are well typed
 abbrev pub has_rule : Context → Expr → Bool
-has_rule c (Number ty n) = is_number (integer_of ty) n
+has_rule c (Number ty n) = is_number_of (integer_of ty) n
 has_rule c (Local ty k) = has_local_type (slice_get c.locals k) ty
 has_rule c (Global ty k) = has_global_type c.structs (slice_get c.globals k) ty
 has_rule c (Call ty callee xs) = is_call (callee_signature c callee) ty xs

@@ -10,7 +10,7 @@ use Rattle.c_typed_tree.specs.Expressions.{Expr, type_of}
 use Rattle.c_typed_tree.specs.Statements.{LocalDeclaration, First, Nothing, Value, Locals, Stmt, Block, If, While, Do, For, Switch, Break, Continue, Return, Expression, Empty, Declare, Else, no_else, else_stmt, Stmts, no_stmts, more_stmts, Sections, no_sections, more_sections}
 use Rattle.c_typed_tree.specs.View.{type_view}
 use Rattle.c_typed_tree.specs.Layout.{integer_of}
-use Rattle.c_typed_tree.specs.Typing.{is_same_type, is_void, is_scalar, is_struct, is_array, is_promoted, is_number, Context, is_typed}
+use Rattle.c_typed_tree.specs.Typing.{is_same_type, is_void, is_scalar, is_struct, is_array, is_promoted, is_number_of, Context, is_typed}
 
 -- what a jump may leave (C99 6.8.6): a `break` a loop or a `switch`, a `continue` a loop
 pub record Jumps : Type 0 where
@@ -73,7 +73,7 @@ is_returned c result (Some e) = is_same_type (type_of e) result && not (is_void 
 -- ---- labels: words of the operand's type, each once, and one `default` at most (C99 6.8.4.2)
 
 abbrev pub is_label : Option IntegerType → TLabel → Bool
-is_label t (Case n) = is_number t n
+is_label t (Case n) = is_number_of t n
 is_label t Default = true
 
 abbrev pub is_same_label : TLabel → TLabel → Bool

@@ -13,10 +13,10 @@ use Rattle.c_checks.specs.declared.env.Env.{Env}
 use Rattle.c_checks.specs.declared.notes.Notes.{Notes}
 use Rattle.c_judgements.specs.Types.{JudgementState}
 use Rattle.c_statements.specs.declared.functions.FunctionType.{FunctionType}
-use Rattle.c_statements.specs.Functions.{function}
+use Rattle.c_statements.specs.Functions.{judge_function}
 use Rattle.c_declarations.specs.declared.walk.UnitFunction.{UnitFunction}
 use Rattle.c_declarations.specs.declared.walk.UnitSoFar.{UnitSoFar}
-use Rattle.c_declarations.specs.Walk.{UnitWalk, with_names, object_at, add_numbered, next_object, add_object, fill_numbered, function_at, add_function}
+use Rattle.c_declarations.specs.Walk.{UnitWalk, with_names, object_number, add_numbered, next_object, add_object, fill_numbered, function_at, add_function}
 use Rattle.c_declarations.specs.Functions.{main_seen, function_declared}
 use Rattle.data_object.specs.declared.DataCell.{DataCell}
 use Rattle.c_judgement_laws.specs.Covers.{HasNames, HaveTexts, IsLawfulContext}
@@ -64,16 +64,16 @@ cells_typed typed (Some number) cells u h = h
 module _ (ds : Definitions) (es : List External) (typed : TypedUnit) (end : JudgementState) (lawful : IsLawfulContext (context_with typed [])) (names : (locals : List Local) → HasNames (context_with typed locals) end.0)
     (texts : (locals : List Local) → HaveTexts (context_with typed locals) end.1.first_text end.1.texts) where
   -- a body behind the declaration of its name
-  body_typed : (e : Declaration) (of : FunctionType) (list : List Stmt) (f : TypedFn) (later : Env) (n : Notes) → IsGivenType n.structs (declared_as of) → (function e (Some of) list (later, n)).0 ≡ Some f → IsWellDeclared (later, n)
-      → LeadsToEnd typed.structs end (later, (function e (Some of) list (later, n)).1.1) → IsTrue (is_identifier f.name) → length f.locals < 2 ^ 32 → IsTypedFn typed f
+  body_typed : (e : Declaration) (of : FunctionType) (list : List Stmt) (f : TypedFn) (later : Env) (n : Notes) → IsGivenType n.structs (declared_as of) → (judge_function e (Some of) list (later, n)).0 ≡ Some f → IsWellDeclared (later, n)
+      → LeadsToEnd typed.structs end (later, (judge_function e (Some of) list (later, n)).1.1) → IsTrue (is_identifier f.name) → length f.locals < 2 ^ 32 → IsTypedFn typed f
   body_typed e of list f later n given made well h name count =
-      let behind = (function e (Some of) list (later, n)).1.1 in
+      let behind = (judge_function e (Some of) list (later, n)).1.1 in
       let goes = goes_steps later n behind (function_steps e (Some of) list (later, n)) in
       let before = end_before typed.structs end (later, n) (later, behind) (λ q y e. e) goes h in
       let type = subst (λ (o : Option TypedFn). IfSome o (HasItsType e of)) made (function_has_type e of list (later, n)) in
       let callable = callable_stays n.structs typed.structs before.grow of.result of.parameters given in
       let here = context_with typed f.locals in
-      subst (λ (o : Option TypedFn). IfSome o (λ z. IsGiven typed e (Some of) (later, n) (function e (Some of) list (later, n)).1 z → IsTypedFn typed z)) made (function_typed typed e (Some of) list (later, n)) (record {
+      subst (λ (o : Option TypedFn). IfSome o (λ z. IsGiven typed e (Some of) (later, n) (judge_function e (Some of) list (later, n)).1 z → IsTypedFn typed z)) made (function_typed typed e (Some of) list (later, n)) (record {
         structs = lawful;
         scope = scope_before here end (later, n) before (names f.locals) well;
         knows = known_before here end (later, behind) h (goes.declared well);
@@ -94,6 +94,6 @@ module _ (ds : Definitions) (es : List External) (typed : TypedUnit) (end : Judg
   steps_bodies (DefinesFunction {u = u} {n = n} {names = names} {later = later} e of list f k counted r made) well h g =
       let there = (declared ds e.name (function_declared true (declared_as of)) n (function_plain ds e.name true of n) r).declared well in
       kept_typed typed (function_at later e.name) f (with_names names (main_seen e.name (declared_as of) u)) (λ number. body_typed e of list f later n k made there h) g
-  steps_bodies (DeclaresObject {u = u} {names = names} {later = later} name ty k r) well h g = object_typed typed (object_at later name) name ty (with_names names u) g
+  steps_bodies (DeclaresObject {u = u} {names = names} {later = later} name ty k r) well h g = object_typed typed (object_number later name) name ty (with_names names u) g
   steps_bodies (InitialisesObject {u = u} {names = names} {later = later} name ty x cells k r made listed) well h g =
-      cells_typed typed (object_at later name) cells (add_object later name ty (with_names names u)) (object_typed typed (object_at later name) name ty (with_names names u) g)
+      cells_typed typed (object_number later name) cells (add_object later name ty (with_names names u)) (object_typed typed (object_number later name) name ty (with_names names u) g)

@@ -11,7 +11,7 @@ use Rattle.c_typed_tree.specs.declared.types.StructDef.{StructDef}
 use Rattle.c_typed_tree.specs.declared.units.TypedFn.{TypedFn}
 use Rattle.c_typed_tree.specs.declared.units.TypedUnit.{TypedUnit}
 use Rattle.c_typed_tree.specs.Layout.{is_object, size_of}
-use Rattle.c_typed_tree.specs.Typing.{Context, is_type, depth_of, most_depth}
+use Rattle.c_typed_tree.specs.Typing.{Context, is_valid_type, depth_of, most_depth}
 use Rattle.c_typed_tree.specs.View.{type_view}
 use Rattle.c_declared_types.specs.Depth.{is_deep_at_most}
 use Rattle.c_checks.specs.declared.env.Env.{Env}
@@ -24,7 +24,7 @@ use Rattle.c_globals.specs.declared.objects.UnitObject.{UnitObject}
 use Rattle.c_globals.specs.Globals.{with_cells, replace_cells, set_cells}
 use Rattle.c_initialisers.specs.Initialisers.{object_cells}
 use Rattle.c_declarations.specs.declared.walk.UnitSoFar.{UnitSoFar}
-use Rattle.c_declarations.specs.Walk.{UnitWalk, with_names, object_by, object_at, add_numbered, next_object, add_object, fill_numbered, function_at, add_function}
+use Rattle.c_declarations.specs.Walk.{UnitWalk, with_names, object_by, object_number, add_numbered, next_object, add_object, fill_numbered, function_at, add_function}
 use Rattle.c_declarations.specs.Functions.{main_seen}
 use Rattle.c_declarations.specs.Objects.{object_declared}
 use Rattle.c_type_laws.specs.Typed.{may_be_memory}
@@ -118,8 +118,8 @@ no_cells all n = record { within = least n; lawful = λ at c e. none_some e }
 new_lawful : (known structs : List StructDef) (all : List DataObject) (name : List ℕ) (ty : CType) → Grow known structs → IsObjectType known ty → IsLawfulIn structs all (record { name = name; ty = ty; cells = [] })
 new_lawful known structs all name ty grow h =
     let x = type_view ty in
-    let both = front (is_type structs x && is_object structs x) (nat_le (depth_of structs x) most_depth) (object_stays known structs grow ty h) in
-    record { type = front (is_type structs x) (is_object structs x) both; object = back (is_type structs x) (is_object structs x) both; cells = no_cells all (size_of structs x) }
+    let both = front (is_valid_type structs x && is_object structs x) (nat_le (depth_of structs x) most_depth) (object_stays known structs grow ty h) in
+    record { type = front (is_valid_type structs x) (is_object structs x) both; object = back (is_valid_type structs x) (is_object structs x) both; cells = no_cells all (size_of structs x) }
 
 added_lawful : (structs : List StructDef) (all : List DataObject) (o : Option ℕ) (name : List ℕ) (ty : CType) (u : UnitSoFar) → IsLawfulIn structs all (record { name = name; ty = ty; cells = [] }) → AreLawfulIn structs all u.objects → AreLawfulIn structs all (add_numbered o name ty u).objects
 added_lawful structs all None name ty u new h = h
@@ -184,13 +184,13 @@ module _ (ds : Definitions) (es : List External) (typed : TypedUnit) (end : Judg
   steps_cells (DefinesFunction {u = u} {names = names} {later = later} e of list f k counted r made) well types os h g =
       kept_lawful typed.structs typed.globals (function_at later e.name) f (with_names names (main_seen e.name (declared_as of) u)) g
   steps_cells (DeclaresObject {u = u} {n = n} {names = names} {later = later} name ty k r) well types os h g =
-      added_lawful typed.structs typed.globals (object_at later name) name ty (with_names names u) (new_lawful n.structs typed.structs typed.globals name ty h.grow k) g
+      added_lawful typed.structs typed.globals (object_number later name) name ty (with_names names u) (new_lawful n.structs typed.structs typed.globals name ty h.grow k) g
   steps_cells (InitialisesObject {u = u} {env = env} {n = n} {names = names} {later = later} name ty x cells k r made listed) well types os h g =
       let behind = (object_cells ty x (later, n)).1.1 in
       let goes = goes_steps later n behind (cells_steps ty x (later, n)) in
       let grow = grow_then n.structs behind.structs typed.structs goes.grow h.grow in
       let there = (declared ds name (object_declared ty true) n (object_plain ds name ty true n) r).declared well in
-      let added = added_lawful typed.structs typed.globals (object_at later name) name ty (with_names names u) (new_lawful n.structs typed.structs typed.globals name ty grow k) g in
+      let added = added_lawful typed.structs typed.globals (object_number later name) name ty (with_names names u) (new_lawful n.structs typed.structs typed.globals name ty grow k) g in
       let objects = declared_object ds name ty true u r os in
       filled_lawful typed.structs typed.globals ty cells (add_object later name ty (with_names names u)) (meaning_of later name) (λ j of e. objects.objects name j of e) (agrees_here ds name (object_declared ty true) r (declared_types ds name (object_declared ty true) r types))
       (subst (λ (o : Option (List DataCell)). IfSome o (AreInitialCells typed.globals (size_of typed.structs (type_view ty)))) made (given_cells ty x later n listed k there h)) added

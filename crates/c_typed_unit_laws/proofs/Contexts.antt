@@ -14,7 +14,7 @@ use Rattle.c_typed_tree.specs.declared.expressions.Callee.{Callee}
 use Rattle.c_typed_tree.specs.declared.expressions.Callee.TheVariants as c
 use Rattle.c_typed_tree.specs.model.View.{opens}
 use Rattle.c_typed_tree.specs.Layout.{is_object, size_of}
-use Rattle.c_typed_tree.specs.Typing.{Context, callee_signature, has_global_type, is_type, depth_of, most_depth}
+use Rattle.c_typed_tree.specs.Typing.{Context, callee_signature, has_global_type, is_valid_type, depth_of, most_depth}
 use Rattle.c_typed_tree.specs.View.{type_view}
 use Rattle.c_typed_tree.specs.Lawful.{is_object_type, signature_of}
 use Rattle.c_primary_rules.specs.Primary.{text_type}
@@ -83,7 +83,7 @@ object_named : (structs : List StructDef) (os : List UnitObject) (texts : List (
 object_named structs os texts k ty lawful of = by (slice_get os k) refl of
   where
     object : IsTrue (is_object structs (type_view ty))
-    object = back (is_type structs (type_view ty)) (is_object structs (type_view ty)) (front (is_type structs (type_view ty) && is_object structs (type_view ty)) (nat_le (depth_of structs (type_view ty)) most_depth) lawful)
+    object = back (is_valid_type structs (type_view ty)) (is_object structs (type_view ty)) (front (is_valid_type structs (type_view ty) && is_object structs (type_view ty)) (nat_le (depth_of structs (type_view ty)) most_depth) lawful)
 
     by : (o : Option UnitObject) → slice_get os k ≡ o → ObjectIsOfType o ty → IsTrue (has_global_type structs (slice_get (globals structs os texts) k) (type_view ty))
     by None e h = absurd h

@@ -18,7 +18,7 @@ use Rattle.c_tag_bodies.specs.Bodies.{TagScope}
 use Rattle.c_declarations.specs.declared.walk.UnitFunction.{UnitFunction}
 use Rattle.c_declarations.specs.declared.walk.UnitSoFar.{UnitSoFar}
 use Rattle.c_unit_object_laws.specs.Externals.{externals}
-use Rattle.c_unit_object_laws.specs.Units.{start, end_notes, whole_unit}
+use Rattle.c_unit_object_laws.specs.Units.{unit_start, end_notes, whole_unit}
 use Rattle.c_type_laws.proofs.Truth.{front, back}
 use Rattle.c_unit_object_laws.specs.CNoteLawsSteps.{is_sized}
 use Rattle.c_judgement_laws.specs.Covers.{HasNames, HaveTexts}
@@ -93,9 +93,9 @@ module _ (unit : TranslationUnit) (typed : TypedUnit) (clean : (whole_unit unit)
   ds = definitions unit.externals
 
   abbrev behind : UnitSoFar × TagScope
-  behind = externals ds unit.externals (start ds)
+  behind = externals ds unit.externals (unit_start ds)
 
-  walk : WalkSteps ds unit.externals ((start ds).0, (start ds).1.1) (behind.0, behind.1.1)
+  walk : WalkSteps ds unit.externals ((unit_start ds).0, (unit_start ds).1.1) (behind.0, behind.1.1)
   walk = unit_walk unit clean
 
   same_structs : (whole_unit unit).1.1.1.structs ≡ behind.1.1.1.structs

@@ -2,7 +2,7 @@
 use Rattle.std.proofs.Common.{◌≡◌, ℕ, List, [], ◌∷◌, Some, None, sym, ap, ◌∙◌, subst, All}
 use Rattle.std.proofs.lemmas.List.Elements.{All-head, All-tail}
 use Rattle.c_tree.specs.declared.declarations.TranslationUnit.{TranslationUnit}
-use Rattle.c_type_faults.specs.Faults.{sorted, head}
+use Rattle.c_type_faults.specs.Faults.{sort_faults, head}
 use Rattle.c_type_faults.proofs.First.{some}
 use Rattle.c_typed_tree.specs.declared.units.TypedUnit.{TypedUnit}
 use Rattle.c_typed_tree.specs.Lawful.{IsLawfulUnit}
@@ -14,7 +14,7 @@ use Rattle.c_text_bytes.specs.Cells.{AreBytes}
 use Rattle.c_typed_unit_laws.specs.Made.{HaveBytes, IsSpelled}
 use Rattle.c_typed_unit_laws.proofs.Units.{unit_typed}
 use Rattle.c_types.specs.Spellings.{HasSpellings}
-use Rattle.c_types.specs.Units.{unit_of, IsTyped}
+use Rattle.c_types.specs.Units.{typed_unit_of, IsTyped}
 use Rattle.c_types.proofs.Made.{unit_made}
 
 pub typed_lawful : (unit : TranslationUnit) (typed : TypedUnit) → IsTyped unit typed → IsSpelled unit → CanBeCounted typed → IsLawfulUnit typed
@@ -34,7 +34,7 @@ spelled_lawful unit typed is counted texts has =
     typed_lawful unit typed is (record { names = has.names; initialisers = has.initialisers; texts = have_bytes (whole_unit unit).1.1.1.texts texts }) counted
 
 -- so it is of what is known behind the last declaration
-pub state_lawful : (unit : TranslationUnit) (s : UnitSoFar × TagScope) (typed : TypedUnit) → s ≡ whole_unit unit → head (sorted s.1.1.1.faults) ≡ None → unit_of s ≡ Some typed → CanBeCounted typed → All AreBytes s.1.1.1.texts → HasSpellings unit → IsLawfulUnit typed
+pub state_lawful : (unit : TranslationUnit) (s : UnitSoFar × TagScope) (typed : TypedUnit) → s ≡ whole_unit unit → head (sort_faults s.1.1.1.faults) ≡ None → typed_unit_of s ≡ Some typed → CanBeCounted typed → All AreBytes s.1.1.1.texts → HasSpellings unit → IsLawfulUnit typed
 state_lawful unit s typed same none made counted texts =
-    spelled_lawful unit typed (ap (λ (v : UnitSoFar × TagScope). head (sorted v.1.1.1.faults)) (sym same) ∙ none, ap unit_of (sym same) ∙ made) counted
+    spelled_lawful unit typed (ap (λ (v : UnitSoFar × TagScope). head (sort_faults v.1.1.1.faults)) (sym same) ∙ none, ap typed_unit_of (sym same) ∙ made) counted
     (subst (λ (v : UnitSoFar × TagScope). All AreBytes v.1.1.1.texts) same texts)

@@ -4,7 +4,7 @@ use Rattle.std.specs.List.{list_all}
 use Rattle.std.proofs.lemmas.List.{length-set}
 use Rattle.std.proofs.lemmas.Bool.Decides.{Decides-eqb}
 use Rattle.c_tree.specs.declared.declarations.TranslationUnit.{TranslationUnit}
-use Rattle.c_type_faults.specs.Faults.{sorted, head}
+use Rattle.c_type_faults.specs.Faults.{sort_faults, head}
 use Rattle.c_type_faults.proofs.First.{some}
 use Rattle.c_typed_tree.specs.declared.units.TypedFn.{TypedFn}
 use Rattle.c_tag_bodies.specs.Bodies.{TagScope}
@@ -12,7 +12,7 @@ use Rattle.c_declarations.specs.declared.walk.UnitFunction.{UnitFunction}
 use Rattle.c_declarations.specs.declared.walk.UnitSoFar.{UnitSoFar}
 use Rattle.c_units.specs.Units.{whole_unit}
 use Rattle.c_type_laws.proofs.Truth.{no_true, front, back, also, either}
-use Rattle.c_found_unit_laws.specs.Laws.{is_kept}
+use Rattle.c_found_unit_laws.specs.Laws.{is_tree_kept}
 use Rattle.c_found_unit_laws.proofs.Units.{functions_kept}
 use Rattle.c_types.specs.Units.{with_trees, functions_in, append_functions}
 
@@ -47,11 +47,11 @@ trees_length : (fs : List UnitFunction) (places : List (Option TypedFn)) → len
 trees_length [] places = refl
 trees_length (f ∷ fs) places = trees_length fs (slice_set places f.number (Some f.function)) ∙ length-set places f.number (Some f.function)
 
-kept_place : (fs : List UnitFunction) (places : List (Option TypedFn)) (k : ℕ) → k < length places → IsTrue (is_kept fs k) → IsTrue (has_tree (slice_get (with_trees fs places) k))
+kept_place : (fs : List UnitFunction) (places : List (Option TypedFn)) (k : ℕ) → k < length places → IsTrue (is_tree_kept fs k) → IsTrue (has_tree (slice_get (with_trees fs places) k))
 kept_place [] places k less h = no_true h
 kept_place (f ∷ fs) places k less h =
     let later = slice_set places f.number (Some f.function) in
-    either (f.number == k) (is_kept fs k)
+    either (f.number == k) (is_tree_kept fs k)
     (λ same. trees_keep fs later k (subst (λ n. IsTrue (has_tree (slice_get (slice_set places n (Some f.function)) k))) (sym ((Decides-eqb f.number k).0 same)) (set_here places k f.function less)))
     (λ rest. kept_place fs later k (subst (λ n. k < n) (sym (length-set places f.number (Some f.function))) less) rest) h
 
@@ -74,7 +74,7 @@ replicate_length : (n : ℕ) → length (replicate {A = Option TypedFn} n None) 
 replicate_length zero = refl
 replicate_length (suc n) = ap suc (replicate_length n)
 
-pub functions_there : (count : ℕ) (fs : List UnitFunction) → ((k : ℕ) → k < count → IsTrue (is_kept fs k)) → IsTrue (is_some (append_functions (Some []) (functions_in count fs)))
+pub functions_there : (count : ℕ) (fs : List UnitFunction) → ((k : ℕ) → k < count → IsTrue (is_tree_kept fs k)) → IsTrue (is_some (append_functions (Some []) (functions_in count fs)))
 functions_there count fs h =
     let places = replicate count None in
     appended [] (functions_in count fs)
@@ -82,9 +82,9 @@ functions_there count fs h =
     (h k (subst (λ n. k < n) (trees_length fs places ∙ replicate_length count) less))))
 
 -- so it is of a unit without a fault
-pub unit_trees : (unit : TranslationUnit) (s : UnitSoFar × TagScope) → s ≡ whole_unit unit → head (sorted s.1.1.1.faults) ≡ None → IsTrue (is_some (append_functions (Some []) (functions_in s.0.names.functions s.0.functions)))
+pub unit_trees : (unit : TranslationUnit) (s : UnitSoFar × TagScope) → s ≡ whole_unit unit → head (sort_faults s.1.1.1.faults) ≡ None → IsTrue (is_some (append_functions (Some []) (functions_in s.0.names.functions s.0.functions)))
 unit_trees unit s same none =
     functions_there s.0.names.functions s.0.functions (λ k less.
-    subst (λ (v : UnitSoFar × TagScope). IsTrue (is_kept v.0.functions k)) (sym same)
-    (functions_kept unit (some (whole_unit unit).1.1.1.faults (ap (λ (v : UnitSoFar × TagScope). head (sorted v.1.1.1.faults)) (sym same) ∙ none)) k
+    subst (λ (v : UnitSoFar × TagScope). IsTrue (is_tree_kept v.0.functions k)) (sym same)
+    (functions_kept unit (some (whole_unit unit).1.1.1.faults (ap (λ (v : UnitSoFar × TagScope). head (sort_faults v.1.1.1.faults)) (sym same) ∙ none)) k
     (subst (λ (v : UnitSoFar × TagScope). k < v.0.names.functions) same less)))

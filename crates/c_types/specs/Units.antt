@@ -44,11 +44,11 @@ abbrev pub unit_with :
 unit_with ds os texts count fs = typed_from ds os texts (append_functions (Some []) (functions_in count fs))
 
 -- what is known behind the last declaration
-abbrev pub unit_of : UnitSoFar × TagScope → Option TypedUnit
-unit_of s = unit_with s.1.1.1.structs s.0.objects s.1.1.1.texts s.0.names.functions s.0.functions
+abbrev pub typed_unit_of : UnitSoFar × TagScope → Option TypedUnit
+typed_unit_of s = unit_with s.1.1.1.structs s.0.objects s.1.1.1.texts s.0.names.functions s.0.functions
 
 abbrev pub typed_unit : TranslationUnit → Option TypedUnit
-typed_unit unit = unit_of (whole_unit unit)
+typed_unit unit = typed_unit_of (whole_unit unit)
 
 -- ---- what typing answers
 

@@ -10,7 +10,7 @@ use Rattle.c_typed_tree.specs.declared.types.CType.{CType}
 use Rattle.c_checks.specs.declared.env.Env.{Env}
 use Rattle.c_checks.specs.declared.meanings.NameMeaning.{NameMeaning}
 use Rattle.c_checks.specs.declared.meanings.NameMeaning.TheVariants as m
-use Rattle.c_checks.specs.Scopes.{with_name, meaning_of}
+use Rattle.c_checks.specs.Scopes.{with_meaning, meaning_of}
 use Rattle.c_unit_names.specs.declared.names.NameDeclaration.{NameDeclaration}
 use Rattle.c_unit_names.specs.declared.names.UnitNames.{UnitNames}
 use Rattle.c_unit_names.specs.UnitNames.{is_same_declared, may_follow, function_name, first_meaning, with_declared, with_value, value_name}
@@ -75,16 +75,16 @@ old_function old new may h =
     also (not old.is_typedef) (is_function_type old.ty) (old_kind old.is_typedef new.is_typedef (front (beq old.is_typedef new.is_typedef) (is_same_declared old.ty new.ty) both) (front (not new.is_typedef) (is_function_type new.ty) h))
     (old_type old.ty new.ty (same_kind old new may) (back (not new.is_typedef) (is_function_type new.ty) h))
 
-constant_kinds : (ds : Definitions) (name : List ℕ) (word : ℕ) (u : UnitNames) (env : Env) → meaning_of env name ≡ None → HasKinds ds u env → HasKinds ds u (with_name name (m.Constant word) env)
+constant_kinds : (ds : Definitions) (name : List ℕ) (word : ℕ) (u : UnitNames) (env : Env) → meaning_of env name ≡ None → HasKinds ds u env → HasKinds ds u (with_meaning name (m.Constant word) env)
 constant_kinds ds name word u env free h q a e fn defined =
     by_name q name (λ same. no_true (subst (λ o. IsTrue (means_function o)) (ap (meaning_of env) same ∙ free) (h q a e fn defined)))
     (λ differs. subst (λ o. IsTrue (means_function o)) (sym (other_meaning name (m.Constant word) env q differs)) (h q a e fn defined))
 
-first_kinds : (ds : Definitions) (name : List ℕ) (new : NameDeclaration) (u : UnitNames) (env : Env) → HasKinds ds u env → (let r = first_meaning ds name new u in HasKinds ds (with_declared name new r.1) (with_name name r.0 env))
+first_kinds : (ds : Definitions) (name : List ℕ) (new : NameDeclaration) (u : UnitNames) (env : Env) → HasKinds ds u env → (let r = first_meaning ds name new u in HasKinds ds (with_declared name new r.1) (with_meaning name r.0 env))
 first_kinds ds name new u env h q a e fn defined =
     let r = first_meaning ds name new u in
     declared_by name new r.1 q a
-    (λ same is. subst (λ o. IsTrue (means_function o)) (sym (ap (meaning_of (with_name name r.0 env)) same ∙ own_meaning name r.0 env))
+    (λ same is. subst (λ o. IsTrue (means_function o)) (sym (ap (meaning_of (with_meaning name r.0 env)) same ∙ own_meaning name r.0 env))
     (first_means ds name new u (subst (λ b. IsTrue (is_function b)) is fn) (subst (λ n. IsTrue (is_some (find n ds.functions))) same defined)))
     (λ differs found. subst (λ o. IsTrue (means_function o)) (sym (other_meaning name r.0 env q differs)) (h q a (sym (ap (find q) (same_declared ds name new u)) ∙ found) fn defined)) e
 

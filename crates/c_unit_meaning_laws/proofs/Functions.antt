@@ -24,19 +24,19 @@ use Rattle.c_checks.specs.declared.env.Env.{Env}
 use Rattle.c_checks.specs.declared.notes.Notes.{Notes}
 use Rattle.c_checks.specs.declared.meanings.NameMeaning.{NameMeaning}
 use Rattle.c_checks.specs.declared.meanings.NameMeaning.TheVariants as m
-use Rattle.c_checks.specs.Scopes.{with_name, meaning_of}
+use Rattle.c_checks.specs.Scopes.{with_meaning, meaning_of}
 use Rattle.c_statements.specs.declared.functions.FunctionType.{FunctionType}
 use Rattle.c_unit_names.specs.declared.names.NameDeclaration.{NameDeclaration}
 use Rattle.c_unit_names.specs.declared.names.UnitNames.{UnitNames}
 use Rattle.c_unit_names.specs.UnitNames.{object_name, function_name, value_name, first_meaning, with_declared, with_value}
 use Rattle.c_declarations.specs.declared.walk.UnitFunction.{UnitFunction}
 use Rattle.c_declarations.specs.declared.walk.UnitSoFar.{UnitSoFar}
-use Rattle.c_declarations.specs.Walk.{UnitWalk, with_names, is_main, add_numbered, next_object, object_at, add_object, fill_numbered, function_by, function_at, add_function}
+use Rattle.c_declarations.specs.Walk.{UnitWalk, with_names, is_main, add_numbered, next_object, object_number, add_object, fill_numbered, function_by, function_at, add_function}
 use Rattle.c_declarations.specs.Functions.{main_seen, function_declared, is_start}
 use Rattle.c_declarations.specs.Objects.{object_declared}
 use Rattle.c_units.specs.Externals.{typedef_of, externals}
 use Rattle.c_units.specs.Undefined.{undefined_noted}
-use Rattle.c_units.specs.Units.{no_names, builtin_declared, builtins, start, main_missed, whole_unit}
+use Rattle.c_units.specs.Units.{no_names, builtin_declared, builtins, unit_start, main_missed, whole_unit}
 use Rattle.c_type_laws.proofs.Truth.{no_true, front, back, either}
 use Rattle.c_type_laws.proofs.Types.{integer_is}
 use Rattle.c_unit_walk_laws.specs.Steps.{DeclaresName, First, Again, declared_as}
@@ -125,18 +125,18 @@ start_later env later keeps = by (meaning_of env (codes "main")) refl
     by (Some x) e h = subst IsStart (sym (keeps (codes "main") x e)) h
 
 -- a name is added, and what is kept stays
-added : (name : List ℕ) (x : NameMeaning) (env : Env) (u : UnitSoFar) (names : UnitNames) → meaning_of env name ≡ None → IsNew u.names names x → HasNamedFunctions u env → HasNamedFunctions (with_names names u) (with_name name x env)
+added : (name : List ℕ) (x : NameMeaning) (env : Env) (u : UnitSoFar) (names : UnitNames) → meaning_of env name ≡ None → IsNew u.names names x → HasNamedFunctions u env → HasNamedFunctions (with_names names u) (with_meaning name x env)
 added name x env u names free new h = record {
   below = λ q k of tys. meant_by name x env q (m.Function (c.Function k) of tys) (λ same e. (new.number k of tys e).1) (λ differs e. less_more k u.names.functions names.functions (h.below q k of tys e) new.more);
   one = λ q r k of tys also others e f. meant_by name x env q (m.Function (c.Function k) of tys)
       (λ same e. meant_by name x env r (m.Function (c.Function k) also others) (λ like g. same ∙ sym like) (λ differs g. absurd (clash k (new.number k of tys e).0 (h.below r k also others g))) f)
       (λ differs e. meant_by name x env r (m.Function (c.Function k) also others) (λ like g. absurd (clash k (new.number k also others g).0 (h.below q k of tys e))) (λ unlike g. h.one q r k of tys also others e g) f) e;
-  kept = all_later env (with_name name x env) keeps u.functions h.kept;
+  kept = all_later env (with_meaning name x env) keeps u.functions h.kept;
   apart = λ q b of tys. meant_by name x env q (m.Function (c.Builtin b) of tys) (λ same e. absurd (new.plain b of tys e)) (λ differs e. h.apart q b of tys e);
-  main = λ has. start_later env (with_name name x env) keeps (h.main has);
+  main = λ has. start_later env (with_meaning name x env) keeps (h.main has);
 }
   where
-    keeps : Keeps env (with_name name x env)
+    keeps : Keeps env (with_meaning name x env)
     keeps = keeps_name name x env free
 
     clash : (k : ℕ) → k ≡ u.names.functions → k < u.names.functions → ⊥
@@ -264,10 +264,10 @@ steps_named ds (DefinesFunction {u = u} {n = n} {names = names} {later = later} 
     kind_here new (First {u = u} x free) fn h = h e.name _ (own_found e.name new (first_meaning ds e.name new u).1) fn
     kind_here new (Again {u = u} old x may) fn h = h e.name _ (own_found e.name (with_value (old.1.has_value || new.has_value) new) u) fn
 steps_named ds (DeclaresObject {u = u} {names = names} {later = later} name ty g k) fs types h =
-    object_named (object_at later name) name ty (with_names names u) later (declared_named ds name (object_declared ty false) u k h)
+    object_named (object_number later name) name ty (with_names names u) later (declared_named ds name (object_declared ty false) u k h)
 steps_named ds (InitialisesObject {u = u} {names = names} {later = later} name ty x cells g k made listed) fs types h =
-    cells_named (object_at later name) cells (add_object later name ty (with_names names u)) later
-    (object_named (object_at later name) name ty (with_names names u) later (declared_named ds name (object_declared ty true) u k h))
+    cells_named (object_number later name) cells (add_object later name ty (with_names names u)) later
+    (object_named (object_number later name) name ty (with_names names u) later (declared_named ds name (object_declared ty true) u k h))
 
 -- ---- before the first declaration
 
@@ -282,11 +282,11 @@ builtin_there name b of tys r other h = record {
   none = λ q k result others. meant_by name x r.1 q (m.Function (c.Function k) result others) (λ same e. let clash : ⊥ = cc in clash) (λ differs e. h.none q k result others e);
   apart = λ q b result others. meant_by name x r.1 q (m.Function (c.Builtin b) result others) (λ same e. subst (λ n. IsFalse (is_main n)) (sym same) other) (λ differs e. h.apart q b result others e);
   types = λ q a. declared_by name new r.0 q a
-      (λ same e. subst (λ (z : NameDeclaration). MeaningAgrees z.ty (meaning_of (with_name name x r.1) q)) (sym e)
-      (subst (MeaningAgrees new.ty) (sym (ap (meaning_of (with_name name x r.1)) same ∙ own_meaning name x r.1)) (refl, refl)))
+      (λ same e. subst (λ (z : NameDeclaration). MeaningAgrees z.ty (meaning_of (with_meaning name x r.1) q)) (sym e)
+      (subst (MeaningAgrees new.ty) (sym (ap (meaning_of (with_meaning name x r.1)) same ∙ own_meaning name x r.1)) (refl, refl)))
       (λ differs e. subst (MeaningAgrees a.1.ty) (sym (other_meaning name x r.1 q differs)) (h.types q a e));
   kinds = λ ds q a e fn defined. declared_by name new r.0 q a
-      (λ same is. subst (λ o. IsTrue (means_function o)) (sym (ap (meaning_of (with_name name x r.1)) same ∙ own_meaning name x r.1)) refl)
+      (λ same is. subst (λ o. IsTrue (means_function o)) (sym (ap (meaning_of (with_meaning name x r.1)) same ∙ own_meaning name x r.1)) refl)
       (λ differs found. subst (λ o. IsTrue (means_function o)) (sym (other_meaning name x r.1 q differs)) (h.kinds ds q a found fn defined)) e;
 }
   where
@@ -308,13 +308,13 @@ all_builtins : Builtins builtins.0 builtins.1
 all_builtins =
     builtin_there _ _ _ _ _ refl (builtin_there _ _ _ _ _ refl (builtin_there _ _ _ _ _ refl (builtin_there _ _ _ _ _ refl no_builtins)))
 
-pub start_types : (ds : Definitions) → HasTypes (start ds).0.names (start ds).1.1.0
+pub start_types : (ds : Definitions) → HasTypes (unit_start ds).0.names (unit_start ds).1.1.0
 start_types ds = all_builtins.types
 
-pub start_kinds : (ds : Definitions) → HasKinds ds (start ds).0.names (start ds).1.1.0
+pub start_kinds : (ds : Definitions) → HasKinds ds (unit_start ds).0.names (unit_start ds).1.1.0
 start_kinds ds = all_builtins.kinds ds
 
-start_named : (ds : Definitions) → HasNamedFunctions (start ds).0 (start ds).1.1.0
+start_named : (ds : Definitions) → HasNamedFunctions (unit_start ds).0 (unit_start ds).1.1.0
 start_named ds = record {
   below = λ q k of tys e. absurd (all_builtins.none q k of tys e);
   one = λ q r k of tys also others e f. absurd (all_builtins.none q k of tys e);
@@ -341,5 +341,5 @@ main_there size false n e = more_is_not n.faults (record { at = size; kind = Mis
 pub unit_main : (unit : TranslationUnit) → (whole_unit unit).1.1.1.faults ≡ [] → IsTrue (whole_unit unit).0.has_main
 unit_main unit e =
     let ds = definitions unit.externals in
-    let behind = externals ds unit.externals (start ds) in
+    let behind = externals ds unit.externals (unit_start ds) in
     main_there unit.length behind.0.has_main (undefined_noted behind.1.1.1) e

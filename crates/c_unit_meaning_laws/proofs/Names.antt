@@ -13,12 +13,12 @@ use Rattle.c_typed_tree.specs.declared.units.TypedFn.{TypedFn}
 use Rattle.c_checks.specs.declared.env.Env.{Env}
 use Rattle.c_checks.specs.declared.meanings.NameMeaning.{NameMeaning}
 use Rattle.c_checks.specs.declared.meanings.NameMeaning.TheVariants as m
-use Rattle.c_checks.specs.Scopes.{with_name, meaning_of}
+use Rattle.c_checks.specs.Scopes.{with_meaning, meaning_of}
 use Rattle.c_unit_names.specs.declared.names.NameDeclaration.{NameDeclaration}
 use Rattle.c_unit_names.specs.declared.names.UnitNames.{UnitNames}
 use Rattle.c_unit_names.specs.UnitNames.{object_name, function_name, value_name, first_meaning, with_declared}
 use Rattle.c_declarations.specs.declared.walk.UnitSoFar.{UnitSoFar}
-use Rattle.c_declarations.specs.Walk.{UnitWalk, add_numbered, next_object, object_at, add_object, fill_numbered, keep_cells, function_at, add_function, keep_function}
+use Rattle.c_declarations.specs.Walk.{UnitWalk, add_numbered, next_object, object_number, add_object, fill_numbered, keep_cells, function_at, add_function, keep_function}
 use Rattle.c_declarations.specs.Functions.{function_declared}
 use Rattle.c_declarations.specs.Objects.{object_declared}
 use Rattle.c_units.specs.Externals.{typedef_of}
@@ -43,20 +43,20 @@ some_same e = cc
 
 -- ---- names in scope
 
-pub own_meaning : (name : List ℕ) (x : NameMeaning) (env : Env) → meaning_of (with_name name x env) name ≡ Some x
+pub own_meaning : (name : List ℕ) (x : NameMeaning) (env : Env) → meaning_of (with_meaning name x env) name ≡ Some x
 own_meaning name x env = choose (bytes_eq name name) ((bytes_eq-Decides name name).1 refl)
   where
     choose : (b : Bool) → b ≡ true → option_map (λ r. r.1) (if b then Some (length env.names, x) else find name env.names) ≡ Some x
     choose true e = refl
     choose false e = no_true e
 
-pub other_meaning : (name : List ℕ) (x : NameMeaning) (env : Env) (q : List ℕ) → bytes_eq q name ≡ false → meaning_of (with_name name x env) q ≡ meaning_of env q
+pub other_meaning : (name : List ℕ) (x : NameMeaning) (env : Env) (q : List ℕ) → bytes_eq q name ≡ false → meaning_of (with_meaning name x env) q ≡ meaning_of env q
 other_meaning name x env q e = ap (λ (b : Bool). option_map (λ r. r.1) (if b then Some (length env.names, x) else find q env.names)) e
 
 -- what a name means behind an added one: it is the added one, or it meant that before
-pub meant_by : {X : Type 0} (name : List ℕ) (x : NameMeaning) (env : Env) (q : List ℕ) (y : NameMeaning) → (q ≡ name → x ≡ y → X) → (bytes_eq q name ≡ false → meaning_of env q ≡ Some y → X) → meaning_of (with_name name x env) q ≡ Some y → X
+pub meant_by : {X : Type 0} (name : List ℕ) (x : NameMeaning) (env : Env) (q : List ℕ) (y : NameMeaning) → (q ≡ name → x ≡ y → X) → (bytes_eq q name ≡ false → meaning_of env q ≡ Some y → X) → meaning_of (with_meaning name x env) q ≡ Some y → X
 meant_by name x env q y f g e =
-    by_name q name (λ same. f same (some_same (sym (own_meaning name x env) ∙ (sym (ap (meaning_of (with_name name x env)) same) ∙ e)))) (λ differs. g differs (sym (other_meaning name x env q differs) ∙ e))
+    by_name q name (λ same. f same (some_same (sym (own_meaning name x env) ∙ (sym (ap (meaning_of (with_meaning name x env)) same) ∙ e)))) (λ differs. g differs (sym (other_meaning name x env q differs) ∙ e))
 
 pub free_name : (name : List ℕ) (env : Env) → find name env.names ≡ None → meaning_of env name ≡ None
 free_name name env e = ap (option_map (λ r. r.1)) e
@@ -66,7 +66,7 @@ free_name name env e = ap (option_map (λ r. r.1)) e
 pub keeps_then : (a b c : Env) → Keeps a b → Keeps b c → Keeps a c
 keeps_then a b c h g q x e = g q x (h q x e)
 
-pub keeps_name : (name : List ℕ) (x : NameMeaning) (env : Env) → meaning_of env name ≡ None → Keeps env (with_name name x env)
+pub keeps_name : (name : List ℕ) (x : NameMeaning) (env : Env) → meaning_of env name ≡ None → Keeps env (with_meaning name x env)
 keeps_name name x env free q y e =
     by_name q name (λ same. none_some (sym (ap (meaning_of env) same ∙ free) ∙ e)) (λ differs. other_meaning name x env q differs ∙ e)
 
@@ -133,11 +133,11 @@ numbered_names (Some number) name ty u = next (number == length u.objects)
     next false = refl
 
 pub object_names : (env : Env) (name : List ℕ) (ty : CType) (u : UnitSoFar) → (add_object env name ty u).names ≡ u.names
-object_names env name ty u = numbered_names (object_at env name) name ty u
+object_names env name ty u = numbered_names (object_number env name) name ty u
 
 filled_names : (o : Option ℕ) (cells : List DataCell) (u : UnitSoFar) → (fill_numbered o cells u).names ≡ u.names
 filled_names None cells u = refl
 filled_names (Some number) cells u = refl
 
 pub cells_names : (env : Env) (name : List ℕ) (cells : List DataCell) (u : UnitSoFar) → (keep_cells env name (Some cells) u).names ≡ u.names
-cells_names env name cells u = filled_names (object_at env name) cells u
+cells_names env name cells u = filled_names (object_number env name) cells u

@@ -12,7 +12,7 @@ use Rattle.c_type_rules.specs.Values.{is_same}
 use Rattle.c_checks.specs.declared.env.Env.{Env}
 use Rattle.c_checks.specs.declared.meanings.NameMeaning.{NameMeaning}
 use Rattle.c_checks.specs.declared.meanings.NameMeaning.TheVariants as m
-use Rattle.c_checks.specs.Scopes.{with_name, meaning_of}
+use Rattle.c_checks.specs.Scopes.{with_meaning, meaning_of}
 use Rattle.c_unit_names.specs.declared.names.NameDeclaration.{NameDeclaration}
 use Rattle.c_unit_names.specs.declared.names.UnitNames.{UnitNames}
 use Rattle.c_unit_names.specs.UnitNames.{are_same, is_same_declared, may_follow, object_name, function_name, value_name, first_meaning, with_declared, with_value}
@@ -88,17 +88,17 @@ same_kind old new h =
     back (beq old.is_typedef new.is_typedef) (is_same_declared old.ty new.ty)
     (front (beq old.is_typedef new.is_typedef && is_same_declared old.ty new.ty) (not (old.has_value && new.has_value)) h)
 
-constant_types : (name : List ℕ) (word : ℕ) (u : UnitNames) (env : Env) → HasTypes u env → HasTypes u (with_name name (m.Constant word) env)
+constant_types : (name : List ℕ) (word : ℕ) (u : UnitNames) (env : Env) → HasTypes u env → HasTypes u (with_meaning name (m.Constant word) env)
 constant_types name word u env h q a e =
-    by_name q name (λ same. subst (MeaningAgrees a.1.ty) (sym (ap (meaning_of (with_name name (m.Constant word) env)) same ∙ own_meaning name (m.Constant word) env)) tt)
+    by_name q name (λ same. subst (MeaningAgrees a.1.ty) (sym (ap (meaning_of (with_meaning name (m.Constant word) env)) same ∙ own_meaning name (m.Constant word) env)) tt)
     (λ differs. subst (MeaningAgrees a.1.ty) (sym (other_meaning name (m.Constant word) env q differs)) (h q a e))
 
-first_types : (ds : Definitions) (name : List ℕ) (new : NameDeclaration) (u : UnitNames) (env : Env) → HasTypes u env → (let r = first_meaning ds name new u in HasTypes (with_declared name new r.1) (with_name name r.0 env))
+first_types : (ds : Definitions) (name : List ℕ) (new : NameDeclaration) (u : UnitNames) (env : Env) → HasTypes u env → (let r = first_meaning ds name new u in HasTypes (with_declared name new r.1) (with_meaning name r.0 env))
 first_types ds name new u env h q a =
     let r = first_meaning ds name new u in
     declared_by name new r.1 q a
-    (λ same e. subst (λ (b : NameDeclaration). MeaningAgrees b.ty (meaning_of (with_name name r.0 env) q)) (sym e)
-    (subst (MeaningAgrees new.ty) (sym (ap (meaning_of (with_name name r.0 env)) same ∙ own_meaning name r.0 env)) (first_agrees ds name new u)))
+    (λ same e. subst (λ (b : NameDeclaration). MeaningAgrees b.ty (meaning_of (with_meaning name r.0 env) q)) (sym e)
+    (subst (MeaningAgrees new.ty) (sym (ap (meaning_of (with_meaning name r.0 env)) same ∙ own_meaning name r.0 env)) (first_agrees ds name new u)))
     (λ differs e. subst (MeaningAgrees a.1.ty) (sym (other_meaning name r.0 env q differs)) (h q a (sym (ap (find q) (same_declared ds name new u)) ∙ e)))
 
 again_types : (name : List ℕ) (new : NameDeclaration) (has_value : Bool) (u : UnitNames) (env : Env) (old : ℕ × NameDeclaration) → find name u.declared ≡ Some old → IsTrue (may_follow old.1 new) → HasTypes u env → HasTypes (with_declared name (with_value has_value new) u) env

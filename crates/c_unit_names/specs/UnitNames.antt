@@ -15,7 +15,7 @@ use Rattle.c_checks.specs.declared.meanings.NameMeaning.TheVariants as m
 use Rattle.c_checks.specs.declared.env.Env.{Env}
 use Rattle.c_checks.specs.declared.notes.Notes.{Notes}
 use Rattle.c_checks.specs.Notes.{with_fault}
-use Rattle.c_checks.specs.Scopes.{with_name, meaning_of}
+use Rattle.c_checks.specs.Scopes.{with_meaning, meaning_of}
 use Rattle.c_judgements.specs.Types.{JudgementState}
 use Rattle.c_unit_names.specs.declared.names.NameDeclaration.{NameDeclaration}
 use Rattle.c_unit_names.specs.declared.names.UnitNames.{UnitNames}
@@ -86,7 +86,7 @@ with_declared name new u = record {
 
 abbrev pub named_first : Definitions → List ℕ → NameDeclaration → UnitNames → Env → UnitNames × Env
 named_first ds name new u env =
-    and_then (first_meaning ds name new u) (λ meaning v. (with_declared name new v, with_name name meaning env))
+    and_then (first_meaning ds name new u) (λ meaning v. (with_declared name new v, with_meaning name meaning env))
 
 -- ---- what stands there already
 
@@ -103,13 +103,13 @@ meaning_before (Some (m.Typedef ty)) = g.Other
 abbrev pub redeclare : ℕ → UnitNames → JudgementState → UnitNames × JudgementState
 redeclare at u s = (u, (s.0, with_fault at Redeclared s.1))
 
-abbrev pub beside : UnitNames × Env → Notes → UnitNames × JudgementState
-beside r n = (r.0, (r.1, n))
+abbrev pub notes_beside : UnitNames × Env → Notes → UnitNames × JudgementState
+notes_beside r n = (r.0, (r.1, n))
 
 -- behind a declaration with a fault nothing is judged; every other name that stands there is an enumeration constant
 abbrev pub first_by : PriorMeaning → Definitions → ℕ → List ℕ → NameDeclaration → UnitNames → JudgementState →
     UnitNames × JudgementState
-first_by g.Nothing ds at name new u s = beside (named_first ds name new u s.0) s.1
+first_by g.Nothing ds at name new u s = notes_beside (named_first ds name new u s.0) s.1
 first_by g.Faulty ds at name new u s = (u, s)
 first_by g.Other ds at name new u s = redeclare at u s
 
@@ -138,7 +138,7 @@ abbrev pub known_declared : Definitions → ℕ → List ℕ → NameDeclaration
 known_declared ds at name new u s = known_by (follows (find name u.declared) new) ds at name new u s
 
 abbrev pub faulty_by : PriorMeaning → List ℕ → Env → Env
-faulty_by g.Nothing name env = with_name name m.Faulty env
+faulty_by g.Nothing name env = with_meaning name m.Faulty env
 faulty_by g.Faulty name env = env
 faulty_by g.Other name env = env
 
@@ -146,7 +146,7 @@ abbrev pub faulty_name : List ℕ → Env → Env
 faulty_name name env = faulty_by (meaning_before (meaning_of env name)) name env
 
 -- a declaration at file scope, or one that has a fault
-abbrev pub declaration : Definitions → ℕ → List ℕ → Option NameDeclaration → UnitNames → JudgementState →
+abbrev pub judge_declaration : Definitions → ℕ → List ℕ → Option NameDeclaration → UnitNames → JudgementState →
     UnitNames × JudgementState
-declaration ds at name None u s = (u, (faulty_name name s.0, s.1))
-declaration ds at name (Some new) u s = known_declared ds at name new u s
+judge_declaration ds at name None u s = (u, (faulty_name name s.0, s.1))
+judge_declaration ds at name (Some new) u s = known_declared ds at name new u s

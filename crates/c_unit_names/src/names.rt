@@ -310,7 +310,7 @@ pub fn declare_in_unit<'a>(
     new: Option<NameDeclaration>,
 ) -> Result<(), AllocError>
     ensures { OnOk result ((names.new, (env.new, notes.new))
-        ≡ spec.declaration definitions.now at name.now new names.old (env.old, notes.old)) }
+        ≡ spec.judge_declaration definitions.now at name.now new names.old (env.old, notes.old)) }
 {
     match new {
         None => declare_faulty(env, name),

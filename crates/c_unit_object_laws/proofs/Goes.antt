@@ -8,10 +8,10 @@ use Rattle.c_checks.specs.declared.env.Env.{Env}
 use Rattle.c_checks.specs.declared.notes.Notes.{Notes}
 use Rattle.c_checks.specs.declared.meanings.NameMeaning.{NameMeaning}
 use Rattle.c_checks.specs.declared.meanings.NameMeaning.TheVariants as m
-use Rattle.c_checks.specs.Scopes.{with_name}
+use Rattle.c_checks.specs.Scopes.{with_meaning}
 use Rattle.c_judgements.specs.Types.{JudgementState}
 use Rattle.c_statements.specs.declared.functions.FunctionType.{FunctionType}
-use Rattle.c_statements.specs.Functions.{function}
+use Rattle.c_statements.specs.Functions.{judge_function}
 use Rattle.c_initialisers.specs.Initialisers.{object_cells}
 use Rattle.c_unit_names.specs.declared.names.NameDeclaration.{NameDeclaration}
 use Rattle.c_unit_names.specs.declared.names.UnitNames.{UnitNames}
@@ -59,7 +59,7 @@ goes_steps env n later steps =
     }
 
 -- a name that is added, no typedef name or one of a type that is there
-named : (name : List ℕ) (x : NameMeaning) (env : Env) (n : Notes) → IsTypedefIn (of_structs n.structs) x → GoesTo (env, n) (with_name name x env, n)
+named : (name : List ℕ) (x : NameMeaning) (env : Env) (n : Notes) → IsTypedefIn (of_structs n.structs) x → GoesTo (env, n) (with_meaning name x env, n)
 named name x env n h = record {
   grow = grow_itself n.structs;
   declared = λ k. record { noted = k.noted; typedefs = (h, k.typedefs) };
@@ -94,7 +94,7 @@ steps_go ds (AddsNotes g) = record { grow = g.leads.grow; declared = g.leads.sou
 steps_go ds (DeclaresType {n = n} name ty g h) = declared ds name (typedef_of ty) n (λ u. g.there) h
 steps_go ds (DeclaresFunction {n = n} name of g h) = declared ds name (function_declared false (declared_as of)) n (function_plain ds name false of n) h
 steps_go ds (DefinesFunction {env = env} {n = n} {later = later} e of list f g counted h made) =
-    let end = (function e (Some of) list (later, n)).1.1 in
+    let end = (judge_function e (Some of) list (later, n)).1.1 in
     goes_then (env, n) (later, n) (later, end) (declared ds e.name (function_declared true (declared_as of)) n (function_plain ds e.name true of n) h) (goes_steps later n end (function_steps e (Some of) list (later, n)))
 steps_go ds (DeclaresObject {n = n} name ty g h) = declared ds name (object_declared ty false) n (object_plain ds name ty false n) h
 steps_go ds (InitialisesObject {env = env} {n = n} {later = later} name ty x cells g h made listed) =

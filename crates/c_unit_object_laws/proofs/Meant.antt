@@ -14,7 +14,7 @@ use Rattle.c_type_rules.specs.Values.{int}
 use Rattle.c_checks.specs.declared.env.Env.{Env}
 use Rattle.c_checks.specs.declared.meanings.NameMeaning.{NameMeaning}
 use Rattle.c_checks.specs.declared.meanings.NameMeaning.TheVariants as m
-use Rattle.c_checks.specs.Scopes.{with_name}
+use Rattle.c_checks.specs.Scopes.{with_meaning}
 use Rattle.c_statements.specs.declared.functions.FunctionType.{FunctionType}
 use Rattle.c_unit_names.specs.declared.names.NameDeclaration.{NameDeclaration}
 use Rattle.c_unit_names.specs.declared.names.UnitNames.{UnitNames}
@@ -23,7 +23,7 @@ use Rattle.c_declarations.specs.Walk.{UnitWalk}
 use Rattle.c_declarations.specs.Functions.{function_declared}
 use Rattle.c_declarations.specs.Objects.{object_declared}
 use Rattle.c_unit_meaning_laws.specs.Externals.{typedef_of}
-use Rattle.c_unit_meaning_laws.specs.Units.{builtins, start}
+use Rattle.c_unit_meaning_laws.specs.Units.{builtins, unit_start}
 use Rattle.c_struct_laws.specs.Growth.{Grow}
 use Rattle.c_struct_laws.proofs.Growth.{grow_then}
 use Rattle.c_unit_meaning_laws.specs.Steps.{DeclaresName, First, Again, declared_as}
@@ -33,7 +33,7 @@ use Rattle.c_unit_object_laws.specs.Meant.{IsMeant, AreMeant}
 use Rattle.c_unit_object_laws.proofs.Goes.{steps_go}
 use Rattle.c_unit_object_laws.proofs.Types.{object_stays, callable_stays}
 
-more_meant : (structs : List StructDef) (name : List ℕ) (x : NameMeaning) (env : Env) → IsMeant structs x → AreMeant structs env → AreMeant structs (with_name name x env)
+more_meant : (structs : List StructDef) (name : List ℕ) (x : NameMeaning) (env : Env) → IsMeant structs x → AreMeant structs env → AreMeant structs (with_meaning name x env)
 more_meant structs name x env own h q y = meant_by name x env q y (λ same e. subst (IsMeant structs) e own) (λ differs e. h q y e)
 
 declared_meant : (ds : Definitions) (structs : List StructDef) (name : List ℕ) (new : NameDeclaration) {u names : UnitNames} {env later : Env} → ((u : UnitNames) → IsMeant structs (first_meaning ds name new u).0) → DeclaresName ds name new u env names later → AreMeant structs env → AreMeant structs later
@@ -75,7 +75,7 @@ steps_meant ds structs {es = es} (InitialisesObject {u = u} {env = env} {n = n} 
 record Meant (structs : List StructDef) (env : Env) : Type 0 where
   meant : AreMeant structs env
 
-builtin_meant : (structs : List StructDef) (name : List ℕ) (callee : Callee) (of : CType) (tys : List CType) (env : Env) → IsMeant structs (m.Function callee of tys) → Meant structs env → Meant structs (with_name name (m.Function callee of tys) env)
+builtin_meant : (structs : List StructDef) (name : List ℕ) (callee : Callee) (of : CType) (tys : List CType) (env : Env) → IsMeant structs (m.Function callee of tys) → Meant structs env → Meant structs (with_meaning name (m.Function callee of tys) env)
 builtin_meant structs name callee of tys env own h = record { meant = more_meant structs name (m.Function callee of tys) env own h.meant }
 
 exit_meant : (structs : List StructDef) → IsMeant structs (m.Function (c.Builtin b.Exit) t.Void (int ∷ []))
@@ -102,5 +102,5 @@ all_meant structs =
     builtin_meant structs _ _ _ _ _ (exit_meant structs) (builtin_meant structs _ _ _ _ _ (abort_meant structs)
     (builtin_meant structs _ _ _ _ _ (getchar_meant structs) (builtin_meant structs _ _ _ _ _ (putchar_meant structs) (nothing_meant structs))))
 
-pub start_meant : (ds : Definitions) (structs : List StructDef) → AreMeant structs (start ds).1.1.0
+pub start_meant : (ds : Definitions) (structs : List StructDef) → AreMeant structs (unit_start ds).1.1.0
 start_meant ds structs = (all_meant structs).meant

@@ -13,7 +13,7 @@ use Rattle.c_typed_tree.specs.View.{type_view}
 use Rattle.c_checks.specs.declared.env.Env.{Env}
 use Rattle.c_checks.specs.declared.meanings.NameMeaning.{NameMeaning}
 use Rattle.c_checks.specs.declared.meanings.NameMeaning.TheVariants as m
-use Rattle.c_checks.specs.Scopes.{with_name, meaning_of}
+use Rattle.c_checks.specs.Scopes.{with_meaning, meaning_of}
 use Rattle.c_globals.specs.declared.objects.UnitObject.{UnitObject}
 use Rattle.c_globals.specs.Globals.{with_cells, replace_cells, set_cells}
 use Rattle.c_statements.specs.declared.functions.FunctionType.{FunctionType}
@@ -21,11 +21,11 @@ use Rattle.c_unit_names.specs.declared.names.NameDeclaration.{NameDeclaration}
 use Rattle.c_unit_names.specs.declared.names.UnitNames.{UnitNames}
 use Rattle.c_unit_names.specs.UnitNames.{object_name, function_name, first_meaning, with_declared}
 use Rattle.c_declarations.specs.declared.walk.UnitSoFar.{UnitSoFar}
-use Rattle.c_declarations.specs.Walk.{UnitWalk, with_names, with_objects, next_object, object_by, object_at, add_numbered, add_object, fill_numbered, function_at, add_function}
+use Rattle.c_declarations.specs.Walk.{UnitWalk, with_names, set_objects, next_object, object_by, object_number, add_numbered, add_object, fill_numbered, function_at, add_function}
 use Rattle.c_declarations.specs.Functions.{main_seen, function_declared}
 use Rattle.c_declarations.specs.Objects.{object_declared}
 use Rattle.c_unit_meaning_laws.specs.Externals.{typedef_of}
-use Rattle.c_unit_meaning_laws.specs.Units.{builtins, start}
+use Rattle.c_unit_meaning_laws.specs.Units.{builtins, unit_start}
 use Rattle.c_unit_meaning_laws.specs.Steps.{DeclaresName, First, Again, declared_as}
 use Rattle.c_unit_meaning_laws.specs.Walks.{WalkSteps, Stays, Follows, AddsConstant, AddsNotes, DeclaresType, DeclaresFunction, DefinesFunction, DeclaresObject, InitialisesObject}
 use Rattle.c_unit_meaning_laws.proofs.Names.{none_some, own_meaning, meant_by}
@@ -79,7 +79,7 @@ as_many xs n cells = by (slice_get xs n)
 
 -- ---- names that mean no object
 
-other : (name : List ℕ) (x : NameMeaning) (env : Env) (u v : UnitSoFar) → ((k : ℕ) (ty : CType) → x ≡ m.Object k ty → ⊥) → v.objects ≡ u.objects → v.names.objects ≡ u.names.objects → HasObjects u env → HasObjects v (with_name name x env)
+other : (name : List ℕ) (x : NameMeaning) (env : Env) (u v : UnitSoFar) → ((k : ℕ) (ty : CType) → x ≡ m.Object k ty → ⊥) → v.objects ≡ u.objects → v.names.objects ≡ u.names.objects → HasObjects u env → HasObjects v (with_meaning name x env)
 other name x env u v plain same count h = record {
   count = ap length same ∙ (h.count ∙ sym count);
   objects = λ q k ty. meant_by name x env q (m.Object k ty) (λ own e. absurd (plain k ty e)) (λ differs e. subst (λ os. ObjectIsOfType (slice_get os k) ty) (sym same) (h.objects q k ty e));
@@ -114,8 +114,8 @@ function_count ds name has_body of n = choose (is_some (find name ds.functions))
 
 -- one that has the next number
 next_there : (n : ℕ) (name : List ℕ) (ty : CType) (u : UnitSoFar) (o : Option NameMeaning) → o ≡ Some (m.Object n ty) → length u.objects ≡ n
-    → add_numbered (object_by o) name ty u ≡ with_objects (u.objects ++ record { name = name; ty = ty; cells = [] } ∷ []) u
-next_there n name ty u o e count = subst (λ o. add_numbered (object_by o) name ty u ≡ with_objects (u.objects ++ record { name = name; ty = ty; cells = [] } ∷ []) u) (sym e) (ap (λ z. next_object z name ty u) ((Decides-eqb n (length u.objects)).1 (sym count)))
+    → add_numbered (object_by o) name ty u ≡ set_objects (u.objects ++ record { name = name; ty = ty; cells = [] } ∷ []) u
+next_there n name ty u o e count = subst (λ o. add_numbered (object_by o) name ty u ≡ set_objects (u.objects ++ record { name = name; ty = ty; cells = [] } ∷ []) u) (sym e) (ap (λ z. next_object z name ty u) ((Decides-eqb n (length u.objects)).1 (sym count)))
 
 -- what a name means that is no new object adds none
 none_next : (name : List ℕ) (ty : CType) (u : UnitSoFar) (env : Env) (o : Option NameMeaning) → ((k : ℕ) (of : CType) → o ≡ Some (m.Object k of) → ObjectIsOfType (slice_get u.objects k) of) → add_numbered (object_by o) name ty u ≡ u
@@ -149,11 +149,11 @@ module _ (ds : Definitions) (name : List ℕ) (ty : CType) (has_value : Bool) wh
   new_object = record { name = name; ty = ty; cells = [] }
 
   first_object : (u : UnitSoFar) (env : Env) → meaning_of env name ≡ None → HasObjects u env
-      → (let r = first_meaning ds name (object_declared ty has_value) u.names in let later = with_name name r.0 env in HasObjects (add_object later name ty (with_names (with_declared name (object_declared ty has_value) r.1) u)) later)
+      → (let r = first_meaning ds name (object_declared ty has_value) u.names in let later = with_meaning name r.0 env in HasObjects (add_object later name ty (with_names (with_declared name (object_declared ty has_value) r.1) u)) later)
   first_object u env free h = choose (is_some (find name ds.objects))
     where
       later : Bool → Env
-      later z = with_name name (object_name z ty u.names).0 env
+      later z = with_meaning name (object_name z ty u.names).0 env
 
       after : Bool → UnitSoFar
       after z = with_names (with_declared name (object_declared ty has_value) (object_name z ty u.names).1) u
@@ -200,19 +200,19 @@ steps_objects ds (DefinesFunction {u = u} {names = names} {later = later} e of l
     kept_objects (function_at later e.name) f (with_names names (main_seen e.name (declared_as of) u)) later (record { count = one.count; objects = one.objects })
 steps_objects ds (DeclaresObject {u = u} name ty k r) h = declared_object ds name ty false u r h
 steps_objects ds (InitialisesObject {u = u} {names = names} {later = later} name ty x cells k r made listed) h =
-    filled_objects (object_at later name) cells (add_object later name ty (with_names names u)) later (declared_object ds name ty true u r h)
+    filled_objects (object_number later name) cells (add_object later name ty (with_names names u)) later (declared_object ds name ty true u r h)
 
 -- ---- before the first declaration
 
 record Builtins (env : Env) : Type 0 where
   none : (q : List ℕ) (k : ℕ) (ty : CType) → meaning_of env q ≡ Some (m.Object k ty) → ⊥
 
-builtin_there : (name : List ℕ) (callee : _) (of : CType) (tys : List CType) (env : Env) → Builtins env → Builtins (with_name name (m.Function callee of tys) env)
+builtin_there : (name : List ℕ) (callee : _) (of : CType) (tys : List CType) (env : Env) → Builtins env → Builtins (with_meaning name (m.Function callee of tys) env)
 builtin_there name callee of tys env h = record { none = λ q k ty. meant_by name (m.Function callee of tys) env q (m.Object k ty) (λ own e. let clash : ⊥ = cc in clash) (λ differs e. h.none q k ty e) }
 
 all_builtins : Builtins builtins.1
 all_builtins =
     builtin_there _ _ _ _ _ (builtin_there _ _ _ _ _ (builtin_there _ _ _ _ _ (builtin_there _ _ _ _ _ (record { none = λ q k ty e. none_some e }))))
 
-pub start_objects : (ds : Definitions) → HasObjects (start ds).0 (start ds).1.1.0
+pub start_objects : (ds : Definitions) → HasObjects (unit_start ds).0 (unit_start ds).1.1.0
 start_objects ds = record { count = refl; objects = λ q k ty e. absurd (all_builtins.none q k ty e) }

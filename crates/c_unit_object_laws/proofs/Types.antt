@@ -7,7 +7,7 @@ use Rattle.c_typed_tree.specs.declared.types.StructDef.{StructDef}
 use Rattle.c_typed_tree.specs.Types.{PlainType, Void, Int, Pointer, Array, Struct}
 use Rattle.c_typed_tree.specs.Constants.{is_integer}
 use Rattle.c_typed_tree.specs.Layout.{is_object}
-use Rattle.c_typed_tree.specs.Typing.{is_void, is_pointer, is_scalar, is_array, is_type, is_fit, depth_of, most_depth}
+use Rattle.c_typed_tree.specs.Typing.{is_void, is_pointer, is_scalar, is_array, is_valid_type, is_fit, depth_of, most_depth}
 use Rattle.c_typed_tree.specs.View.{type_view}
 use Rattle.c_typed_tree.specs.Lawful.{is_object_type, is_result}
 use Rattle.c_declared_types.specs.declared.declared.DeclaredType.TheVariants as d
@@ -34,7 +34,7 @@ pub object_stays : (ds es : List StructDef) → Grow ds es → (ty : CType) → 
 object_stays ds es g ty h =
     let x = type_view ty in
     let object = front (is_object ds x) (is_deep_at_most ds most_depth ty) h.member in
-    three (is_type es x) (is_object es x) (nat_le (depth_of es x) most_depth) (type_stays ds es g x h.there) (known_object ds es g.known x object)
+    three (is_valid_type es x) (is_object es x) (nat_le (depth_of es x) most_depth) (type_stays ds es g x h.there) (known_object ds es g.known x object)
     (along (λ k. nat_le k most_depth) (same_depth ds es g.known x object) (back (is_object ds x) (is_deep_at_most ds most_depth ty) h.member))
 
 -- ---- functions
@@ -54,7 +54,7 @@ word_object ds (Pointer x) h = refl
 word_object ds (Array x n) h = no_true h
 word_object ds (Struct n) h = no_true h
 
-word_scalar : (ds : List StructDef) (x : PlainType) → IsTrue (is_word_type x) → IsTrue (is_type ds x) → IsTrue (is_scalar x)
+word_scalar : (ds : List StructDef) (x : PlainType) → IsTrue (is_word_type x) → IsTrue (is_valid_type ds x) → IsTrue (is_scalar x)
 word_scalar ds Void h g = no_true h
 word_scalar ds (Int n s) h g = either_left (is_integer (Int n s)) (is_pointer (Int n s)) g
 word_scalar ds (Pointer x) h g = either_right (is_integer (Pointer x)) (is_pointer (Pointer x)) refl
@@ -72,9 +72,9 @@ one_less : (n : ℕ) → IsTrue (nat_le n 255) → IsTrue (nat_le n 256)
 one_less n h = le-leb n 256 (le_trans (leb-true n 255 h) (leb-true 255 256 refl))
 
 -- a word whose parts are there, at most 255 deep
-word_stays : (ds es : List StructDef) → Grow ds es → (x : PlainType) → IsTrue (is_word_type x) → IsTrue (is_type ds x) → IsTrue (nat_le (depth_of ds x) 255) → IsTrue (is_object_type es x)
+word_stays : (ds es : List StructDef) → Grow ds es → (x : PlainType) → IsTrue (is_word_type x) → IsTrue (is_valid_type ds x) → IsTrue (nat_le (depth_of ds x) 255) → IsTrue (is_object_type es x)
 word_stays ds es g x w h deep =
-    three (is_type es x) (is_object es x) (nat_le (depth_of es x) most_depth) (type_stays ds es g x h) (word_object es x w) (along (λ k. nat_le k most_depth) (word_depth ds es x w) (one_less (depth_of ds x) deep))
+    three (is_valid_type es x) (is_object es x) (nat_le (depth_of es x) most_depth) (type_stays ds es g x h) (word_object es x w) (along (λ k. nat_le k most_depth) (word_depth ds es x w) (one_less (depth_of ds x) deep))
 
 parameters_stay : (ds es : List StructDef) → Grow ds es → (tys : List CType) → IsTrue (list_all is_parameter_type tys) → AreTypes ds tys → IsTrue (list_all (is_deep_at_most ds 255) tys) → IsTrue (list_all (is_parameter es) tys)
 parameters_stay ds es g [] w h deep = refl

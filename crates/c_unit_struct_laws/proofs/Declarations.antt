@@ -24,15 +24,15 @@ use Rattle.c_checks.specs.Checks.{each}
 use Rattle.c_checks.specs.Notes.{with_fault}
 use Rattle.c_judgements.specs.Leaves.{no_type}
 use Rattle.c_judgements.specs.Types.{JudgementState, type_named}
-use Rattle.c_tag_bodies.specs.Members.{is_member}
+use Rattle.c_tag_bodies.specs.Members.{is_member_type}
 use Rattle.c_statements.specs.declared.functions.FunctionType.{FunctionType}
-use Rattle.c_statements.specs.Functions.{function}
+use Rattle.c_statements.specs.Functions.{judge_function}
 use Rattle.c_initialisers.specs.Initialisers.{object_cells, length_given}
 use Rattle.c_initialisers.specs.Unfit.{judge_init}
 use Rattle.c_unit_names.specs.declared.names.NameDeclaration.{NameDeclaration}
-use Rattle.c_declarations.specs.Walk.{UnitWalk, in_notes, with_notes, declare, is_static, is_main, main_checked, with_object}
-use Rattle.c_declarations.specs.Objects.{no_object, object_type, type_there, array_type, init_judged, init_filled, object_declared, faulty_object, object_of, object_with_type, array_object, value_object}
-use Rattle.c_declarations.specs.Functions.{function_type, function_declared, function_of, function_with_type, refusal_of, init_refused, optional_refused, name_row, defined_type}
+use Rattle.c_declarations.specs.Walk.{UnitWalk, in_notes, with_notes, declare, is_static, is_main, main_checked, with_unit_object}
+use Rattle.c_declarations.specs.Objects.{no_object_type, object_type, type_there, array_type, init_judged, init_filled, object_declared, faulty_object, object_by_type, object_with_type, array_object, value_object}
+use Rattle.c_declarations.specs.Functions.{function_type, function_declared, function_by_type, function_with_type, refusal_of, init_refused, optional_refused, name_row, defined_type}
 use Rattle.c_units.specs.Externals.{typedef_of, typedef_declared, prototype, object_with, with_main_in, with_definition, type_of_function, definition, end_judged, function_typed}
 use Rattle.c_judgement_laws.specs.Covers.{IsLawfulContext}
 use Rattle.c_expression_laws.specs.Types.{IsTypeIn}
@@ -65,8 +65,8 @@ refused_leads x s = leads_steps s (init_refused x s) (init_env x s) (unfit_steps
 cells_lead : (ty : CType) (x : Init) (s : JudgementState) → LeadsOn s (object_cells ty x s).1
 cells_lead ty x s = leads_steps s (object_cells ty x s).1 (object_leaves (of_structs []) empty_lawful ty x s).0.env (cells_steps ty x s)
 
-body_leads : (e : Declaration) (of : Option FunctionType) (list : List Stmt) (s : JudgementState) → LeadsOn s (function e of list s).1
-body_leads e of list s = leads_steps s (function e of list s).1 (function_leaves (of_structs []) empty_lawful e of list s).env (function_steps e of list s)
+body_leads : (e : Declaration) (of : Option FunctionType) (list : List Stmt) (s : JudgementState) → LeadsOn s (judge_function e of list s).1
+body_leads e of list s = leads_steps s (judge_function e of list s).1 (function_leaves (of_structs []) empty_lawful e of list s).env (function_steps e of list s)
 
 optional_judged_leads : (o : Option Init) (s : JudgementState) → LeadsOn s (init_judged o s)
 optional_judged_leads None s = leads_itself s
@@ -137,9 +137,9 @@ typedef_leads ds at name ty w =
 -- ---- objects
 
 object_type_steps : (at : ℕ) (ty : CType) (n : Notes) → NoteSteps n (object_type at ty n).1
-object_type_steps at ty n = choose (is_member n.structs ty)
+object_type_steps at ty n = choose (is_member_type n.structs ty)
   where
-    choose : (b : Bool) → NoteSteps n (if b then (Some ty, n) else no_object at n).1
+    choose : (b : Bool) → NoteSteps n (if b then (Some ty, n) else no_object_type at n).1
     choose true = NoteSteps.Stays
     choose false = NoteSteps.AddsFault at BadType
 
@@ -158,12 +158,12 @@ filled_leads : (name : List ℕ) (ty : CType) (init : Option Init) (w : UnitWalk
 filled_leads name ty None w = leads_itself w.1
 filled_leads name ty (Some x) w = cells_lead ty x w.1
 
-object_of_leads : (ds : Definitions) (at : ℕ) (name : List ℕ) (storage : Option Storage) (init : Option Init) (o : Option CType) (w : UnitWalk) → LeadsOn w.1 (object_of ds at name storage init o w).1
+object_of_leads : (ds : Definitions) (at : ℕ) (name : List ℕ) (storage : Option Storage) (init : Option Init) (o : Option CType) (w : UnitWalk) → LeadsOn w.1 (object_by_type ds at name storage init o w).1
 object_of_leads ds at name storage init None w = faulty_object_leads ds at name init w
 object_of_leads ds at name storage init (Some ty) w =
     let u = with_notes (main_checked storage at name w.1.1) w in
     let v = declare ds at name (Some (object_declared ty (is_some init))) u in
-    let x = with_object name ty v in
+    let x = with_unit_object name ty v in
     leads_then w.1 u.1 (init_filled name ty init x).1 (main_leads storage at name w.1)
     (leads_then u.1 v.1 (init_filled name ty init x).1 (declared_leads ds at name (Some (object_declared ty (is_some init))) u refl) (filled_leads name ty init x))
 
@@ -171,13 +171,13 @@ object_of_leads ds at name storage init (Some ty) w =
 object_behind : (ds : Definitions) (at : ℕ) (name : List ℕ) (storage : Option Storage) (init : Option Init) (w : UnitWalk) (r : Option CType × Notes) → NoteSteps w.1.1 r.1 → LeadsOn w.1 (object_with_type ds at name storage init (in_notes w r)).1
 object_behind ds at name storage init w r steps =
     let u : UnitWalk = (w.0, (w.1.0, r.1)) in
-    leads_then w.1 u.1 (object_of ds at name storage init r.0 u).1 (leads_steps w.1 u.1 refl steps) (object_of_leads ds at name storage init r.0 u)
+    leads_then w.1 u.1 (object_by_type ds at name storage init r.0 u).1 (leads_steps w.1 u.1 refl steps) (object_of_leads ds at name storage init r.0 u)
 
 value_leads : (ds : Definitions) (at : ℕ) (name : List ℕ) (storage : Option Storage) (init : Option Init) (ty : CType) (w : UnitWalk) → LeadsOn w.1 (value_object ds at name storage init ty w).1
 value_leads ds at name storage init ty w = object_behind ds at name storage init w (object_type at ty w.1.1) (object_type_steps at ty w.1.1)
 
 array_leads : (ds : Definitions) (at : ℕ) (name : List ℕ) (storage : Option Storage) (init : Option Init) (element : CType) (w : UnitWalk) → LeadsOn w.1 (array_object ds at name storage init element w).1
-array_leads ds at name storage None element w = object_behind ds at name storage None w (no_object at w.1.1) (NoteSteps.AddsFault at BadType)
+array_leads ds at name storage None element w = object_behind ds at name storage None w (no_object_type at w.1.1) (NoteSteps.AddsFault at BadType)
 array_leads ds at name storage (Some x) element w =
     object_behind ds at name storage (Some x) w (array_type at element (length_given element x) w.1.1) (type_there_steps at (array_with w.1.1.structs element (length_given element x)) w.1.1)
 
@@ -188,11 +188,11 @@ function_type_steps at (d.Value ty) n = NoteSteps.AddsFault at BadType
 function_type_steps at (d.Unsized element) n = NoteSteps.AddsFault at BadType
 function_type_steps at (d.Function of parameters) n = named_type_adds at (d.Function of parameters) n
 
-function_of_leads : (ds : Definitions) (at : ℕ) (name : List ℕ) (storage : Option Storage) (has_body : Bool) (o : Option DeclaredType) (w : UnitWalk) → LeadsOn w.1 (function_of ds at name storage has_body o w).1
+function_of_leads : (ds : Definitions) (at : ℕ) (name : List ℕ) (storage : Option Storage) (has_body : Bool) (o : Option DeclaredType) (w : UnitWalk) → LeadsOn w.1 (function_by_type ds at name storage has_body o w).1
 function_of_leads ds at name storage has_body None w = declared_leads ds at name None w tt
 function_of_leads ds at name storage has_body (Some ty) w =
     let u = with_notes (main_checked storage at name w.1.1) w in
-    leads_then w.1 u.1 (function_of ds at name storage has_body (Some ty) w).1 (main_leads storage at name w.1) (declared_leads ds at name (Some (function_declared has_body ty)) u refl)
+    leads_then w.1 u.1 (function_by_type ds at name storage has_body (Some ty) w).1 (main_leads storage at name w.1) (declared_leads ds at name (Some (function_declared has_body ty)) u refl)
 
 prototype_leads : (ds : Definitions) (at : ℕ) (name : List ℕ) (storage : Option Storage) (ty : DeclaredType) (w : UnitWalk) → LeadsOn w.1 (prototype ds at name storage ty w).1
 prototype_leads ds at name storage ty w =
@@ -232,8 +232,8 @@ definition_leads ds e storage list ty w =
     let steps = NoteSteps.Follows (function_type_steps e.at ty w.1.1) (each_adds b.0 (defined_type e.at e.ty) b.1.1.1 (λ x. defined_steps e.at e.ty x b.1.1.1)) in
     let v = function_with_type ds e.at e.name storage true r in
     let of = type_of_function r.0 in
-    leads_then w.1 r.1.1 (function e of list v.1).1 (leads_steps w.1 r.1.1 refl steps)
-    (leads_then r.1.1 v.1 (function e of list v.1).1 (function_of_leads ds e.at e.name storage true r.0 r.1) (body_leads e of list v.1))
+    leads_then w.1 r.1.1 (judge_function e of list v.1).1 (leads_steps w.1 r.1.1 refl steps)
+    (leads_then r.1.1 v.1 (judge_function e of list v.1).1 (function_of_leads ds e.at e.name storage true r.0 r.1) (body_leads e of list v.1))
 
 end_leads : (e : Declaration) (end : FunctionEnd) (s : JudgementState) → LeadsOn s (end_judged e end s)
 end_leads e f.Nothing s = leads_itself s

@@ -10,11 +10,11 @@ use Rattle.c_definitions.specs.declared.names.Definitions.{Definitions}
 use Rattle.c_checks.specs.declared.meanings.NameMeaning.{NameMeaning}
 use Rattle.c_checks.specs.declared.meanings.NameMeaning.TheVariants as m
 use Rattle.c_checks.specs.Notes.{with_fault}
-use Rattle.c_checks.specs.Scopes.{with_name, meaning_of}
+use Rattle.c_checks.specs.Scopes.{with_meaning, meaning_of}
 use Rattle.c_judgements.specs.Types.{JudgementState}
 use Rattle.c_unit_names.specs.declared.names.NameDeclaration.{NameDeclaration}
 use Rattle.c_unit_names.specs.declared.names.UnitNames.{UnitNames}
-use Rattle.c_unit_names.specs.UnitNames.{object_name, function_name, value_name, first_meaning, meaning_before, first_by, follows, known_by, faulty_by, declaration}
+use Rattle.c_unit_names.specs.UnitNames.{object_name, function_name, value_name, first_meaning, meaning_before, first_by, follows, known_by, faulty_by, judge_declaration}
 use Rattle.c_expression_laws.specs.Types.{IsTypeIn, IsTypedefIn}
 use Rattle.c_note_laws.specs.Steps.{NoteSteps}
 use Rattle.c_struct_laws.specs.Growth.{Grow}
@@ -58,7 +58,7 @@ meaning_in structs ds name new u h = choose new.is_typedef h
     choose false h = value_in structs ds name new.ty u
 
 -- a name in front of the others
-pub named_leads : (name : List ℕ) (meaning : NameMeaning) (given : Type 0) (s : JudgementState) → (given → IsIn s.1.structs meaning) → LeadsWhere given s (with_name name meaning s.0, s.1)
+pub named_leads : (name : List ℕ) (meaning : NameMeaning) (given : Type 0) (s : JudgementState) → (given → IsIn s.1.structs meaning) → LeadsWhere given s (with_meaning name meaning s.0, s.1)
 named_leads name meaning given s h = record { grow = grow_itself s.1.structs; sound = λ w g. record { noted = w.noted; typedefs = (h g, w.typedefs) } }
 
 redeclared : (given : Type 0) (at : ℕ) (s : JudgementState) → LeadsWhere given s (s.0, with_fault at Redeclared s.1)
@@ -92,6 +92,6 @@ faulty_leads (Some (m.Typedef ty)) name given s = leads_where given s s (leads_i
 abbrev pub Given : List StructDef → Option NameDeclaration → Type 0
 Given structs new = IfSome new (HasType structs)
 
-pub declaration_leads : (ds : Definitions) (at : ℕ) (name : List ℕ) (new : Option NameDeclaration) (u : UnitNames) (s : JudgementState) → LeadsWhere (Given s.1.structs new) s (declaration ds at name new u s).1
+pub declaration_leads : (ds : Definitions) (at : ℕ) (name : List ℕ) (new : Option NameDeclaration) (u : UnitNames) (s : JudgementState) → LeadsWhere (Given s.1.structs new) s (judge_declaration ds at name new u s).1
 declaration_leads ds at name None u s = faulty_leads (meaning_of s.0 name) name (Unit {0}) s
 declaration_leads ds at name (Some new) u s = known_leads (follows (find name u.declared) new) ds at name new u s

@@ -9,7 +9,7 @@ use Rattle.c_tree.specs.declared.declarations.External.TheVariants as x
 use Rattle.c_tree.specs.declared.types.Declaration.{Declaration}
 use Rattle.c_scopes.specs.Names.{find}
 use Rattle.c_definitions.specs.declared.names.Definitions.{Definitions}
-use Rattle.c_definitions.specs.Definitions.{NameSet, with_name, with_function_type, with_object, is_function, is_definition, see, defined_behind}
+use Rattle.c_definitions.specs.Definitions.{NameSet, add_to_names, with_function_type, with_object, is_function, is_definition, add_external, defined_behind}
 use Rattle.c_type_laws.proofs.Truth.{no_true}
 use Rattle.c_unit_walk_laws.specs.Walks.{IsInitialiserIn, Here, There}
 
@@ -29,7 +29,7 @@ AreCounted ds [] = Unit {0}
 AreCounted ds (e ∷ es) = IsCountedIn ds e × AreCounted ds es
 
 -- a name that is counted stays so
-pub name_stays : (q name : List ℕ) (ns : NameSet) → IsTrue (is_some (find q ns)) → IsTrue (is_some (find q (with_name name ns)))
+pub name_stays : (q name : List ℕ) (ns : NameSet) → IsTrue (is_some (find q ns)) → IsTrue (is_some (find q (add_to_names name ns)))
 name_stays q name ns h = choose (is_some (find name ns))
   where
     own : (c : Bool) → IsTrue (is_some (if c then Some (length ns, tt {0}) else find q ns))
@@ -40,7 +40,7 @@ name_stays q name ns h = choose (is_some (find name ns))
     choose true = h
     choose false = own (bytes_eq q name)
 
-pub name_there : (name : List ℕ) (ns : NameSet) → IsTrue (is_some (find name (with_name name ns)))
+pub name_there : (name : List ℕ) (ns : NameSet) → IsTrue (is_some (find name (add_to_names name ns)))
 name_there name ns = choose (is_some (find name ns)) refl
   where
     own : (c : Bool) → c ≡ true → IsTrue (is_some (if c then Some (length ns, tt {0}) else find name ns))
@@ -52,7 +52,7 @@ name_there name ns = choose (is_some (find name ns)) refl
     choose false e = own (bytes_eq name name) ((bytes_eq-Decides name name).1 refl)
 
 -- functions that are counted stay so
-one_stays : (e : External) (d : Definitions) (q : List ℕ) → IsTrue (is_some (find q d.functions)) → IsTrue (is_some (find q (see e d).functions))
+one_stays : (e : External) (d : Definitions) (q : List ℕ) → IsTrue (is_some (find q d.functions)) → IsTrue (is_some (find q (add_external e d).functions))
 one_stays (x.Typedef e) d q h = choose (is_function d.function_types e.ty)
   where
     choose : (b : Bool) → IsTrue (is_some (find q (if b then with_function_type e.name d else d).functions))
@@ -71,19 +71,19 @@ one_stays (x.Tags storage ty) d q h = h
 
 all_stay : (es : List External) (d : Definitions) (q : List ℕ) → IsTrue (is_some (find q d.functions)) → IsTrue (is_some (find q (defined_behind es d).functions))
 all_stay [] d q h = h
-all_stay (e ∷ es) d q h = all_stay es (see e d) q (one_stays e d q h)
+all_stay (e ∷ es) d q h = all_stay es (add_external e d) q (one_stays e d q h)
 
-one_counted : (e : External) (es : List External) (d : Definitions) → IsCountedIn (defined_behind es (see e d)) e
+one_counted : (e : External) (es : List External) (d : Definitions) → IsCountedIn (defined_behind es (add_external e d)) e
 one_counted (x.Typedef e) es d = tt
 one_counted (x.Object e storage init) es d = tt
 one_counted (x.Function e storage f.Nothing) es d = tt
 one_counted (x.Function e storage (f.Init init)) es d = tt
-one_counted (x.Function e storage (f.Body list)) es d = all_stay es (see (x.Function e storage (f.Body list)) d) e.name (name_there e.name d.functions)
+one_counted (x.Function e storage (f.Body list)) es d = all_stay es (add_external (x.Function e storage (f.Body list)) d) e.name (name_there e.name d.functions)
 one_counted (x.Tags storage ty) es d = tt
 
 pub all_counted : (es : List External) (d : Definitions) → AreCounted (defined_behind es d) es
 all_counted [] d = tt
-all_counted (e ∷ es) d = (one_counted e es d, all_counted es (see e d))
+all_counted (e ∷ es) d = (one_counted e es d, all_counted es (add_external e d))
 
 -- ---- each initialiser is one of the unit
 

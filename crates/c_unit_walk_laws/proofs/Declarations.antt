@@ -17,7 +17,7 @@ use Rattle.c_typed_tree.specs.declared.types.CType as ct
 use Rattle.c_typed_tree.specs.declared.types.CType.{CType}
 use Rattle.c_typed_tree.specs.declared.types.StructDef.{StructDef}
 use Rattle.c_typed_tree.specs.Layout.{is_object}
-use Rattle.c_typed_tree.specs.Typing.{is_type}
+use Rattle.c_typed_tree.specs.Typing.{is_valid_type}
 use Rattle.c_typed_tree.specs.View.{type_view}
 use Rattle.c_typed_tree.specs.model.View.{opens}
 use Rattle.c_checks.specs.declared.env.Env.{Env}
@@ -26,14 +26,14 @@ use Rattle.c_checks.specs.Checks.{each}
 use Rattle.c_checks.specs.Notes.{with_fault}
 use Rattle.c_judgements.specs.Leaves.{no_type}
 use Rattle.c_judgements.specs.Types.{JudgementState}
-use Rattle.c_tag_bodies.specs.Members.{is_member}
+use Rattle.c_tag_bodies.specs.Members.{is_member_type}
 use Rattle.c_initialisers.specs.Unfit.{judge_init, no_place}
 use Rattle.c_initialisers.specs.Initialisers.{object_cells, length_given}
 use Rattle.c_unit_names.specs.declared.names.UnitNames.{UnitNames}
-use Rattle.c_unit_names.specs.UnitNames.{object_name, function_name, declaration}
+use Rattle.c_unit_names.specs.UnitNames.{object_name, function_name, judge_declaration}
 use Rattle.c_declarations.specs.declared.walk.UnitSoFar.{UnitSoFar}
 use Rattle.c_declarations.specs.Walk.{UnitWalk, in_notes, declare, with_names, main_checked, add_object, keep_cells}
-use Rattle.c_declarations.specs.Objects.{no_object, object_type, type_there, init_judged, object_declared, faulty_object, object_of, array_object, value_object}
+use Rattle.c_declarations.specs.Objects.{no_object_type, object_type, type_there, init_judged, object_declared, faulty_object, object_by_type, array_object, value_object}
 use Rattle.c_declarations.specs.Functions.{function_declared, function_with_type, refusal_of, init_refused}
 use Rattle.c_found_unit_laws.specs.Externals.{typedef_of, typedef_declared, prototype, object_with, type_with}
 use Rattle.c_type_laws.proofs.Truth.{also}
@@ -82,15 +82,15 @@ typedef_after ds es G at name (Some ty) s w f h = choose (is_declarable w.1.1.st
 
     choose : (b : Bool) → is_declarable w.1.1.structs ty ≡ b → Tells (G → WalkSteps ds es w (after b)) s (after b).1
     choose true e =
-        let r = declaration ds at name (Some (typedef_of ty)) w.0.names w.1 in
+        let r = judge_declaration ds at name (Some (typedef_of ty)) w.0.names w.1 in
         tells_both s w.1 r.1 (λ x y g. at_notes y.1 (DeclaresType name ty (given w.1.1.structs ty (f g) e) y.0)) h (declaration_tells ds at name (typedef_of ty) w.0.names w.1 refl)
     choose false e = fault_tells s w.1.0 (after false).1.0 at w.1.1 (anything s w.1 h)
 
 -- ---- objects
 
-array_is : (structs : List StructDef) (element : CType) (size : ℕ) → IsTrue (is_type structs (type_view element)) → IsTrue (is_object structs (type_view (ct.Array element size))) → IsTrue (is_type structs (type_view (ct.Array element size)))
+array_is : (structs : List StructDef) (element : CType) (size : ℕ) → IsTrue (is_valid_type structs (type_view element)) → IsTrue (is_object structs (type_view (ct.Array element size))) → IsTrue (is_valid_type structs (type_view (ct.Array element size)))
 unfolding opens
-array_is structs element size h e = also (is_type structs (type_view element)) (is_object structs (type_view (ct.Array element size))) h e
+array_is structs element size h e = also (is_valid_type structs (type_view element)) (is_object structs (type_view (ct.Array element size))) h e
 
 -- an initialiser of a function is always a fault
 never_found : (o : Option ℕ) (kind : Kind) (n : Notes) → IsFound (each o (no_place kind) n).0 → IsTrue false
@@ -104,13 +104,13 @@ refused_never init s =
 
 module _ (ds : Definitions) (es : List External) (G : Type 0) where
   -- a type of objects, where its parts are there
-  object_type_tells : (env : Env) (at : ℕ) (ty : CType) (n : Notes) → (G → IsTrue (is_type n.structs (type_view ty))) → (let r = object_type at ty n in Tells (IsFound r.0 × (r.1 ≡ n) × (G → IfSome r.0 (IsObjectType n.structs))) (env, n) (env, r.1))
-  object_type_tells env at ty n f = choose (is_member n.structs ty) refl
+  object_type_tells : (env : Env) (at : ℕ) (ty : CType) (n : Notes) → (G → IsTrue (is_valid_type n.structs (type_view ty))) → (let r = object_type at ty n in Tells (IsFound r.0 × (r.1 ≡ n) × (G → IfSome r.0 (IsObjectType n.structs))) (env, n) (env, r.1))
+  object_type_tells env at ty n f = choose (is_member_type n.structs ty) refl
     where
       either : Bool → Option CType × Notes
-      either b = if b then (Some ty, n) else no_object at n
+      either b = if b then (Some ty, n) else no_object_type at n
 
-      choose : (b : Bool) → is_member n.structs ty ≡ b → Tells (IsFound (either b).0 × ((either b).1 ≡ n) × (G → IfSome (either b).0 (IsObjectType n.structs))) (env, n) (env, (either b).1)
+      choose : (b : Bool) → is_member_type n.structs ty ≡ b → Tells (IsFound (either b).0 × ((either b).1 ≡ n) × (G → IfSome (either b).0 (IsObjectType n.structs))) (env, n) (env, (either b).1)
       choose true e = tells_none (env, n) (refl, refl, λ g. record { there = f g; member = e })
       choose false e = tells_fault env at BadType n
 
@@ -145,24 +145,24 @@ module _ (ds : Definitions) (es : List External) (G : Type 0) where
   Typed n k o = IsFound o × (k ≡ n) × (G → IfSome o (IsObjectType n.structs))
 
   object_by : (at : ℕ) (name : List ℕ) (storage : Option Storage) (init : Option Init) → AreListed init es → (o : Option CType) (s : JudgementState) (u : UnitSoFar) (env : Env) (n k : Notes) → Tells (Typed n k o) s (env, k)
-      → (let v = object_of ds at name storage init o (u, (env, k)) in Tells (G → WalkSteps ds es (u, (env, n)) v) s v.1)
+      → (let v = object_by_type ds at name storage init o (u, (env, k)) in Tells (G → WalkSteps ds es (u, (env, n)) v) s v.1)
   object_by at name storage init listed None s u env n k h =
       let mid = declare ds at name None (u, (env, k)) in
       tells_both s mid.1 (init_judged init mid.1) (λ x y. x) (tells_refused s (env, k) mid.1.0 (tells_as s (env, k) (λ x. x.0) h)) (init_judged_tells init mid.1)
   object_by at name storage None listed (Some ty) s u env n k h =
       let new = object_declared ty false in
-      let r = declaration ds at name (Some new) u.names (env, main_checked storage at name k) in
+      let r = judge_declaration ds at name (Some new) u.names (env, main_checked storage at name k) in
       tells_both s (env, k) r.1 (λ x y g. at_notes (y.1 ∙ x.1) (DeclaresObject name ty (x.2 g) y.0)) h
       (checked_declaration_tells ds at name storage new u.names env k (object_sound ty (is_some (find name ds.objects)) u.names))
   object_by at name storage (Some x) listed (Some ty) s u env n k h =
       let new = object_declared ty true in
-      let r = declaration ds at name (Some new) u.names (env, main_checked storage at name k) in
+      let r = judge_declaration ds at name (Some new) u.names (env, main_checked storage at name k) in
       let q = object_cells ty x r.1 in
       tells_both s r.1 q.1 (λ a b g. initialised name ty x u env n r.1.1 r.0 r.1.0 (a.0.2 g) a.1.0 listed (a.1.1 ∙ a.0.1) b)
       (tells_then s (env, k) r.1 h (checked_declaration_tells ds at name storage new u.names env k (object_sound ty (is_some (find name ds.objects)) u.names)))
       (object_cells_tell ty x r.1)
 
-  value_after : (at : ℕ) (name : List ℕ) (storage : Option Storage) (init : Option Init) → AreListed init es → (ty : CType) (s : JudgementState) (w : UnitWalk) → (G → IsTrue (is_type w.1.1.structs (type_view ty))) → Tells (Unit {0}) s w.1
+  value_after : (at : ℕ) (name : List ℕ) (storage : Option Storage) (init : Option Init) → AreListed init es → (ty : CType) (s : JudgementState) (w : UnitWalk) → (G → IsTrue (is_valid_type w.1.1.structs (type_view ty))) → Tells (Unit {0}) s w.1
       → (let v = value_object ds at name storage init ty w in Tells (G → WalkSteps ds es w v) s v.1)
   value_after at name storage init listed ty s w f h =
       let r = object_type at ty w.1.1 in
@@ -175,14 +175,14 @@ module _ (ds : Definitions) (es : List External) (G : Type 0) where
   there_tells env at (Some (d.Function x xs)) n f = tells_fault env at BadType n
 
   -- an array of a type whose parts are there
-  array_there : (structs : List StructDef) (element : CType) (size : ℕ) → IsTrue (is_type structs (type_view element)) → IfSome (array_with structs element size) (IsTypeIn (of_structs structs))
+  array_there : (structs : List StructDef) (element : CType) (size : ℕ) → IsTrue (is_valid_type structs (type_view element)) → IfSome (array_with structs element size) (IsTypeIn (of_structs structs))
   array_there structs element size h = choose (is_object structs (type_view (ct.Array element size))) refl
     where
       choose : (b : Bool) → is_object structs (type_view (ct.Array element size)) ≡ b → IfSome (if b then Some (d.Value (ct.Array element size)) else None) (IsTypeIn (of_structs structs))
       choose true e = array_is structs element size h e
       choose false e = tt
 
-  array_after : (at : ℕ) (name : List ℕ) (storage : Option Storage) (init : Option Init) → AreListed init es → (element : CType) (s : JudgementState) (w : UnitWalk) → (G → IsTrue (is_type w.1.1.structs (type_view element))) → Tells (Unit {0}) s w.1
+  array_after : (at : ℕ) (name : List ℕ) (storage : Option Storage) (init : Option Init) → AreListed init es → (element : CType) (s : JudgementState) (w : UnitWalk) → (G → IsTrue (is_valid_type w.1.1.structs (type_view element))) → Tells (Unit {0}) s w.1
       → (let v = array_object ds at name storage init element w in Tells (G → WalkSteps ds es w v) s v.1)
   array_after at name storage None listed element s w f h =
       object_by at name storage None tt None s w.0 w.1.0 w.1.1 (with_fault at BadType w.1.1) (tells_both s w.1 (w.1.0, with_fault at BadType w.1.1) (λ x y. y) h (tells_fault w.1.0 at BadType w.1.1))

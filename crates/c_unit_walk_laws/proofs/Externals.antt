@@ -25,22 +25,22 @@ use Rattle.c_checks.specs.declared.meanings.NameMeaning.{NameMeaning}
 use Rattle.c_checks.specs.declared.meanings.NameMeaning.TheVariants as m
 use Rattle.c_checks.specs.declared.notes.Notes.{Notes}
 use Rattle.c_checks.specs.Notes.{with_fault}
-use Rattle.c_checks.specs.Scopes.{with_name, stands_here}
+use Rattle.c_checks.specs.Scopes.{with_meaning, stands_here}
 use Rattle.c_judgements.specs.Leaves.{no_type}
 use Rattle.c_judgements.specs.Types.{JudgementState}
 use Rattle.c_tag_bodies.specs.Enums.{constant_meaning}
 use Rattle.c_tag_bodies.specs.Bodies.{TagScope, declared_type}
 use Rattle.c_statements.specs.declared.functions.FunctionType.{FunctionType}
-use Rattle.c_statements.specs.Functions.{parameters_of, function}
+use Rattle.c_statements.specs.Functions.{parameters_of, judge_function}
 use Rattle.c_initialisers.specs.Unfit.{judge_init}
 use Rattle.c_unit_names.specs.declared.names.NameDeclaration.{NameDeclaration}
 use Rattle.c_unit_names.specs.declared.names.UnitNames.{UnitNames}
-use Rattle.c_unit_names.specs.UnitNames.{object_name, function_name, first_meaning, declaration}
+use Rattle.c_unit_names.specs.UnitNames.{object_name, function_name, first_meaning, judge_declaration}
 use Rattle.c_declarations.specs.declared.walk.UnitSoFar.{UnitSoFar}
 use Rattle.c_declarations.specs.Walk.{UnitWalk, in_notes, declare, with_names, main_checked, keep_function, body_kept}
 use Rattle.c_declarations.specs.Functions.{function_declared, function_with_type, name_judged, name_row, type_where, defined_type, main_seen, init_refused}
 use Rattle.c_declarations.specs.Objects.{object_declared}
-use Rattle.c_found_unit_laws.specs.Externals.{typedef_of, typedef_declared, prototype, object_with, type_with, with_main_in, with_definition, definition_with, definition, function_with, end_judged, function_typed, type_of, external, externals}
+use Rattle.c_found_unit_laws.specs.Externals.{typedef_of, typedef_declared, prototype, object_with, type_with, with_main_in, with_definition, definition_with, definition, external_function, end_judged, function_typed, declarator_type, walk_external, externals}
 use Rattle.c_expression_laws.specs.Types.{IsTypeIn, HasTypedefs}
 use Rattle.c_unit_struct_laws.specs.Notes.{of_structs, IsWellDeclared}
 use Rattle.c_unit_struct_laws.proofs.Bodies.{declared_found}
@@ -123,22 +123,22 @@ defined_tells env at (t.Takes' _ result _ parameters) ty n =
 body_none : {X : Type 0} (ds : Definitions) (e : Declaration) (storage : Option Storage) (list : List Stmt) (s : JudgementState) (w : UnitWalk) → Tells (IsTrue false) s w.1 → Tells X s (definition_with ds e storage list (None, w)).1
 body_none ds e storage list s w h =
     let mid = function_with_type ds e.at e.name storage true (None, w) in
-    let r = function e None list mid.1 in
+    let r = judge_function e None list mid.1 in
     tells_both s mid.1 r.1 (λ x y. x) (tells_refused s w.1 mid.1.0 h) (function_tells e None list mid.1)
 
 module _ (ds : Definitions) (es : List External) (G : Type 0) (e : Declaration) (storage : Option Storage) (list : List Stmt) (counted : IsTrue (is_some (find e.name ds.functions))) where
   -- the body of a function of this type, at the same notes
   defined : (of : FunctionType) (u : UnitSoFar) (env : Env) (n k : Notes) (names : UnitNames) (later : Env) → IsGivenType n.structs (declared_as of) → DeclaresName ds e.name (function_declared true (declared_as of)) u.names env names later → k ≡ n
-      → IsFound (function e (Some of) list (later, k)).0 → (let q = function e (Some of) list (later, k) in WalkSteps ds es (u, (env, n)) (body_kept e.name (with_names names (main_seen e.name (declared_as of) u)) q))
+      → IsFound (judge_function e (Some of) list (later, k)).0 → (let q = judge_function e (Some of) list (later, k) in WalkSteps ds es (u, (env, n)) (body_kept e.name (with_names names (main_seen e.name (declared_as of) u)) q))
   defined of u env n k names later type declared same =
-      subst (λ k. IsFound (function e (Some of) list (later, k)).0 → (let q = function e (Some of) list (later, k) in WalkSteps ds es (u, (env, n)) (body_kept e.name before q))) (sym same)
+      subst (λ k. IsFound (judge_function e (Some of) list (later, k)).0 → (let q = judge_function e (Some of) list (later, k) in WalkSteps ds es (u, (env, n)) (body_kept e.name before q))) (sym same)
       (λ found. kept made.0 refl made.1.0 (function_env e (Some of) list (later, n)) found)
     where
       before : UnitSoFar
       before = with_names names (main_seen e.name (declared_as of) u)
 
       made : Option TypedFn × JudgementState
-      made = function e (Some of) list (later, n)
+      made = judge_function e (Some of) list (later, n)
 
       kept : (o : Option TypedFn) → made.0 ≡ o → (left : Env) → left ≡ later → IsFound o → WalkSteps ds es (u, (env, n)) (keep_function left e.name o before, (left, made.1.1))
       kept None g left h found = no_true found
@@ -148,8 +148,8 @@ module _ (ds : Definitions) (es : List External) (G : Type 0) (e : Declaration) 
       → (let v = definition_with ds e storage list (Some (declared_as of), (main_seen e.name (declared_as of) u, (env, k))) in Tells (G → WalkSteps ds es (u, (env, n)) v) s v.1)
   body_there of s u env n k given fit h =
       let new = function_declared true (declared_as of) in
-      let r = declaration ds e.at e.name (Some new) u.names (env, main_checked storage e.at e.name k) in
-      let q = function e (Some of) list r.1 in
+      let r = judge_declaration ds e.at e.name (Some new) u.names (env, main_checked storage e.at e.name k) in
+      let q = judge_function e (Some of) list r.1 in
       tells_both s r.1 q.1 (λ a b g. defined of u env n r.1.1 r.0 r.1.0 (given g) a.1.0 (a.1.1 ∙ a.0) (b fit))
       (tells_then s (env, k) r.1 h (checked_declaration_tells ds e.at e.name storage new u.names env k (function_sound ds es G (is_some (find e.name ds.functions)) of.result of.parameters u.names)))
       (function_tells e (Some of) list r.1)
@@ -186,14 +186,14 @@ module _ (ds : Definitions) (es : List External) (G : Type 0) where
   end_tells : {X : Type 0} (e : Declaration) (end : FunctionEnd) (s u : JudgementState) → Tells X s u → Tells X s (end_judged e end u)
   end_tells e f.Nothing s u h = h
   end_tells e (f.Init init) s u h = tells_both s u (judge_init init u).1 (λ x y. x) h (judge_init_tells init u)
-  end_tells e (f.Body list) s u h = tells_both s u (function e None list u).1 (λ x y. x) h (function_tells e None list u)
+  end_tells e (f.Body list) s u h = tells_both s u (judge_function e None list u).1 (λ x y. x) h (function_tells e None list u)
 
   -- a body on what is no function
   no_function : {X : Type 0} (e : Declaration) (storage : Option Storage) (list : List Stmt) (s : JudgementState) (w : UnitWalk) → Tells (Unit {0}) s w.1 → Tells X s (definition_with ds e storage list (None, (w.0, (w.1.0, with_fault e.at BadType w.1.1)))).1
   no_function e storage list s w h = body_none ds e storage list s (w.0, (w.1.0, with_fault e.at BadType w.1.1)) (tells_both s w.1 (w.1.0, with_fault e.at BadType w.1.1) (λ x y. y) h (tells_fault w.1.0 e.at BadType w.1.1))
 
   function_with_after : (e : Declaration) (storage : Option Storage) (end : FunctionEnd) → IsCounted ds e end → (ty : DeclaredType) (s : JudgementState) (w : UnitWalk) → (G → IsThere w.1.1.structs ty) → ((of : FunctionType) → ty ≡ declared_as of → IsTrue (declares_type e.ty of)) → Tells (Unit {0}) s w.1
-      → (let v = function_with ds e storage end ty w in Tells (G → WalkSteps ds es w v) s v.1)
+      → (let v = external_function ds e storage end ty w in Tells (G → WalkSteps ds es w v) s v.1)
   function_with_after e storage f.Nothing counted ty s w there fit h = prototype_after ds es G e.at e.name storage ty s w there h
   function_with_after e storage (f.Init init) counted ty s w there fit h =
       let v = prototype ds e.at e.name storage ty w in
@@ -229,7 +229,7 @@ free_none name env None e h = refl
 free_none name env (Some r) e h = no_true (free_place r.0 env.outside e h)
 
 constant_step : (ds : Definitions) {es : List External} (u : UnitSoFar) (n : Notes) (mid : Env) (name : List ℕ) (value : Option ℕ) → find name mid.names ≡ None → IfSome value (λ word. IsTrue (is_word Int word)) → IsTrue (is_sound (constant_meaning value))
-    → WalkSteps ds es (u, (mid, n)) (u, (with_name name (constant_meaning value) mid, n))
+    → WalkSteps ds es (u, (mid, n)) (u, (with_meaning name (constant_meaning value) mid, n))
 constant_step ds u n mid name None e word sound = no_true sound
 constant_step ds u n mid name (Some k) e word sound = AddsConstant name k e word
 
@@ -304,15 +304,15 @@ module _ (ds : Definitions) (es : List External) where
     found = λ t k good. let rest = g.found t k good in Follows (type_steps ds u at ty s good.outside (steps_before ds rest (g.stays t k).0)) rest;
   }
 
-  pub external_tells : (e : External) → IsCountedIn ds e → IsListed e es → (s : UnitSoFar × TagScope) → (let v = external ds e s in Tells (IsGood s.1.1 → WalkSteps ds es (s.0, s.1.1) (v.0, v.1.1)) s.1.1 v.1.1)
+  pub external_tells : (e : External) → IsCountedIn ds e → IsListed e es → (s : UnitSoFar × TagScope) → (let v = walk_external ds e s in Tells (IsGood s.1.1 → WalkSteps ds es (s.0, s.1.1) (v.0, v.1.1)) s.1.1 v.1.1)
   external_tells (x.Typedef e) counted listed s =
-      let r = type_of e s.1 in
+      let r = declarator_type e s.1 in
       with_type e.at e.ty s.0 s.1 (typedef_declared ds e.at e.name r.0 (s.0, r.1.1)) (typedef_after ds es (IsGood s.1.1) e.at e.name r.0 s.1.1 (s.0, r.1.1) (type_there e.at e.ty s.1) (declared_tells e.at e.ty s.1))
   external_tells (x.Object e storage init) counted listed s =
-      let r = type_of e s.1 in
+      let r = declarator_type e s.1 in
       with_type e.at e.ty s.0 s.1 (object_with ds e.at e.name storage init r.0 (s.0, r.1.1)) (object_after ds es (IsGood s.1.1) e.at e.name storage init listed r.0 s.1.1 (s.0, r.1.1) (type_there e.at e.ty s.1) (declared_tells e.at e.ty s.1))
   external_tells (x.Function e storage end) counted listed s =
-      let r = type_of e s.1 in
+      let r = declarator_type e s.1 in
       with_type e.at e.ty s.0 s.1 (function_typed ds e storage end r.0 (s.0, r.1.1))
       (function_after ds es (IsGood s.1.1) e storage end counted r.0 s.1.1 (s.0, r.1.1) (type_there e.at e.ty s.1) (λ of same. declared_fits e.at e.ty s.1 of same) (declared_tells e.at e.ty s.1))
   external_tells (x.Tags storage ty) counted listed s =
@@ -380,11 +380,11 @@ steps_shapes ds (InitialisesObject name ty x cells g k same listed) h = declared
 pub externals_tell : (ds : Definitions) (all es : List External) → AreCounted ds es → AllListed es all → (s : UnitSoFar × TagScope) → (let v = externals ds es s in Tells (IsGood s.1.1 → WalkSteps ds all (s.0, s.1.1) (v.0, v.1.1)) s.1.1 v.1.1)
 externals_tell ds all [] counted listed s = tells_none s.1.1 (λ good. Stays)
 externals_tell ds all (e ∷ es) counted listed s =
-    let u = external ds e s in
+    let u = walk_external ds e s in
     let v = externals ds es u in
     tells_both s.1.1 u.1.1 v.1.1 both (external_tells ds all e counted.0 listed.0 s) (externals_tell ds all es counted.1 listed.1 u)
   where
-    both : (let u = external ds e s in let v = externals ds es u in (IsGood s.1.1 → WalkSteps ds all (s.0, s.1.1) (u.0, u.1.1)) → (IsGood u.1.1 → WalkSteps ds all (u.0, u.1.1) (v.0, v.1.1)) → IsGood s.1.1 → WalkSteps ds all (s.0, s.1.1) (v.0, v.1.1))
+    both : (let u = walk_external ds e s in let v = externals ds es u in (IsGood s.1.1 → WalkSteps ds all (s.0, s.1.1) (u.0, u.1.1)) → (IsGood u.1.1 → WalkSteps ds all (u.0, u.1.1) (v.0, v.1.1)) → IsGood s.1.1 → WalkSteps ds all (s.0, s.1.1) (v.0, v.1.1))
     both h g good =
         let one = h good in
         Follows one (g (record {

@@ -14,7 +14,7 @@ use Rattle.c_checks.specs.Scopes.{meaning_of}
 use Rattle.c_judgements.specs.Types.{JudgementState}
 use Rattle.c_unit_names.specs.declared.names.NameDeclaration.{NameDeclaration}
 use Rattle.c_unit_names.specs.declared.names.UnitNames.{UnitNames}
-use Rattle.c_unit_names.specs.UnitNames.{may_follow, first_meaning, meaning_before, redeclare, first_by, follows, known_by, declaration}
+use Rattle.c_unit_names.specs.UnitNames.{may_follow, first_meaning, meaning_before, redeclare, first_by, follows, known_by, judge_declaration}
 use Rattle.c_declarations.specs.Walk.{is_main, main_checked}
 use Rattle.c_found_laws.specs.Laws.{is_sound, Tells}
 use Rattle.c_found_laws.proofs.Forms.{no_true, holds, meaning_sound, tells_none, tells_fault, tells_both, tells_named}
@@ -49,7 +49,7 @@ module _ (ds : Definitions) (at : ℕ) (name : List ℕ) (new : NameDeclaration)
   known_tells sound None e = first_tells sound e (meaning_of s.0 name) refl
   known_tells sound (Some old) e = again_tells old e (may_follow old.1 new) refl
 
-  pub declaration_tells : IsTrue (is_sound (first_meaning ds name new u).0) → IsDone (declaration ds at name (Some new) u s)
+  pub declaration_tells : IsTrue (is_sound (first_meaning ds name new u).0) → IsDone (judge_declaration ds at name (Some new) u s)
   declaration_tells sound = known_tells sound (find name u.declared) refl
 
 checked_tells : (env : Env) (storage : Option Storage) (at : ℕ) (name : List ℕ) (n : Notes) → Tells (main_checked storage at name n ≡ n) (env, n) (env, main_checked storage at name n)
@@ -66,8 +66,8 @@ checked_tells env (Some s.Static) at name n = choose (is_main name)
 
 -- a name of an object or of a function
 pub checked_declaration_tells : (ds : Definitions) (at : ℕ) (name : List ℕ) (storage : Option Storage) (new : NameDeclaration) (u : UnitNames) (env : Env) (n : Notes) → IsTrue (is_sound (first_meaning ds name new u).0)
-    → (let r = declaration ds at name (Some new) u (env, main_checked storage at name n) in Tells (DeclaresName ds name new u env r.0 r.1.0 × (r.1.1 ≡ n)) (env, n) r.1)
+    → (let r = judge_declaration ds at name (Some new) u (env, main_checked storage at name n) in Tells (DeclaresName ds name new u env r.0 r.1.0 × (r.1.1 ≡ n)) (env, n) r.1)
 checked_declaration_tells ds at name storage new u env n sound =
     let checked = main_checked storage at name n in
-    let r = declaration ds at name (Some new) u (env, checked) in
+    let r = judge_declaration ds at name (Some new) u (env, checked) in
     tells_both (env, n) (env, checked) r.1 (λ x y. (y.0, y.1 ∙ x)) (checked_tells env storage at name n) (declaration_tells ds at name new u (env, checked) sound)

@@ -13,7 +13,7 @@ use Rattle.c_typed_tree.specs.View.{type_view}
 use Rattle.c_typed_tree.specs.model.View.{opens}
 use Rattle.c_declared_types.specs.declared.declared.DeclaredType.{DeclaredType}
 use Rattle.c_declared_types.specs.declared.declared.DeclaredType.TheVariants as d
-use Rattle.c_declared_types.specs.Declarators.{pointer_to, array_of, parameter_value, parameter_of, function_with, function_of}
+use Rattle.c_declared_types.specs.Declarators.{pointer_to, array_of, parameter_value, adjusted_parameter, function_with, function_of}
 use Rattle.c_declared_types.specs.Depth.{is_deep_at_most}
 use Rattle.c_type_faults.specs.declared.faults.Kind.TheVariants.{BadType, Redeclared}
 use Rattle.c_scopes.specs.Names.{find}
@@ -24,10 +24,10 @@ use Rattle.c_checks.specs.declared.meanings.Tag.{Tag}
 use Rattle.c_checks.specs.declared.meanings.Tag.TheVariants as g
 use Rattle.c_checks.specs.declared.meanings.UntaggedStruct.{UntaggedStruct}
 use Rattle.c_checks.specs.declared.notes.Notes.{Notes}
-use Rattle.c_checks.specs.Checks.{each, both, append_part}
-use Rattle.c_checks.specs.Scopes.{enter, leave, with_name, meaning_of, stands_here}
-use Rattle.c_judgements.specs.Leaves.{no_type, named_type, tag_named, enum_tagged, enum_type, struct_numbered, struct_tagged, struct_at, struct_type, leaf}
-use Rattle.c_judgements.specs.Types.{JudgementState, within, there, pointer, array, function, no_parameter, within_depth, parameter_type, parameter_meaning, declared_parameter, parameter_declared}
+use Rattle.c_checks.specs.Checks.{each, both_parts, append_part}
+use Rattle.c_checks.specs.Scopes.{enter, leave, with_meaning, meaning_of, stands_here}
+use Rattle.c_judgements.specs.Leaves.{no_type, typedef_type, tag_named, enum_tagged, enum_type, struct_numbered, struct_tagged, struct_at, struct_type, leaf}
+use Rattle.c_judgements.specs.Types.{JudgementState, in_env, required_type, pointer, array, function, no_parameter, within_depth, parameter_type, parameter_meaning, declared_parameter, parameter_declared}
 use Rattle.c_expressions.specs.Expressions.{derive, length_held, parameter_row}
 use Rattle.c_tag_bodies.specs.Enums.{constant_meaning}
 use Rattle.c_tag_bodies.specs.Bodies.{TagScope, bodies, declared_type}
@@ -41,7 +41,7 @@ IsShaped o = IfSome o (λ of. IsTrue (is_shaped of))
 
 -- ---- specifiers
 
-named_shape : (at : ℕ) (o : Option NameMeaning) (n : Notes) → ((of : DeclaredType) → o ≡ Some (m.Typedef of) → IsTrue (is_shaped of)) → IsShaped (named_type at o n).0
+named_shape : (at : ℕ) (o : Option NameMeaning) (n : Notes) → ((of : DeclaredType) → o ≡ Some (m.Typedef of) → IsTrue (is_shaped of)) → IsShaped (typedef_type at o n).0
 named_shape at None n h = tt
 named_shape at (Some m.Faulty) n h = tt
 named_shape at (Some (m.Undefined number)) n h = tt
@@ -104,7 +104,7 @@ pointed_parameter : (of : ty.CType) → IsTrue (is_parameter_type (ty.Pointer of
 unfolding opens
 pointed_parameter of = refl
 
-of_parameter : (of : DeclaredType) → IsParameter (parameter_of of)
+of_parameter : (of : DeclaredType) → IsParameter (adjusted_parameter of)
 of_parameter (d.Value x) = value_parameter x
 of_parameter (d.Unsized x) = pointed_parameter x
 of_parameter (d.Function x xs) = tt
@@ -119,13 +119,13 @@ within_parameter at (Some x) n h = choose (is_deep_at_most n.structs most_depth 
 
 typed_parameter : (at : ℕ) (o : Option DeclaredType) (n : Notes) → IsParameter (each o (parameter_type at) n).0
 typed_parameter at None n = tt
-typed_parameter at (Some x) n = within_parameter at (parameter_of x) n (of_parameter x)
+typed_parameter at (Some x) n = within_parameter at (adjusted_parameter x) n (of_parameter x)
 
 named_parameter_type : (at : ℕ) (name : Option (List ℕ)) (o : Option CType) (s : JudgementState) → IsParameter o → IsParameter (declared_parameter at name o s).0
 named_parameter_type at None o s h = h
 named_parameter_type at (Some name) o s h = choose (stands_here s.0 (find name s.0.names))
   where
-    choose : (b : Bool) → IsParameter (if b then within s.0 (no_parameter at Redeclared s.1) else (o, (with_name name (parameter_meaning o) s.0, s.1))).0
+    choose : (b : Bool) → IsParameter (if b then in_env s.0 (no_parameter at Redeclared s.1) else (o, (with_meaning name (parameter_meaning o) s.0, s.1))).0
     choose true = tt
     choose false = h
 
@@ -153,7 +153,7 @@ row_parameters (k.more_of-Parameter at name node rest) found s h =
 
 -- ---- declarators
 
-there_shape : (at : ℕ) (o : Option DeclaredType) (n : Notes) → IsShaped o → IsShaped (there at o n).0
+there_shape : (at : ℕ) (o : Option DeclaredType) (n : Notes) → IsShaped o → IsShaped (required_type at o n).0
 there_shape at None n h = tt
 there_shape at (Some x) n h = h
 
@@ -180,7 +180,7 @@ element_shape ds (d.Value x) (Some size) = choose (is_object ds (type_view (ty.A
 element_shape ds (d.Unsized x) size = tt
 element_shape ds (d.Function x xs) size = tt
 
-array_shape : (at : ℕ) (count : Option (Option ℕ)) (o : Option DeclaredType) (n : Notes) → IsShaped (both count o (array at) n).0
+array_shape : (at : ℕ) (count : Option (Option ℕ)) (o : Option DeclaredType) (n : Notes) → IsShaped (both_parts count o (array at) n).0
 array_shape at None o n = tt
 array_shape at (Some count) None n = tt
 array_shape at (Some count) (Some x) n = there_shape at (array_of n.structs x count) n (element_shape n.structs x count)
@@ -198,7 +198,7 @@ result_shape (d.Value x) xs h = with_shape x xs h
 result_shape (d.Unsized x) xs h = tt
 result_shape (d.Function x ys) xs h = tt
 
-function_shape : (at : ℕ) (found : Option (List CType)) (o : Option DeclaredType) (n : Notes) → AreParameters found → IsShaped (both found o (function at) n).0
+function_shape : (at : ℕ) (found : Option (List CType)) (o : Option DeclaredType) (n : Notes) → AreParameters found → IsShaped (both_parts found o (function at) n).0
 function_shape at None o n h = tt
 function_shape at (Some xs) None n h = tt
 function_shape at (Some xs) (Some x) n h = there_shape at (function_of x xs) n (result_shape x xs h)
@@ -221,7 +221,7 @@ derive_shape at (t.Takes' _ (k.more_of-TypeNode x k.end_of-TypeNode) _ list) of 
 
 -- ---- constants are no typedef names
 
-pub shapes_after : (name : List ℕ) (x : NameMeaning) (env : Env) → ((of : DeclaredType) → x ≡ m.Typedef of → IsTrue (is_shaped of)) → HasShapes env → HasShapes (with_name name x env)
+pub shapes_after : (name : List ℕ) (x : NameMeaning) (env : Env) → ((of : DeclaredType) → x ≡ m.Typedef of → IsTrue (is_shaped of)) → HasShapes env → HasShapes (with_meaning name x env)
 shapes_after name x env f h q of e = choose (bytes_eq q name) e
   where
     own : {a b : NameMeaning} → Some a ≡ Some b → a ≡ b
@@ -231,7 +231,7 @@ shapes_after name x env f h q of e = choose (bytes_eq q name) e
     choose true e = f of (own e)
     choose false e = h q of e
 
-constant_shapes : (name : List ℕ) (value : Option ℕ) (env : Env) → HasShapes env → HasShapes (with_name name (constant_meaning value) env)
+constant_shapes : (name : List ℕ) (value : Option ℕ) (env : Env) → HasShapes env → HasShapes (with_meaning name (constant_meaning value) env)
 constant_shapes name value env h = shapes_after name (constant_meaning value) env (no_typedef value) h
   where
     no_typedef : (value : Option ℕ) (of : DeclaredType) → constant_meaning value ≡ m.Typedef of → IsTrue (is_shaped of)

@@ -15,14 +15,14 @@ use Rattle.c_constant_rules.specs.Values.{given_value, next_value}
 use Rattle.c_checks.specs.declared.notes.Notes.{Notes}
 use Rattle.c_checks.specs.Checks.{each}
 use Rattle.c_checks.specs.Notes.{with_fault}
-use Rattle.c_checks.specs.Scopes.{with_name, stands_here}
+use Rattle.c_checks.specs.Scopes.{with_meaning, stands_here}
 use Rattle.c_judgements.specs.Leaves.{leaf, tagged_enum}
 use Rattle.c_judgements.specs.Types.{JudgementState}
 use Rattle.c_expressions.specs.Expressions.{judge}
 use Rattle.c_tag_bodies.specs.declared.members.Members.{Members}
-use Rattle.c_tag_bodies.specs.Enums.{explicit_value, next, value_held, constant_meaning, constant_declared, constant_row}
-use Rattle.c_tag_bodies.specs.Members.{no_members, is_member, no_member, member_type, with_member, with_faulty_member, member_named}
-use Rattle.c_tag_bodies.specs.Structs.{DefinedTags, enum_begun, number_for_tag, no_body, struct_begun, struct_where, tag_name, with_struct, with_untagged, too_large, complete, struct_ended}
+use Rattle.c_tag_bodies.specs.Enums.{explicit_value, one_above, value_held, constant_meaning, constant_declared, constant_row}
+use Rattle.c_tag_bodies.specs.Members.{no_members, is_member_type, no_member, member_type, with_member, with_faulty_member, member_named}
+use Rattle.c_tag_bodies.specs.Structs.{DefinedTags, enum_begun, number_for_tag, no_body, struct_begun, struct_where, tag_name, with_struct, with_untagged, too_large, finish_struct, struct_ended}
 use Rattle.c_tag_bodies.specs.Bodies.{TagScope, enum_entered, struct_entered, type_behind, member_entered, bodies, constants_held, members_held, member_row, declared_type}
 use Rattle.c_note_laws.specs.Steps.{is_sized, NoteSteps}
 use Rattle.c_note_laws.specs.Laws.{StandsFirst}
@@ -59,7 +59,7 @@ steps_texts steps = let a = steps_add steps in record { texts = a.texts; first =
 
 value_texts : (at : ℕ) (value : k.Held-Constant-value) (before : Option (Option ℕ)) (s : JudgementState) → AddsTexts s.1 (value_held at value before s).1.1
 value_texts at k.Constant-value-None' None s = steps_texts NoteSteps.Stays
-value_texts at k.Constant-value-None' (Some before) s = steps_texts (each_adds before (next at) s.1 (λ word. ruled (next_value at word) s.1))
+value_texts at k.Constant-value-None' (Some before) s = steps_texts (each_adds before (one_above at) s.1 (λ word. ruled (next_value at word) s.1))
 value_texts at (k.Constant-value-Some' x) before s =
     let a = judge x s in
     steps_texts (NoteSteps.Follows (judge_adds x s) (each_adds a.0 explicit_value a.1.1 (λ v. ruled (given_value v) a.1.1)))
@@ -68,7 +68,7 @@ constant_texts : (at : ℕ) (name : List ℕ) (value : Option ℕ) (s : Judgemen
 constant_texts at name value s = choose (stands_here s.0 (find name s.0.names))
   where
     either : Bool → JudgementState
-    either b = if b then (s.0, with_fault at Redeclared s.1) else (with_name name (constant_meaning value) s.0, s.1)
+    either b = if b then (s.0, with_fault at Redeclared s.1) else (with_meaning name (constant_meaning value) s.0, s.1)
 
     choose : (b : Bool) → AddsTexts s.1 (either b).1
     choose true = steps_texts (NoteSteps.AddsFault at Redeclared)
@@ -104,7 +104,7 @@ written_texts : (number : ℕ) (structure : StructDef) (names : List (Entry (Opt
 written_texts number structure names n true = texts_stay n n refl refl
 written_texts number structure names n false = texts_stay n (with_struct number structure names n) refl refl
 
-complete_texts : (at number : ℕ) (m : Members) (o : Option StructDef) (n : Notes) → AddsTexts n (complete at number m o n)
+complete_texts : (at number : ℕ) (m : Members) (o : Option StructDef) (n : Notes) → AddsTexts n (finish_struct at number m o n)
 complete_texts at number m (Some structure) n = written_texts number structure m.names n (is_complete (slice_get n.structs number))
 complete_texts at number m None n = choose m.faulty
   where
@@ -120,7 +120,7 @@ ended_texts : (at : ℕ) (tag : Option (List ℕ)) (number : Option ℕ) (m : Me
 ended_texts at tag None m n = steps_texts NoteSteps.Stays
 ended_texts at tag (Some number) m n =
     let made = struct_where n.structs (tag_name tag) m.fields in
-    untagged_texts at tag number n (complete at number m made n) (complete_texts at number m made n)
+    untagged_texts at tag number n (finish_struct at number m made n) (complete_texts at number m made n)
 
 -- ---- the type behind the bodies of a specifier
 
@@ -130,7 +130,7 @@ behind_texts at ty s =
     steps_texts (NoteSteps.Follows (leaf_adds s.1.0 at ty s.1.1) (derive_adds at ty l.0 (s.1.0, l.1)))
 
 member_type_steps : (at : ℕ) (x : DeclaredType) (n : Notes) → NoteSteps n (member_type at x n).1
-member_type_steps at (d.Value x) n = choose (is_member n.structs x)
+member_type_steps at (d.Value x) n = choose (is_member_type n.structs x)
   where
     choose : (b : Bool) → NoteSteps n (if b then (Some x, n) else no_member at n).1
     choose true = NoteSteps.Stays

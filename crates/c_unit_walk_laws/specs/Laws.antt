@@ -6,7 +6,7 @@ use Rattle.c_type_faults.specs.Faults.{head}
 use Rattle.c_definitions.specs.Definitions.{definitions}
 use Rattle.c_tag_bodies.specs.Bodies.{TagScope, declared_type}
 use Rattle.c_found_unit_laws.specs.Externals.{externals}
-use Rattle.c_found_unit_laws.specs.Units.{start, faults_of}
+use Rattle.c_found_unit_laws.specs.Units.{unit_start, faults_of}
 use Rattle.c_unit_walk_laws.specs.Shapes.{is_shaped, HasShapes}
 use Rattle.c_unit_walk_laws.specs.Walks.{WalkSteps}
 
@@ -15,8 +15,8 @@ abbrev pub UnitsAreWalked : Type 0
 UnitsAreWalked =
     (unit : TranslationUnit) → head (faults_of unit) ≡ None →
     (let ds = definitions unit.externals in
-    let behind = externals ds unit.externals (start ds) in
-    WalkSteps ds unit.externals ((start ds).0, (start ds).1.1) (behind.0, behind.1.1))
+    let behind = externals ds unit.externals (unit_start ds) in
+    WalkSteps ds unit.externals ((unit_start ds).0, (unit_start ds).1.1) (behind.0, behind.1.1))
 
 abbrev pub DeclaredTypesAreShaped : Type 0
 DeclaredTypesAreShaped =

@@ -14,7 +14,7 @@ use Rattle.c_scopes.specs.Names.{find}
 use Rattle.c_typed_tree.specs.declared.types.CType.{CType}
 use Rattle.c_typed_tree.specs.declared.types.StructDef.{StructDef}
 use Rattle.c_typed_tree.specs.declared.units.TypedFn.{TypedFn}
-use Rattle.c_typed_tree.specs.Typing.{is_type}
+use Rattle.c_typed_tree.specs.Typing.{is_valid_type}
 use Rattle.c_typed_tree.specs.View.{type_view}
 use Rattle.c_declared_types.specs.declared.declared.DeclaredType.{DeclaredType}
 use Rattle.c_declared_types.specs.Depth.{is_declarable}
@@ -22,10 +22,10 @@ use Rattle.c_definitions.specs.declared.names.Definitions.{Definitions}
 use Rattle.c_checks.specs.declared.env.Env.{Env}
 use Rattle.c_checks.specs.declared.notes.Notes.{Notes}
 use Rattle.c_checks.specs.declared.meanings.NameMeaning.TheVariants as m
-use Rattle.c_checks.specs.Scopes.{with_name}
-use Rattle.c_tag_bodies.specs.Members.{is_member}
+use Rattle.c_checks.specs.Scopes.{with_meaning}
+use Rattle.c_tag_bodies.specs.Members.{is_member_type}
 use Rattle.c_statements.specs.declared.functions.FunctionType.{FunctionType}
-use Rattle.c_statements.specs.Functions.{function}
+use Rattle.c_statements.specs.Functions.{judge_function}
 use Rattle.c_initialisers.specs.Initialisers.{object_cells}
 use Rattle.c_unit_names.specs.declared.names.UnitNames.{UnitNames}
 use Rattle.c_declarations.specs.declared.walk.UnitSoFar.{UnitSoFar}
@@ -49,8 +49,8 @@ pub record NotesGoOn (env : Env) (n later : Notes) : Type 0 where
 
 -- the type of an object that is declared
 pub record IsObjectType (structs : List StructDef) (ty : CType) : Type 0 where
-  pub there : IsTrue (is_type structs (type_view ty))
-  pub member : IsTrue (is_member structs ty)
+  pub there : IsTrue (is_valid_type structs (type_view ty))
+  pub member : IsTrue (is_member_type structs ty)
 
 -- a type that is declared
 pub record IsGivenType (structs : List StructDef) (ty : DeclaredType) : Type 0 where
@@ -70,7 +70,7 @@ pub data WalkSteps (ds : Definitions) (all : List External) : UnitWalk → UnitW
   Follows : {w x v : UnitWalk} → WalkSteps ds all w x → WalkSteps ds all x v → WalkSteps ds all w v
   -- an enumeration constant, whose value is one of the type `int`
   AddsConstant : {u : UnitSoFar} {env : Env} {n : Notes} (name : List ℕ) (word : ℕ) → find name env.names ≡ None →
-      IsTrue (is_word Int word) → WalkSteps ds all (u, (env, n)) (u, (with_name name (m.Constant word) env, n))
+      IsTrue (is_word Int word) → WalkSteps ds all (u, (env, n)) (u, (with_meaning name (m.Constant word) env, n))
   -- what the type of a declaration notes
   AddsNotes : {u : UnitSoFar} {env : Env} {n later : Notes} → NotesGoOn env n later →
       WalkSteps ds all (u, (env, n)) (u, (env, later))
@@ -86,10 +86,10 @@ pub data WalkSteps (ds : Definitions) (all : List External) : UnitWalk → UnitW
       (of : FunctionType) (list : List Stmt) (f : TypedFn) → IsGivenType n.structs (declared_as of) →
       IsTrue (is_some (find e.name ds.functions)) →
       DeclaresName ds e.name (function_declared true (declared_as of)) u.names env names later →
-      (function e (Some of) list (later, n)).0 ≡ Some f →
+      (judge_function e (Some of) list (later, n)).0 ≡ Some f →
       WalkSteps ds all (u, (env, n)) (
         keep_function later e.name (Some f) (with_names names (main_seen e.name (declared_as of) u)),
-        (later, (function e (Some of) list (later, n)).1.1),
+        (later, (judge_function e (Some of) list (later, n)).1.1),
       )
   DeclaresObject : {u : UnitSoFar} {env : Env} {n : Notes} {names : UnitNames} {later : Env} (name : List ℕ)
       (ty : CType) → IsObjectType n.structs ty →

@@ -10,13 +10,13 @@ use Rattle.c_typed_tree.specs.declared.expressions.Builtin.TheVariants as b
 use Rattle.c_typed_tree.specs.declared.expressions.Callee.TheVariants as c
 use Rattle.c_type_faults.specs.declared.faults.Fault.{Fault}
 use Rattle.c_type_faults.specs.declared.faults.Kind.TheVariants.{MissingMain}
-use Rattle.c_type_faults.specs.Faults.{sorted, head}
+use Rattle.c_type_faults.specs.Faults.{sort_faults, head}
 use Rattle.c_type_rules.specs.Values.{int}
 use Rattle.c_checks.specs.declared.env.Env.{Env}
 use Rattle.c_checks.specs.declared.notes.Notes.{Notes}
 use Rattle.c_checks.specs.declared.meanings.NameMeaning.TheVariants as m
 use Rattle.c_checks.specs.Notes.{with_fault}
-use Rattle.c_checks.specs.Scopes.{with_name}
+use Rattle.c_checks.specs.Scopes.{with_meaning}
 use Rattle.c_declarations.specs.Bodies.{TagScope}
 use Rattle.c_unit_names.specs.declared.names.UnitNames.{UnitNames}
 use Rattle.c_unit_names.specs.UnitNames.{with_declared}
@@ -46,7 +46,7 @@ no_names = record { declared = []; functions = 0; objects = 0; undefined = 0 }
 abbrev pub builtin_declared : List ℕ → Builtin → t.CType → List t.CType → UnitNames × Env → UnitNames × Env
 builtin_declared name builtin ty parameters r = (
   with_declared name (record { is_typedef = false; ty = d.Function ty parameters; has_value = true }) r.0,
-  with_name name (m.Function (c.Builtin builtin) ty parameters) r.1,
+  with_meaning name (m.Function (c.Builtin builtin) ty parameters) r.1,
 )
 
 abbrev pub with_builtins : UnitNames × Env → UnitNames × Env
@@ -58,8 +58,8 @@ with_builtins r =
 abbrev pub builtins : UnitNames × Env
 builtins = with_builtins (no_names, record { names = []; outside = 0 })
 
-abbrev pub start : Definitions → UnitSoFar × TagScope
-start ds = (
+abbrev pub unit_start : Definitions → UnitSoFar × TagScope
+unit_start ds = (
   record { names = builtins.0; objects = []; functions = []; has_main = false },
   ([], (builtins.1, no_notes (length ds.objects))),
 )
@@ -81,11 +81,11 @@ abbrev pub judge_unit : Definitions → TranslationUnit → UnitSoFar × TagScop
 judge_unit ds unit s = at_end unit.length (externals ds unit.externals s)
 
 abbrev pub whole_unit : TranslationUnit → UnitSoFar × TagScope
-whole_unit unit = judge_unit (definitions unit.externals) unit (start (definitions unit.externals))
+whole_unit unit = judge_unit (definitions unit.externals) unit (unit_start (definitions unit.externals))
 
 -- the faults of a unit
 abbrev pub faults_of : TranslationUnit → List Fault
-faults_of unit = sorted (whole_unit unit).1.1.1.faults
+faults_of unit = sort_faults (whole_unit unit).1.1.1.faults
 
-abbrev pub first_fault : TranslationUnit → Option Fault
-first_fault unit = head (faults_of unit)
+abbrev pub first_unit_fault : TranslationUnit → Option Fault
+first_unit_fault unit = head (faults_of unit)

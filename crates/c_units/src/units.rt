@@ -173,7 +173,7 @@ pub struct UnitState<'a> {
 
 /// Before the first declaration.
 fn start<'a>(alloc: Global, definitions: &Definitions<'_>) -> Result<UnitState<'a>, AllocError>
-    ensures { IfOk result (λ s. (s.so_far, (s.defined, (s.env, s.notes))) ≡ spec.start definitions.now) }
+    ensures { IfOk result (λ s. (s.so_far, (s.defined, (s.env, s.notes))) ≡ spec.unit_start definitions.now) }
 {
     let first_text = object_count(definitions)?;
     let mut names = no_names(alloc);
@@ -230,7 +230,7 @@ pub fn judge<'a>(alloc: Global, unit: &'a TranslationUnit) -> Result<UnitState<'
 
 /// The first fault of a unit; `None` where there is none. It fails only where memory is short.
 pub fn first_fault(alloc: Global, unit: &TranslationUnit) -> Result<Option<Fault>, AllocError>
-    ensures { IfOk result (λ r. r ≡ spec.first_fault unit.now) }
+    ensures { IfOk result (λ r. r ≡ spec.first_unit_fault unit.now) }
 {
     let definitions = find_definitions(alloc, unit.externals.as_slice())?;
     let mut state = start(alloc, &definitions)?;

@@ -15,7 +15,7 @@ use Rattle.mem_model.specs.Memory.{begin_objects}
 use Rattle.mem_model.specs.World.{Outer}
 use Rattle.machine_model.specs.Machine.{begin_locals}
 use Rattle.alloc_model.specs.Contents as contents
-use Rattle.alloc_model.specs.Contents.{Content, Bundle, unset}
+use Rattle.alloc_model.specs.Contents.{Content, Bundle, unset_content}
 use Rattle.alloc_model.specs.Places as places
 use Rattle.alloc_model.specs.Places.{Places, Reg, Slot, In, Out}
 use Rattle.flat_memory.specs.Bytes.{Bytes}
@@ -25,7 +25,7 @@ use Rattle.flat_memory.specs.Laws.{MoreExtents, AreNew}
 use Rattle.flat_memory.proofs.Objects.{extents_grow, others_may_change, objects_begin}
 use Rattle.flat_operations.specs.Contents.{ContentIs}
 use Rattle.flat_operations.proofs.Operations.{contents_stay}
-use Rattle.flat_frames.specs.Shapes.{FrameShape, frame_size, objects_at, object_at, bytes_before, saved_at, slot_at, argument_at, owner_at}
+use Rattle.flat_frames.specs.Shapes.{FrameShape, frame_size, objects_at, frame_object_at, bytes_before, saved_at, slot_at, argument_at, owner_at}
 use Rattle.flat_frames.specs.Frames.{word_in, FrameIs}
 use Rattle.flat_frames.proofs.Shapes.{pieces_of, frames_are_small}
 use Rattle.flat_frames.proofs.Frames.{argument-word}
@@ -35,10 +35,10 @@ use Rattle.frame_transfers.specs.Laws.{CallAt, FitsTheStack, StandsFor}
 use Rattle.call_parts.specs.Items.{entry_part}
 use Rattle.call_parts.specs.Laws.{IsFrameAt, EntryDone}
 use Rattle.call_parts.proofs.Entries.{entries_are_done}
-use Rattle.call_stacks.specs.InstructionItemsLaws.{usable, IsHeldArgument, ArgumentIs, HasOuter}
+use Rattle.call_stacks.specs.InstructionItemsLaws.{is_usable, IsHeldArgument, ArgumentIs, HasOuter}
 use Rattle.call_stacks.specs.Stacks.{Waiting, view_above, WaitsAt, Start, CallersAre, StackIs, KeepsCallers}
 use Rattle.call_stacks.proofs.Stays.{frame-stays, argument-stays, saved-stays, callers_stay}
-use Rattle.call_entries.specs.Entering.{passed, entry_places, extents_from, called_sp, called_owner, called, waits, HasRoom, EntryIs}
+use Rattle.call_entries.specs.Entering.{call_contents, entry_places, extents_from, called_sp, called_owner, called_frame, waiting_call, HasRoom, EntryIs}
 use Rattle.call_entries.proofs.Passing.{GivenOrUnset, entry-given}
 use Rattle.call_entries.proofs.Begins.{get-behind, sizes-are, extent-of, size-of, before-whole}
 
@@ -80,10 +80,10 @@ below-top p there start xs owner m (g ∷ gs) view sp s a =
     omega (arith, h)
 
 -- a register that a call keeps is usable
-kept-usable : (r : ℕ) → r < 16 → usable r ≡ true
+kept-usable : (r : ℕ) → r < 16 → is_usable r ≡ true
 kept-usable r to = ap (λ b. b || (r == 27)) (lt-ltb r 26 (omega (arith, to)))
 
-usable-below : (r : ℕ) → usable r ≡ true → (r < 26) ⊎ (r ≡ 27)
+usable-below : (r : ℕ) → is_usable r ≡ true → (r < 26) ⊎ (r ≡ 27)
 usable-below r e = ⊎_elim (λ f. inl (ltb-true r 26 f)) (λ f. inr (eqb-true r 27 f)) (or_cases (nat_lt r 26) (r == 27) e)
 
 -- an argument is held whatever it is
@@ -93,18 +93,18 @@ held-argument c k (contents.Plain (Address q)) m h = h
 held-argument c k (contents.Plain Unset) m h = tt
 held-argument c k (Bundle cells) m h = h
 
-unset-content : (xs : Extents) (content : Content) (w : ℕ) → content ≡ unset → ContentIs xs content w
+unset-content : (xs : Extents) (content : Content) (w : ℕ) → content ≡ unset_content → ContentIs xs content w
 unset-content xs content w e = subst (λ z. ContentIs xs z w) (sym e) tt
 
-module _ (p : Program) (there : Labels) (start : Start) (c : CallAt) (gs : List Waiting) (o : Outer) (held : Places) (rest : List AsmItem) (end : ℕ) (s : State) (call : FitsTheStack c) (stack : StackIs p there start c gs held s) (outer : HasOuter o s) (l function arguments : ℕ) (shape : FrameShape) (body : List AsmItem) (last : ℕ) (at : ItemsAt p there (there l) (entry_part shape shape.saves body) last) (room : HasRoom p c shape) (few : arguments ≤ c.shape.outgoing + 6) (h : StandsFor p there (Branch Bsr 26 l ∷ rest) end c o.memory usable held s) where
+module _ (p : Program) (there : Labels) (start : Start) (c : CallAt) (gs : List Waiting) (o : Outer) (held : Places) (rest : List AsmItem) (end : ℕ) (s : State) (call : FitsTheStack c) (stack : StackIs p there start c gs held s) (outer : HasOuter o s) (l function arguments : ℕ) (shape : FrameShape) (body : List AsmItem) (last : ℕ) (at : ItemsAt p there (there l) (entry_part shape shape.saves body) last) (room : HasRoom p c shape) (few : arguments ≤ c.shape.outgoing + 6) (h : StandsFor p there (Branch Bsr 26 l ∷ rest) end c o.memory is_usable held s) where
   abbrev sp : ℕ
   sp = called_sp c shape
 
   abbrev D : CallAt
-  D = called c shape (length o.memory)
+  D = called_frame c shape (length o.memory)
 
   abbrev entry : Places
-  entry = entry_places (passed function arguments held)
+  entry = entry_places (call_contents function arguments held)
 
   up : sp + frame_size shape ≡ c.sp
   up = sp-is c shape (length o.memory) (stack_start p) room.room stack.free
@@ -184,7 +184,7 @@ module _ (p : Program) (there : Labels) (start : Start) (c : CallAt) (gs : List 
       entries_are_done p there (there l) body last shape shape.saves sp b.to b.is_at st (frame-at b)
 
   module _ (b : Branched) (x : EntryDone p there body last shape shape.saves sp b.to) where
-    same-register : (q : ℕ) → usable q ≡ true → register x.to q ≡ register s q
+    same-register : (q : ℕ) → is_usable q ≡ true → register x.to q ≡ register s q
     same-register q e = ⊎_elim
         (λ lt. x.others q (λ f. omega (arith, f, lt)) (λ f. omega (arith, f, lt)) ∙ b.registers q (λ f. omega (arith, f, lt)) (λ f. omega (arith, f, lt)))
         (λ is. x.others q (λ f. omega (arith, f, is)) (λ f. omega (arith, f, is)) ∙ b.registers q (λ f. omega (arith, f, is)) (λ f. omega (arith, f, is)))
@@ -250,10 +250,10 @@ module _ (p : Program) (there : Labels) (start : Start) (c : CallAt) (gs : List 
         own k n e y from to =
             let piece = (pieces_of shape (suc c.depth) (length o.memory)).objects k n e in
             let within = piece.within in
-            let i = y - (sp + object_at shape k) in
-            let f : sp + (object_at shape k + i) ≡ y = omega (arith, from) in
+            let i = y - (sp + frame_object_at shape k) in
+            let f : sp + (frame_object_at shape k + i) ≡ y = omega (arith, from) in
             ap D.owner (sym f)
-            ∙ owner-in c shape (length o.memory) (stack_start p) room.room stack.free (object_at shape k + i) (omega (arith, from, to, within))
+            ∙ owner-in c shape (length o.memory) (stack_start p) room.room stack.free (frame_object_at shape k + i) (omega (arith, from, to, within))
             ∙ piece.owned i (omega (arith, from, to))
 
     memory-is : MemoryIs D.extents (begin_objects o.memory shape.sizes) D.owner (memory_bytes p x.to)
@@ -264,10 +264,10 @@ module _ (p : Program) (there : Labels) (start : Start) (c : CallAt) (gs : List 
     given : (q : places.Place) → GivenOrUnset held (arguments - 6) q (entry q)
     given q = entry-given function arguments held q
 
-    slot-unset : (t : ℕ) → entry (Slot t) ≡ unset
+    slot-unset : (t : ℕ) → entry (Slot t) ≡ unset_content
     slot-unset t = ⊎_elim (λ e. e) (λ f. absurd f) (given (Slot t))
 
-    out-unset : (k : ℕ) → entry (Out k) ≡ unset
+    out-unset : (k : ℕ) → entry (Out k) ≡ unset_content
     out-unset k = ⊎_elim (λ e. e) (λ f. absurd f) (given (Out k))
 
     frame-is : FrameIs D.extents D.owner (memory_bytes p x.to) sp (suc c.depth) (length o.memory) shape entry
@@ -280,14 +280,14 @@ module _ (p : Program) (there : Labels) (start : Start) (c : CallAt) (gs : List 
           owned = owner-in c shape (length o.memory) (stack_start p) room.room stack.free;
           objects = λ k n e.
               let count : length o.memory ≡ length c.extents = sym h.frame.memory_is.count in
-              let place : sp + objects_at shape + bytes_before shape.sizes k ≡ sp + object_at shape k = omega arith in
+              let place : sp + objects_at shape + bytes_before shape.sizes k ≡ sp + frame_object_at shape k = omega arith in
               ap (λ z. slice_get D.extents (z + k)) count
               ∙ get-behind c.extents (extents_from (sp + objects_at shape) shape.sizes) k
               ∙ extent-of shape.sizes (sp + objects_at shape) k n e
               ∙ ap (λ z. Some (record { base = z; size = n })) place;
         }
 
-    registers-are : (r : ℕ) → usable r ≡ true → ContentIs D.extents (entry (Reg r)) (register x.to r)
+    registers-are : (r : ℕ) → is_usable r ≡ true → ContentIs D.extents (entry (Reg r)) (register x.to r)
     registers-are r e = ⊎_elim
         (λ f. unset-content D.extents (entry (Reg r)) (register x.to r) f)
         (λ f. subst (λ z. ContentIs D.extents z (register x.to r)) (sym f) (subst (ContentIs D.extents (held (Reg r))) (sym (same-register r e)) (contents_stay c.extents D.extents (held (Reg r)) (register s r) more (h.registers r e))))
@@ -307,7 +307,7 @@ module _ (p : Program) (there : Labels) (start : Start) (c : CallAt) (gs : List 
         (cases_lt y c.sp))
         (cases_lt y sp)
 
-    stands-new : StandsFor p there body last D (begin_locals o shape.sizes).memory usable entry x.to
+    stands-new : StandsFor p there body last D (begin_locals o shape.sizes).memory is_usable entry x.to
     stands-new = record {
       word = x.come.next;
       is_at = x.come.is_at;
@@ -322,8 +322,8 @@ module _ (p : Program) (there : Labels) (start : Start) (c : CallAt) (gs : List 
     frame-moved : FrameIs D.extents D.owner (memory_bytes p x.to) c.sp c.depth c.own c.shape held
     frame-moved = frame-stays c.extents D.extents c.owner D.owner (memory_bytes p s) (memory_bytes p x.to) (suc c.depth) 0 more keeps c.sp c.depth c.own c.shape held (omega arith) (omega arith) h.frame.frame
 
-    waits-at : WaitsAt D.extents D.owner (memory_bytes p x.to) c.sp (length gs) (waits c held rest end)
-    waits-at = subst (λ d. WaitsAt D.extents D.owner (memory_bytes p x.to) c.sp d (waits c held rest end)) stack.depth (record {
+    waits-at : WaitsAt D.extents D.owner (memory_bytes p x.to) c.sp (length gs) (waiting_call c held rest end)
+    waits-at = subst (λ d. WaitsAt D.extents D.owner (memory_bytes p x.to) c.sp d (waiting_call c held rest end)) stack.depth (record {
       frame = frame-moved;
       arguments = λ j. argument-stays c.extents D.extents c.owner D.owner (memory_bytes p s) (memory_bytes p x.to) (suc c.depth) 0 more keeps c j (held (In j)) (omega arith) (omega arith) (stack.arguments j);
     })
@@ -343,11 +343,11 @@ module _ (p : Program) (there : Labels) (start : Start) (c : CallAt) (gs : List 
         ∙ ap (λ w. if c.shape.saves r then word_in (memory_bytes p s) (c.sp + saved_at c.shape r) else w) (view-is r from to))
         stack.callers_are
 
-    callers-new : CallersAre p there start D.extents D.owner (memory_bytes p x.to) new-view sp shape (waits c held rest end ∷ gs)
+    callers-new : CallersAre p there start D.extents D.owner (memory_bytes p x.to) new-view sp shape (waiting_call c held rest end ∷ gs)
     callers-new = (
       record { place = b.next; is = x.back ∙ b.link; items_at = b.items_at },
       (λ r from to. subst (ContentIs D.extents (held (Reg r))) (sym (view-is r from to)) (contents_stay c.extents D.extents (held (Reg r)) (register s r) more (h.registers r (kept-usable r to)))),
-      subst (λ z. WaitsAt D.extents D.owner (memory_bytes p x.to) z (length gs) (waits c held rest end)) (sym up) waits-at,
+      subst (λ z. WaitsAt D.extents D.owner (memory_bytes p x.to) z (length gs) (waiting_call c held rest end)) (sym up) waits-at,
       subst (λ z. CallersAre p there start D.extents D.owner (memory_bytes p x.to) (view_above (memory_bytes p x.to) z c.shape new-view) z c.shape gs) (sym up) callers-moved,
     )
 
@@ -376,7 +376,7 @@ module _ (p : Program) (there : Labels) (start : Start) (c : CallAt) (gs : List 
         (λ f. subst (λ z. ArgumentIs D j z (memory_bytes p x.to)) (sym f.1) (held-argument D j (held (Out j)) (memory_bytes p x.to) (argument-new j f.0)))
         (given (In j))
 
-    stack-new : StackIs p there start D (waits c held rest end ∷ gs) entry x.to
+    stack-new : StackIs p there start D (waiting_call c held rest end ∷ gs) entry x.to
     stack-new = record {
       depth = ap suc stack.depth;
       callers_are = callers-new;
@@ -404,7 +404,7 @@ module _ (p : Program) (there : Labels) (start : Start) (c : CallAt) (gs : List 
           };
         }
 
-pub calls_are_entered : (p : Program) (there : Labels) (start : Start) (c : CallAt) (gs : List Waiting) (o : Outer) (held : Places) (rest : List AsmItem) (end : ℕ) (s : State) → FitsTheStack c → StackIs p there start c gs held s → HasOuter o s → (l function arguments : ℕ) (shape : FrameShape) (body : List AsmItem) (last : ℕ) → ItemsAt p there (there l) (entry_part shape shape.saves body) last → HasRoom p c shape → arguments ≤ c.shape.outgoing + 6 → StandsFor p there (Branch Bsr 26 l ∷ rest) end c o.memory usable held s → EntryIs p there start body last c (called c shape (length o.memory)) gs o held (entry_places (passed function arguments held)) rest end s
+pub calls_are_entered : (p : Program) (there : Labels) (start : Start) (c : CallAt) (gs : List Waiting) (o : Outer) (held : Places) (rest : List AsmItem) (end : ℕ) (s : State) → FitsTheStack c → StackIs p there start c gs held s → HasOuter o s → (l function arguments : ℕ) (shape : FrameShape) (body : List AsmItem) (last : ℕ) → ItemsAt p there (there l) (entry_part shape shape.saves body) last → HasRoom p c shape → arguments ≤ c.shape.outgoing + 6 → StandsFor p there (Branch Bsr 26 l ∷ rest) end c o.memory is_usable held s → EntryIs p there start body last c (called_frame c shape (length o.memory)) gs o held (entry_places (call_contents function arguments held)) rest end s
 calls_are_entered p there start c gs o held rest end s call stack outer l function arguments shape body last at room few h =
     let b = branched p there start c gs o held rest end s call stack outer l function arguments shape body last at room few h in
     entry-is p there start c gs o held rest end s call stack outer l function arguments shape body last at room few h b (entered p there start c gs o held rest end s call stack outer l function arguments shape body last at room few h b)

@@ -4,11 +4,11 @@ use Rattle.std.specs.Prelude.{min, if◌then◌else◌}
 use Rattle.std.specs.List.{range_with_len}
 use Rattle.std.proofs.lemmas.Bool.{eqb-true}
 use Rattle.temp_ir.specs.Fixed.{argument_registers}
-use Rattle.alloc_model.specs.Contents.{Content, unset}
+use Rattle.alloc_model.specs.Contents.{Content, unset_content}
 use Rattle.alloc_model.specs.Stores.{empty, put, put_all, first_or_unset}
 use Rattle.alloc_model.specs.Effect.{Fixed, Incoming, Outgoing, entry_holders}
 use Rattle.alloc_model.specs.Places.{Places, Place, Reg, Slot, In, Out, place_eq, home_of}
-use Rattle.call_entries.specs.Entering.{passed, entry_places}
+use Rattle.call_entries.specs.Entering.{call_contents, entry_places}
 
 place-true : (p q : Place) → place_eq p q ≡ true → p ≡ q
 place-true (Reg a) (Reg b) e = ap Reg (eqb-true a b e)
@@ -25,7 +25,7 @@ Given held count (Slot t) c = ⊥
 Given held count (Out k) c = ⊥
 
 abbrev pub GivenOrUnset : (held : Places) → (count : ℕ) → Place → Content → Type 0
-GivenOrUnset held count q c = (c ≡ unset) ⊎ Given held count q c
+GivenOrUnset held count q c = (c ≡ unset_content) ⊎ Given held count q c
 
 -- lists of places with what they are given
 abbrev AllGiven : (held : Places) → (count : ℕ) → List Place → List Content → Type 0
@@ -75,11 +75,11 @@ registers-length (suc (suc (suc (suc (suc (suc n)))))) =
     let registers : List ℕ = 16 ∷ 17 ∷ 18 ∷ 19 ∷ 20 ∷ 21 ∷ [] in
     ap (λ m. length (take m registers) + (count - 6)) six ∙ all
 
-pub passed-length : (function n : ℕ) (held : Places) → length (passed function n held) ≡ n
+pub passed-length : (function n : ℕ) (held : Places) → length (call_contents function n held) ≡ n
 passed-length function n held = lists-length held (argument_registers n) (n - 6) ∙ registers-length n
 
 -- each place holds nothing, or what the caller gives there
-pub entry-given : (function n : ℕ) (held : Places) (q : Place) → GivenOrUnset held (n - 6) q (entry_places (passed function n held) q)
+pub entry-given : (function n : ℕ) (held : Places) (q : Place) → GivenOrUnset held (n - 6) q (entry_places (call_contents function n held) q)
 entry-given function n held q =
-    subst (λ m. GivenOrUnset held (n - 6) q (put_all place_eq (map home_of (entry_holders m)) (passed function n held) empty q)) (sym (passed-length function n held))
-    (all-given held (n - 6) (map home_of (entry_holders n)) (passed function n held) empty (both-given held (n - 6) (argument_registers n) (n - 6) (omega arith)) (λ z. inl refl) q)
+    subst (λ m. GivenOrUnset held (n - 6) q (put_all place_eq (map home_of (entry_holders m)) (call_contents function n held) empty q)) (sym (passed-length function n held))
+    (all-given held (n - 6) (map home_of (entry_holders n)) (call_contents function n held) empty (both-given held (n - 6) (argument_registers n) (n - 6) (omega arith)) (λ z. inl refl) q)

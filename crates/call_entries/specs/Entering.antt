@@ -19,12 +19,12 @@ use Rattle.flat_memory.specs.Relation.{Extents, Owners}
 use Rattle.flat_frames.specs.Shapes.{FrameShape, objects_at, frame_size, owner_at}
 use Rattle.frame_transfers.specs.Laws.{CallAt, FitsTheStack, StandsFor}
 use Rattle.call_parts.specs.Items.{entry_part}
-use Rattle.call_stacks.specs.InstructionItemsLaws.{usable, HasOuter}
+use Rattle.call_stacks.specs.InstructionItemsLaws.{is_usable, HasOuter}
 use Rattle.call_stacks.specs.Stacks.{Waiting, Start, StackIs}
 
 -- what a call hands over, and what the called function holds at its start
-abbrev pub passed : (function arguments : ℕ) → Places → List Content
-passed function arguments held = map held (places_read_at [] (i.Call function arguments))
+abbrev pub call_contents : (function arguments : ℕ) → Places → List Content
+call_contents function arguments held = map held (places_read_at [] (i.Call function arguments))
 
 abbrev pub entry_places : List Content → Places
 entry_places cs = put_all place_eq (map home_of (entry_holders (length cs))) cs empty
@@ -43,8 +43,8 @@ called_owner c s own y =
     if nat_lt y (called_sp c s) then c.owner y
     else if nat_lt y c.sp then owner_at s (suc c.depth) own (y - called_sp c s) else c.owner y
 
-abbrev pub called : CallAt → FrameShape → (own : ℕ) → CallAt
-called c s own = record {
+abbrev pub called_frame : CallAt → FrameShape → (own : ℕ) → CallAt
+called_frame c s own = record {
   extents = c.extents ++ extents_from (called_sp c s + objects_at s) s.sizes;
   owner = called_owner c s own;
   sp = called_sp c s;
@@ -54,8 +54,8 @@ called c s own = record {
 }
 
 -- the call that waits meanwhile
-abbrev pub waits : CallAt → (held : Places) → (behind : List AsmItem) → (end : ℕ) → Waiting
-waits c held behind end = record { shape = c.shape; own = c.own; held = held; behind = behind; end = end }
+abbrev pub waiting_call : CallAt → (held : Places) → (behind : List AsmItem) → (end : ℕ) → Waiting
+waiting_call c held behind end = record { shape = c.shape; own = c.own; held = held; behind = behind; end = end }
 
 -- the stack has room for the frame, and an argument place of the caller is near from it
 pub record HasRoom (p : Program) (c : CallAt) (s : FrameShape) : Type 0 where
@@ -69,8 +69,8 @@ pub record EntryIs (p : Program) (there : Labels) (start : Start) (body : List A
   pub comes : Comes p s to
   pub some : 1 ≤ comes.steps
   pub is_call : FitsTheStack d
-  pub stands : StandsFor p there body last d (begin_locals o d.shape.sizes).memory usable entry to
-  pub stack : StackIs p there start d (waits c held rest end ∷ gs) entry to
+  pub stands : StandsFor p there body last d (begin_locals o d.shape.sizes).memory is_usable entry to
+  pub stack : StackIs p there start d (waiting_call c held rest end ∷ gs) entry to
   pub outer : HasOuter (begin_locals o d.shape.sizes) to
 
 abbrev pub CallsAreEntered : Type 0
@@ -79,6 +79,6 @@ CallsAreEntered =
     (rest : List AsmItem) (end : ℕ) (s : State) → FitsTheStack c → StackIs p there start c gs held s → HasOuter o s →
     (l function arguments : ℕ) (shape : FrameShape) (body : List AsmItem) (last : ℕ) →
     ItemsAt p there (there l) (entry_part shape shape.saves body) last → HasRoom p c shape →
-    arguments ≤ c.shape.outgoing + 6 → StandsFor p there (Branch Bsr 26 l ∷ rest) end c o.memory usable held s →
-    EntryIs p there start body last c (called c shape (length o.memory)) gs o held
-    (entry_places (passed function arguments held)) rest end s
+    arguments ≤ c.shape.outgoing + 6 → StandsFor p there (Branch Bsr 26 l ∷ rest) end c o.memory is_usable held s →
+    EntryIs p there start body last c (called_frame c shape (length o.memory)) gs o held
+    (entry_places (call_contents function arguments held)) rest end s

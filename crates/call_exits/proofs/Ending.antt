@@ -18,7 +18,7 @@ use Rattle.machine_model.specs.Machine.{end_locals}
 use Rattle.alloc_model.specs.Contents as contents
 use Rattle.alloc_model.specs.Contents.{Content, Bundle}
 use Rattle.alloc_model.specs.Stores.{first_or_unset}
-use Rattle.alloc_model.specs.Temporaries.{content_status, status_of}
+use Rattle.alloc_model.specs.Temporaries.{content_status, result_status}
 use Rattle.alloc_model.specs.Places.{Places}
 use Rattle.flat_memory.specs.Relation.{Extents}
 use Rattle.flat_operations.specs.Contents.{ContentIs}
@@ -26,9 +26,9 @@ use Rattle.frame_accesses.specs.Laws.{IsAt}
 use Rattle.frame_accesses.proofs.Runs.{stands, word-written, register_moves}
 use Rattle.frame_transfers.specs.Laws.{CallAt, FitsTheStack, StandsFor}
 use Rattle.call_parts.specs.Items.{exit_part}
-use Rattle.call_stacks.specs.InstructionItemsLaws.{usable, HasOuter, RunIsOver}
+use Rattle.call_stacks.specs.InstructionItemsLaws.{is_usable, HasOuter, RunIsOver}
 use Rattle.call_stacks.specs.Stacks.{Start, StackIs}
-use Rattle.call_exits.specs.Leaving.{returned, ending_items}
+use Rattle.call_exits.specs.Leaving.{result_contents, ending_items}
 use Rattle.call_exits.proofs.Leaving.{returned-is, left}
 
 -- the word of a status
@@ -66,7 +66,7 @@ ends p there w end s h =
       output = b.come.output ∙ a.come.output;
     }
 
-pub runs_are_ended : (p : Program) (there : Labels) (start : Start) (c : CallAt) (o : Outer) (held : Places) (rest : List AsmItem) (end : ℕ) (s : State) → FitsTheStack c → StackIs p there start c [] held s → HasOuter o s → start.behind ≡ ending_items → (with_value : Bool) (status : ℕ) → status_of (returned with_value held) ≡ Some status → StandsFor p there (exit_part c.shape c.shape.saves rest) end c o.memory usable held s → RunIsOver p (end_locals o c.own (length c.shape.sizes)) (Done status) s
+pub runs_are_ended : (p : Program) (there : Labels) (start : Start) (c : CallAt) (o : Outer) (held : Places) (rest : List AsmItem) (end : ℕ) (s : State) → FitsTheStack c → StackIs p there start c [] held s → HasOuter o s → start.behind ≡ ending_items → (with_value : Bool) (status : ℕ) → result_status (result_contents with_value held) ≡ Some status → StandsFor p there (exit_part c.shape c.shape.saves rest) end c o.memory is_usable held s → RunIsOver p (end_locals o c.own (length c.shape.sizes)) (Done status) s
 runs_are_ended p there start c o held rest end s call stack outer items with_value status e h =
     let x = left p there c o held rest end s call h in
     let back = stack.callers_are.1 in
@@ -75,7 +75,7 @@ runs_are_ended p there start c o held rest end s call stack outer items with_val
     let at = x.is_at back.place ending_items start.end pc (subst (λ l. ItemsAt p there back.place l start.end) items back.items_at) in
     let y = ends p there back.place start.end x.to at in
     let zero-is : register x.to 0 ≡ register s 0 = x.others 0 (inl (omega arith)) (λ f. omega (arith, f)) (λ f. omega (arith, f)) (λ f. omega (arith, f)) in
-    let word = status-word c.extents (first_or_unset (returned with_value held)) (register s 0) status (returned-is c.extents held (register s 0) with_value (h.registers 0 refl)) e in
+    let word = status-word c.extents (first_or_unset (result_contents with_value held)) (register s 0) status (returned-is c.extents held (register s 0) with_value (h.registers 0 refl)) e in
     record {
       steps = x.comes.steps + y.steps;
       last = y.last;

@@ -10,7 +10,7 @@ use Rattle.mem_model.specs.Memory.{end_objects}
 use Rattle.mem_model.specs.World.{Outer}
 use Rattle.machine_model.specs.Machine.{end_locals}
 use Rattle.temp_ir.specs.Fixed.{ended_by_calls, has_number}
-use Rattle.alloc_model.specs.Contents.{unset}
+use Rattle.alloc_model.specs.Contents.{unset_content}
 use Rattle.alloc_model.specs.Stores.{first_or_unset}
 use Rattle.alloc_model.specs.Places.{Places, Reg, In}
 use Rattle.flat_memory.specs.Bytes.{Bytes}
@@ -25,20 +25,20 @@ use Rattle.frame_transfers.specs.Laws.{CallAt, FitsTheStack, StandsFor}
 use Rattle.call_parts.specs.Items.{exit_part}
 use Rattle.call_parts.specs.Laws.{ExitDone}
 use Rattle.call_parts.proofs.Exits.{exits_are_done}
-use Rattle.call_stacks.specs.InstructionItemsLaws.{usable, HasOuter, ArgumentsAre}
+use Rattle.call_stacks.specs.InstructionItemsLaws.{is_usable, HasOuter, ArgumentsAre}
 use Rattle.call_stacks.proofs.Runs.{usable-low}
-use Rattle.call_stacks.specs.Stacks.{Waiting, call_of, view_above, Start, CallersAre, StackIs, KeepsCallers}
+use Rattle.call_stacks.specs.Stacks.{Waiting, call_frame, view_above, Start, CallersAre, StackIs, KeepsCallers}
 use Rattle.call_stacks.proofs.Stays.{frame-owned, frame-stays, argument-stays, saved-stays, callers_stay}
-use Rattle.call_exits.specs.Leaving.{returned, resumed, left_owner, caller_of, ExitIs}
+use Rattle.call_exits.specs.Leaving.{result_contents, resumed_places, left_owner, caller_of, ExitIs}
 use Rattle.call_exits.proofs.Owners.{frame-own, own-ended, left-below, left-in, left-above, not-ended}
 
 -- what is returned stands in register 0, or nothing is
-pub returned-is : (xs : Extents) (held : Places) (w : ℕ) (with_value : Bool) → ContentIs xs (held (Reg 0)) w → ContentIs xs (first_or_unset (returned with_value held)) w
+pub returned-is : (xs : Extents) (held : Places) (w : ℕ) (with_value : Bool) → ContentIs xs (held (Reg 0)) w → ContentIs xs (first_or_unset (result_contents with_value held)) w
 returned-is xs held w true h = h
 returned-is xs held w false h = tt
 
 -- the exit part of a call
-pub left : (p : Program) (there : Labels) (c : CallAt) (o : Outer) (held : Places) (rest : List AsmItem) (end : ℕ) (s : State) → FitsTheStack c → StandsFor p there (exit_part c.shape c.shape.saves rest) end c o.memory usable held s → ExitDone p there c.shape c.shape.saves c.sp s
+pub left : (p : Program) (there : Labels) (c : CallAt) (o : Outer) (held : Places) (rest : List AsmItem) (end : ℕ) (s : State) → FitsTheStack c → StandsFor p there (exit_part c.shape c.shape.saves rest) end c o.memory is_usable held s → ExitDone p there c.shape c.shape.saves c.sp s
 left p there c o held rest end s call h =
     exits_are_done p there h.word rest end c.shape c.shape.saves c.sp s h.is_at h.stack (record {
       aligned = h.frame.frame.aligned;
@@ -48,7 +48,7 @@ left p there c o held rest end s call h =
     })
 
 -- the memory without the objects of the call
-pub ended-memory : (p : Program) (there : Labels) (c : CallAt) (o : Outer) (held : Places) (items : List AsmItem) (end : ℕ) (s t : State) → StandsFor p there items end c o.memory usable held s → memory_bytes p t ≡ memory_bytes p s → MemoryIs c.extents (end_objects o.memory c.own (length c.shape.sizes)) (left_owner c) (memory_bytes p t)
+pub ended-memory : (p : Program) (there : Labels) (c : CallAt) (o : Outer) (held : Places) (items : List AsmItem) (end : ℕ) (s t : State) → StandsFor p there items end c o.memory is_usable held s → memory_bytes p t ≡ memory_bytes p s → MemoryIs c.extents (end_objects o.memory c.own (length c.shape.sizes)) (left_owner c) (memory_bytes p t)
 ended-memory p there c o held items end s t h same =
     subst (MemoryIs c.extents (end_objects o.memory c.own (length c.shape.sizes)) (left_owner c)) (sym same)
     (objects_end c.extents o.memory c.owner (left_owner c) (memory_bytes p s) c.own (length c.shape.sizes) h.frame.memory_is keeps)
@@ -65,7 +65,7 @@ ended-memory p there c o held items end s t h same =
         (cases_lt y (c.sp + frame_size c.shape)))
         (cases_lt y c.sp)
 
-module _ (p : Program) (there : Labels) (start : Start) (c : CallAt) (g : Waiting) (gs : List Waiting) (o : Outer) (held : Places) (rest : List AsmItem) (end : ℕ) (s : State) (call : FitsTheStack c) (stack : StackIs p there start c (g ∷ gs) held s) (outer : HasOuter o s) (function arguments : ℕ) (with_value : Bool) (h : StandsFor p there (exit_part c.shape c.shape.saves rest) end c o.memory usable held s) (x : ExitDone p there c.shape c.shape.saves c.sp s) where
+module _ (p : Program) (there : Labels) (start : Start) (c : CallAt) (g : Waiting) (gs : List Waiting) (o : Outer) (held : Places) (rest : List AsmItem) (end : ℕ) (s : State) (call : FitsTheStack c) (stack : StackIs p there start c (g ∷ gs) held s) (outer : HasOuter o s) (function arguments : ℕ) (with_value : Bool) (h : StandsFor p there (exit_part c.shape c.shape.saves rest) end c o.memory is_usable held s) (x : ExitDone p there c.shape c.shape.saves c.sp s) where
   abbrev up : ℕ
   up = c.sp + frame_size c.shape
 
@@ -73,7 +73,7 @@ module _ (p : Program) (there : Labels) (start : Start) (c : CallAt) (g : Waitin
   D = caller_of c (length gs) g
 
   abbrev after : Places
-  after = resumed function arguments g (returned with_value held)
+  after = resumed_places function arguments g (result_contents with_value held)
 
   abbrev m : Bytes
   m = memory_bytes p s
@@ -106,22 +106,22 @@ module _ (p : Program) (there : Labels) (start : Start) (c : CallAt) (g : Waitin
   }
 
   -- a register but 0
-  kept-register : (r : ℕ) → usable r ≡ true → (b : Bool) → has_number ended_by_calls r ≡ b → ContentIs c.extents (if b then unset else g.held (Reg r)) (register x.to r)
+  kept-register : (r : ℕ) → is_usable r ≡ true → (b : Bool) → has_number ended_by_calls r ≡ b → ContentIs c.extents (if b then unset_content else g.held (Reg r)) (register x.to r)
   kept-register r e true f = tt
   kept-register r e false f =
       let range = not-ended r (usable-low r e) f in
       subst (ContentIs c.extents (g.held (Reg r))) (sym (x.kept r range.0 range.1)) (stack.callers_are.1 r range.0 range.1)
 
-  registers-are : (r : ℕ) → usable r ≡ true → ContentIs c.extents (after (Reg r)) (register x.to r)
+  registers-are : (r : ℕ) → is_usable r ≡ true → ContentIs c.extents (after (Reg r)) (register x.to r)
   registers-are r e = by_test (r == 0) refl
     where
       zero-is : register x.to 0 ≡ register s 0
       zero-is = x.others 0 (inl (omega arith)) (λ f. omega (arith, f)) (λ f. omega (arith, f)) (λ f. omega (arith, f))
 
-      by_test : (b : Bool) → (r == 0) ≡ b → ContentIs c.extents (if b then first_or_unset (returned with_value held) else (if has_number ended_by_calls r then unset else g.held (Reg r))) (register x.to r)
+      by_test : (b : Bool) → (r == 0) ≡ b → ContentIs c.extents (if b then first_or_unset (result_contents with_value held) else (if has_number ended_by_calls r then unset_content else g.held (Reg r))) (register x.to r)
       by_test true f =
-          subst (λ q. ContentIs c.extents (first_or_unset (returned with_value held)) (register x.to q)) (sym (eqb-true r 0 f))
-          (subst (ContentIs c.extents (first_or_unset (returned with_value held))) (sym zero-is) (returned-is c.extents held (register s 0) with_value (h.registers 0 refl)))
+          subst (λ q. ContentIs c.extents (first_or_unset (result_contents with_value held)) (register x.to q)) (sym (eqb-true r 0 f))
+          (subst (ContentIs c.extents (first_or_unset (result_contents with_value held))) (sym zero-is) (returned-is c.extents held (register s 0) with_value (h.registers 0 refl)))
       by_test false f = kept-register r e (has_number ended_by_calls r) refl
 
   reached-left : (y : ℕ) → left_owner c y ≢ Nobody → is_reached p x.to y ≡ true
@@ -145,7 +145,7 @@ module _ (p : Program) (there : Labels) (start : Start) (c : CallAt) (g : Waitin
       stack.callers_are.3
 
   arguments-are : ArgumentsAre D after k
-  arguments-are j = argument-stays c.extents c.extents c.owner (left_owner c) m k c.depth up more keeps (call_of c.extents c.owner up (length gs) g) j (g.held (In j)) (let lt = less in omega (arith, lt)) (omega arith) (stack.callers_are.2.arguments j)
+  arguments-are j = argument-stays c.extents c.extents c.owner (left_owner c) m k c.depth up more keeps (call_frame c.extents c.owner up (length gs) g) j (g.held (In j)) (let lt = less in omega (arith, lt)) (omega arith) (stack.callers_are.2.arguments j)
 
   exit-is : ExitIs p there start g gs D (end_locals o c.own (length c.shape.sizes)) after s
   exit-is = record {
@@ -170,6 +170,6 @@ module _ (p : Program) (there : Labels) (start : Start) (c : CallAt) (g : Waitin
     outer = record { input = x.input ∙ outer.input; output = x.output ∙ outer.output; bytes = outer.bytes };
   }
 
-pub calls_are_left : (p : Program) (there : Labels) (start : Start) (c : CallAt) (g : Waiting) (gs : List Waiting) (o : Outer) (held : Places) (rest : List AsmItem) (end : ℕ) (s : State) → FitsTheStack c → StackIs p there start c (g ∷ gs) held s → HasOuter o s → (function arguments : ℕ) (with_value : Bool) → StandsFor p there (exit_part c.shape c.shape.saves rest) end c o.memory usable held s → ExitIs p there start g gs (caller_of c (length gs) g) (end_locals o c.own (length c.shape.sizes)) (resumed function arguments g (returned with_value held)) s
+pub calls_are_left : (p : Program) (there : Labels) (start : Start) (c : CallAt) (g : Waiting) (gs : List Waiting) (o : Outer) (held : Places) (rest : List AsmItem) (end : ℕ) (s : State) → FitsTheStack c → StackIs p there start c (g ∷ gs) held s → HasOuter o s → (function arguments : ℕ) (with_value : Bool) → StandsFor p there (exit_part c.shape c.shape.saves rest) end c o.memory is_usable held s → ExitIs p there start g gs (caller_of c (length gs) g) (end_locals o c.own (length c.shape.sizes)) (resumed_places function arguments g (result_contents with_value held)) s
 calls_are_left p there start c g gs o held rest end s call stack outer function arguments with_value h =
     exit-is p there start c g gs o held rest end s call stack outer function arguments with_value h (left p there c o held rest end s call h)

@@ -15,21 +15,21 @@ use Rattle.mem_model.specs.World.{Outer}
 use Rattle.machine_model.specs.Machine.{end_locals}
 use Rattle.temp_ir.specs.declared.insn.TempInsn.TheVariants as i
 use Rattle.alloc_model.specs.Contents.{Content}
-use Rattle.alloc_model.specs.Temporaries.{status_of}
+use Rattle.alloc_model.specs.Temporaries.{result_status}
 use Rattle.alloc_model.specs.Places.{Places, places_read_at}
 use Rattle.flat_memory.specs.Relation.{Owners, Nobody}
 use Rattle.flat_frames.specs.Shapes.{frame_size}
 use Rattle.frame_transfers.specs.Laws.{CallAt, FitsTheStack, StandsFor}
 use Rattle.call_parts.specs.Items.{exit_part}
-use Rattle.call_stacks.specs.InstructionItemsLaws.{usable, HasOuter, RunIsOver, store_behind}
-use Rattle.call_stacks.specs.Stacks.{Waiting, call_of, Start, StackIs}
+use Rattle.call_stacks.specs.InstructionItemsLaws.{is_usable, HasOuter, RunIsOver, store_behind}
+use Rattle.call_stacks.specs.Stacks.{Waiting, call_frame, Start, StackIs}
 
 -- what a call returns, and what the call that waited holds then
-abbrev pub returned : (with_value : Bool) → Places → List Content
-returned with_value held = map held (places_read_at [] (i.Return with_value))
+abbrev pub result_contents : (with_value : Bool) → Places → List Content
+result_contents with_value held = map held (places_read_at [] (i.Return with_value))
 
-abbrev pub resumed : (function arguments : ℕ) → Waiting → List Content → Places
-resumed function arguments g cs = store_behind [] (i.Call function arguments) g.held cs
+abbrev pub resumed_places : (function arguments : ℕ) → Waiting → List Content → Places
+resumed_places function arguments g cs = store_behind [] (i.Call function arguments) g.held cs
 
 -- the frame is nobody's any more
 abbrev pub left_owner : CallAt → Owners
@@ -37,7 +37,7 @@ left_owner c y =
     if nat_lt y c.sp then c.owner y else if nat_lt y (c.sp + frame_size c.shape) then Nobody else c.owner y
 
 abbrev pub caller_of : CallAt → (depth : ℕ) → Waiting → CallAt
-caller_of c depth g = call_of c.extents (left_owner c) (c.sp + frame_size c.shape) depth g
+caller_of c depth g = call_frame c.extents (left_owner c) (c.sp + frame_size c.shape) depth g
 
 -- the machine stands behind the call, for the call that waited
 pub record ExitIs (p : Program) (there : Labels) (start : Start) (g : Waiting) (gs : List Waiting) (d : CallAt)
@@ -46,7 +46,7 @@ pub record ExitIs (p : Program) (there : Labels) (start : Start) (g : Waiting) (
   pub to : State
   pub comes : Comes p s to
   pub some : 1 ≤ comes.steps
-  pub stands : StandsFor p there g.behind g.end d o.memory usable held to
+  pub stands : StandsFor p there g.behind g.end d o.memory is_usable held to
   pub stack : StackIs p there start d gs held to
   pub outer : HasOuter o to
 
@@ -56,9 +56,9 @@ CallsAreLeft =
     (held : Places) (rest : List AsmItem) (end : ℕ) (s : State) → FitsTheStack c →
     StackIs p there start c (g ∷ gs) held s →
     HasOuter o s → (function arguments : ℕ) (with_value : Bool) →
-    StandsFor p there (exit_part c.shape c.shape.saves rest) end c o.memory usable held s →
+    StandsFor p there (exit_part c.shape c.shape.saves rest) end c o.memory is_usable held s →
     ExitIs p there start g gs (caller_of c (length gs) g) (end_locals o c.own (length c.shape.sizes))
-    (resumed function arguments g (returned with_value held)) s
+    (resumed_places function arguments g (result_contents with_value held)) s
 
 -- behind the call of the first function the run is ended, with what it returned as its status
 abbrev pub ending_items : List AsmItem
@@ -70,6 +70,6 @@ RunsAreEnded =
     (p : Program) (there : Labels) (start : Start) (c : CallAt) (o : Outer) (held : Places) (rest : List AsmItem)
     (end : ℕ)
     (s : State) → FitsTheStack c → StackIs p there start c [] held s → HasOuter o s → start.behind ≡ ending_items →
-    (with_value : Bool) (status : ℕ) → status_of (returned with_value held) ≡ Some status →
-    StandsFor p there (exit_part c.shape c.shape.saves rest) end c o.memory usable held s →
+    (with_value : Bool) (status : ℕ) → result_status (result_contents with_value held) ≡ Some status →
+    StandsFor p there (exit_part c.shape c.shape.saves rest) end c o.memory is_usable held s →
     RunIsOver p (end_locals o c.own (length c.shape.sizes)) (Done status) s

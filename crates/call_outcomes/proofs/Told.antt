@@ -3,7 +3,7 @@ use Rattle.std.proofs.Common.{◌≡◌, ℕ, ◌≤◌, ◌<◌, List, inl, inr
 use Rattle.bk_io.specs.Shelf.{Shelf, file_of}
 use Rattle.call_outcomes.specs.declared.outcome.Outcome.{Outcome}
 use Rattle.call_outcomes.specs.declared.outcome.Outcome.TheVariants.{FileFault, NoMemory}
-use Rattle.call_outcomes.specs.FromFile.{text_of, IsFront, IsCause}
+use Rattle.call_outcomes.specs.FromFile.{file_bytes, IsFront, IsCause}
 
 -- a front below the limit is the whole file
 pub short_front : (limit : ℕ) (file text : List ℕ) → text ≡ take limit file → limit ≤ length file → length text < limit → ⊥
@@ -15,7 +15,7 @@ whole_file P limit file text within front p = elim front [
   | inr w ↦ absurd (short_front limit file text w.0 w.1 within)
 ]
 
-pub short_told : (P : List ℕ → Type 0) (limit : ℕ) (told : Option Shelf) (name text : List ℕ) → length text < limit → IfSome told (λ shelf. IsFront limit (file_of shelf name) text) → P text → IfSome (text_of told name) P
+pub short_told : (P : List ℕ → Type 0) (limit : ℕ) (told : Option Shelf) (name text : List ℕ) → length text < limit → IfSome told (λ shelf. IsFront limit (file_of shelf name) text) → P text → IfSome (file_bytes told name) P
 short_told P limit None name text within front p = tt
 short_told P limit (Some shelf) name text within front p = whole_file P limit (file_of shelf name) text within front p
 
@@ -26,7 +26,7 @@ long_file limit file text long front = elim front [
   | inr w ↦ w.1
 ]
 
-pub long_told : (P : List ℕ → Type 0) (limit : ℕ) (told : Option Shelf) (name text : List ℕ) → ((file : List ℕ) → limit ≤ length file → P file) → limit ≤ length text → IfSome told (λ shelf. IsFront limit (file_of shelf name) text) → IfSome (text_of told name) P
+pub long_told : (P : List ℕ → Type 0) (limit : ℕ) (told : Option Shelf) (name text : List ℕ) → ((file : List ℕ) → limit ≤ length file → P file) → limit ≤ length text → IfSome told (λ shelf. IsFront limit (file_of shelf name) text) → IfSome (file_bytes told name) P
 long_told P limit None name text holds long front = tt
 long_told P limit (Some shelf) name text holds long front = holds (file_of shelf name) (long_file limit (file_of shelf name) text long front)
 

@@ -6,8 +6,8 @@ use Rattle.call_outcomes.specs.declared.outcome.Outcome.{Outcome}
 use Rattle.call_outcomes.specs.declared.outcome.Outcome.TheVariants.{FileFault, NoMemory}
 
 -- the bytes of a file, where they are told
-abbrev pub text_of : Option Shelf → List ℕ → Option (List ℕ)
-text_of told name = option_map (λ shelf. file_of shelf name) told
+abbrev pub file_bytes : Option Shelf → List ℕ → Option (List ℕ)
+file_bytes told name = option_map (λ shelf. file_of shelf name) told
 
 -- what is read of a file: all of it where it is shorter than the limit, else that many bytes
 abbrev pub IsFront : ℕ → List ℕ → List ℕ → Type 0

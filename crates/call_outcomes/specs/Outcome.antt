@@ -55,17 +55,17 @@ words_of (Trapped code) = codes "msc: trap "
 words_of (Stuck pc) = codes "msc: stuck at "
 
 -- the number at the end of the line
-abbrev pub number_of : Outcome → Option ℕ
-number_of (Budget steps) = Some steps
-number_of (BadImage at) = Some at
-number_of (BadAsm line) = Some line
-number_of (Limit which counted) = Some counted
-number_of (Refused (Lex at)) = Some at
-number_of (Refused (Syntax at)) = Some at
-number_of (Refused (Typing at kind)) = Some at
-number_of (Trapped code) = Some code
-number_of (Stuck pc) = Some pc
-number_of _ = None
+abbrev pub outcome_number : Outcome → Option ℕ
+outcome_number (Budget steps) = Some steps
+outcome_number (BadImage at) = Some at
+outcome_number (BadAsm line) = Some line
+outcome_number (Limit which counted) = Some counted
+outcome_number (Refused (Lex at)) = Some at
+outcome_number (Refused (Syntax at)) = Some at
+outcome_number (Refused (Typing at kind)) = Some at
+outcome_number (Trapped code) = Some code
+outcome_number (Stuck pc) = Some pc
+outcome_number _ = None
 
 abbrev pub line_with : List ℕ → ℕ → List ℕ
 line_with words n = words ++ (decimal n ++ 10 ∷ [])
@@ -76,21 +76,21 @@ with_number words (Some n) = line_with words n
 
 -- the bytes of the line
 abbrev pub line_of : Outcome → List ℕ
-line_of outcome = with_number (words_of outcome) (number_of outcome)
+line_of outcome = with_number (words_of outcome) (outcome_number outcome)
 
-abbrev pub status_of : Outcome → ℕ
-status_of Built = 0
-status_of Printed = 0
-status_of (Ran status) = status
-status_of Usage = 64
-status_of (Refused fault) = 65
-status_of FileFault = 66
-status_of (Limit which counted) = 69
-status_of NoMemory = 71
-status_of WriteFault = 73
-status_of InputFault = 74
-status_of (Budget steps) = 75
-status_of (BadImage at) = 76
-status_of (BadAsm line) = 77
-status_of (Trapped code) = 134
-status_of (Stuck pc) = 139
+abbrev pub exit_status : Outcome → ℕ
+exit_status Built = 0
+exit_status Printed = 0
+exit_status (Ran status) = status
+exit_status Usage = 64
+exit_status (Refused fault) = 65
+exit_status FileFault = 66
+exit_status (Limit which counted) = 69
+exit_status NoMemory = 71
+exit_status WriteFault = 73
+exit_status InputFault = 74
+exit_status (Budget steps) = 75
+exit_status (BadImage at) = 76
+exit_status (BadAsm line) = 77
+exit_status (Trapped code) = 134
+exit_status (Stuck pc) = 139

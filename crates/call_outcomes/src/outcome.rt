@@ -4,7 +4,7 @@ ghost use Rattle.std.specs.Prelude.{◌≡◌};
 ghost use Rattle.bk_memory.specs.Shortage.{MemoryIsShort};
 ghost use Rattle.bk_io.specs.Outside.{faults_after, TakesSlice};
 ghost use Rattle.call_outcomes.specs.declared.outcome.Outcome.TheVariants.{NoMemory};
-ghost use Rattle.call_outcomes.specs.Outcome.{line_of, typing_words, words_of, number_of, line_with, status_of};
+ghost use Rattle.call_outcomes.specs.Outcome.{line_of, typing_words, words_of, outcome_number, line_with, exit_status};
 ghost use Rattle.call_outcomes.specs.Output.{TookUnlessFault};
 
 use crate::output::put_three;
@@ -88,7 +88,7 @@ impl From<AllocError> for Outcome {
 
 /// The status of the process for an outcome.
 pub fn exit_code(outcome: &Outcome) -> u8
-    ensures { result ≡ status_of outcome.now }
+    ensures { result ≡ exit_status outcome.now }
 {
     match outcome {
         Outcome::Built | Outcome::Printed => 0,
@@ -194,7 +194,7 @@ fn words_of(outcome: &Outcome) -> &'static str
 
 /// The number at the end of an outcome's line.
 fn number(outcome: &Outcome) -> Option<u64>
-    ensures { result ≡ number_of outcome.now }
+    ensures { result ≡ outcome_number outcome.now }
 {
     match outcome {
         Outcome::Trapped { code } => Some(*code),

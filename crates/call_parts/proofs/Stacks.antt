@@ -7,7 +7,7 @@ use Rattle.alpha_isa.specs.declared.insn.MemoryOp.TheVariants.{Lda, Ldah}
 use Rattle.alpha_isa.specs.Arithmetic.{word_at, word_from}
 use Rattle.alpha_isa.specs.Program.{Program}
 use Rattle.alpha_isa.specs.State.{State, register, with_register}
-use Rattle.alpha_isa.specs.Step.{address, next_instruction}
+use Rattle.alpha_isa.specs.Step.{memory_address, next_instruction}
 use Rattle.alpha_items.specs.declared.item.AsmItem.{AsmItem}
 use Rattle.alpha_items.specs.declared.item.AsmItem.TheVariants.{Plain}
 use Rattle.alpha_items.specs.Words.{high_of}
@@ -77,15 +77,15 @@ stack-lowered p there w n sp rest end s h e small near = by_test (nat_lt n near_
   where
     by_test : (b : Bool) → IsAt p there w (if b then Plain (Memory Lda 30 30 (pos 0 -ℤ pos n)) ∷ rest else Plain (Memory Ldah 30 30 (pos 0 -ℤ pos (high_below n))) ∷ Plain (Memory Lda 30 30 (pos (high_below n * 65536) -ℤ pos n)) ∷ rest) end s → StackMoved p there rest end sp s
     by_test true h =
-        let f : address s 30 (pos 0 -ℤ pos n) ≡ sp = ap (λ k. word_at (k + word_from (pos 0 -ℤ pos n))) e ∙ down-sum (pos 0 -ℤ pos n) sp n refl small in
+        let f : memory_address s 30 (pos 0 -ℤ pos n) ≡ sp = ap (λ k. word_at (k + word_from (pos 0 -ℤ pos n))) e ∙ down-sum (pos 0 -ℤ pos n) sp n refl small in
         once p there rest end sp s (word-written p there w (Memory Lda 30 30 (pos 0 -ℤ pos n)) rest end 30 sp s h (omega arith) (omega (arith, small)) (ap (λ v. next_instruction (with_register 30 v s)) f))
     by_test false h =
         let u = word_at (sp + n + (2 ^ 64 - high_below n * 65536)) in
         let high : high_below n < 2 ^ 40 = omega (arith, near) in
-        let f : address s 30 ((pos 0 -ℤ pos (high_below n)) *ℤ pos 65536) ≡ u = ap (λ k. word_at (k + word_from ((pos 0 -ℤ pos (high_below n)) *ℤ pos 65536))) e ∙ down-high ((pos 0 -ℤ pos (high_below n)) *ℤ pos 65536) (sp + n) (high_below n) refl small high in
+        let f : memory_address s 30 ((pos 0 -ℤ pos (high_below n)) *ℤ pos 65536) ≡ u = ap (λ k. word_at (k + word_from ((pos 0 -ℤ pos (high_below n)) *ℤ pos 65536))) e ∙ down-high ((pos 0 -ℤ pos (high_below n)) *ℤ pos 65536) (sp + n) (high_below n) refl small high in
         let mid = Plain (Memory Lda 30 30 (pos (high_below n * 65536) -ℤ pos n)) ∷ rest in
         let x = word-written p there w (Memory Ldah 30 30 (pos 0 -ℤ pos (high_below n))) mid end 30 u s h (omega arith) (omega arith) (ap (λ v. next_instruction (with_register 30 v s)) f) in
-        let k : address x.to 30 (pos (high_below n * 65536) -ℤ pos n) ≡ sp = ap (λ z. word_at (z + word_from (pos (high_below n * 65536) -ℤ pos n))) x.here ∙ down-rest (pos (high_below n * 65536) -ℤ pos n) sp n (high_below n) refl small near high in
+        let k : memory_address x.to 30 (pos (high_below n * 65536) -ℤ pos n) ≡ sp = ap (λ z. word_at (z + word_from (pos (high_below n * 65536) -ℤ pos n))) x.here ∙ down-rest (pos (high_below n * 65536) -ℤ pos n) sp n (high_below n) refl small near high in
         twice p there mid rest end u sp s x (word-written p there x.come.next (Memory Lda 30 30 (pos (high_below n * 65536) -ℤ pos n)) rest end 30 sp x.to x.come.is_at (omega arith) (omega (arith, small)) (ap (λ v. next_instruction (with_register 30 v x.to)) k))
 
 pub stack-raised : (p : Program) (there : Labels) (w n sp : ℕ) (rest : List AsmItem) (end : ℕ) (s : State) → IsAt p there w (raise_stack n rest) end s → register s 30 ≡ sp → sp + n < 2 ^ 64 → n < 2147450880 → StackMoved p there rest end (sp + n) s
@@ -93,12 +93,12 @@ stack-raised p there w n sp rest end s h e small near = by_test (nat_lt n near_s
   where
     by_test : (b : Bool) → IsAt p there w (if b then Plain (Memory Lda 30 30 (pos n)) ∷ rest else Plain (Memory Ldah 30 30 (pos (high_of n))) ∷ Plain (Memory Lda 30 30 (pos n -ℤ pos (high_of n * 65536))) ∷ rest) end s → StackMoved p there rest end (sp + n) s
     by_test true h =
-        let f : address s 30 (pos n) ≡ sp + n = ap (λ k. word_at (k + word_from (pos n))) e ∙ (let g : word_at (sp + n) ≡ sp + n = omega (arith, small) in g) in
+        let f : memory_address s 30 (pos n) ≡ sp + n = ap (λ k. word_at (k + word_from (pos n))) e ∙ (let g : word_at (sp + n) ≡ sp + n = omega (arith, small) in g) in
         once p there rest end (sp + n) s (word-written p there w (Memory Lda 30 30 (pos n)) rest end 30 (sp + n) s h (omega arith) small (ap (λ v. next_instruction (with_register 30 v s)) f))
     by_test false h =
         let u = word_at (sp + high_of n * 65536) in
-        let f : address s 30 (pos (high_of n) *ℤ pos 65536) ≡ u = ap (λ k. word_at (k + high_of n * 65536)) e in
+        let f : memory_address s 30 (pos (high_of n) *ℤ pos 65536) ≡ u = ap (λ k. word_at (k + high_of n * 65536)) e in
         let mid = Plain (Memory Lda 30 30 (pos n -ℤ pos (high_of n * 65536))) ∷ rest in
         let x = word-written p there w (Memory Ldah 30 30 (pos (high_of n))) mid end 30 u s h (omega arith) (omega arith) (ap (λ v. next_instruction (with_register 30 v s)) f) in
-        let k : address x.to 30 (pos n -ℤ pos (high_of n * 65536)) ≡ sp + n = ap (λ z. word_at (z + word_from (pos n -ℤ pos (high_of n * 65536)))) x.here ∙ up-rest (pos n -ℤ pos (high_of n * 65536)) sp n (high_of n * 65536) refl small (omega (arith, near)) (omega (arith, near)) in
+        let k : memory_address x.to 30 (pos n -ℤ pos (high_of n * 65536)) ≡ sp + n = ap (λ z. word_at (z + word_from (pos n -ℤ pos (high_of n * 65536)))) x.here ∙ up-rest (pos n -ℤ pos (high_of n * 65536)) sp n (high_of n * 65536) refl small (omega (arith, near)) (omega (arith, near)) in
         twice p there mid rest end u (sp + n) s x (word-written p there x.come.next (Memory Lda 30 30 (pos n -ℤ pos (high_of n * 65536))) rest end 30 (sp + n) x.to x.come.is_at (omega arith) small (ap (λ v. next_instruction (with_register 30 v x.to)) k))

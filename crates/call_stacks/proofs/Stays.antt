@@ -17,12 +17,12 @@ use Rattle.flat_memory.specs.Laws.{MoreExtents}
 use Rattle.flat_memory.proofs.Numbers.{bytes_from-same}
 use Rattle.flat_operations.specs.Contents.{ContentIs}
 use Rattle.flat_operations.proofs.Operations.{contents_stay}
-use Rattle.flat_frames.specs.Shapes.{FrameShape, frame_size, return_at, saved_at, slot_at, argument_at, objects_at, object_at, object_owner, owner_at, IsPiece}
+use Rattle.flat_frames.specs.Shapes.{FrameShape, frame_size, return_at, saved_at, slot_at, argument_at, objects_at, frame_object_at, object_owner, owner_at, IsPiece}
 use Rattle.flat_frames.specs.Frames.{word_in, FrameIs, is_written_piece, is_written}
 use Rattle.flat_frames.proofs.Shapes.{pieces_of}
 use Rattle.frame_transfers.specs.Laws.{CallAt, IsKept}
 use Rattle.instruction_items.specs.Laws.{IsHeldArgument, ArgumentIs}
-use Rattle.call_stacks.specs.Stacks.{Waiting, call_of, view_above, Start, CallersAre, StackIs, KeepsCallers}
+use Rattle.call_stacks.specs.Stacks.{Waiting, call_frame, view_above, Start, CallersAre, StackIs, KeepsCallers}
 
 -- ---- owners
 
@@ -89,7 +89,7 @@ module _ (xs ys : Extents) (owner new : Owners) (m k : Bytes) (depth bound : ℕ
     outgoing = λ j jl. contents_stay xs ys (store (Out j)) (word_in k (sp + argument_at j)) more
         (subst (ContentIs xs (store (Out j))) (sym (piece-stays sp d own s store le f (argument_at j) (ArgumentPiece j) ((pieces_of s d own).arguments j jl) (above-unwritten depth d (ArgumentPiece j) lt))) (f.outgoing j jl));
     owned = λ i il. keeps.owners (sp + i) (omega (arith, le)) (λ e. frame-owned s d own i (sym (f.owned i il) ∙ e)) ∙ f.owned i il;
-    objects = λ j n e. more (own + j) (record { base = sp + object_at s j; size = n }) (f.objects j n e);
+    objects = λ j n e. more (own + j) (record { base = sp + frame_object_at s j; size = n }) (f.objects j n e);
   }
 
   -- arguments of a call, which its caller owns
@@ -126,7 +126,7 @@ callers_stay p there start xs ys owner new m k depth bound more keeps (g ∷ gs)
       (λ r from to. subst (ContentIs ys (g.held (Reg r))) (sym (same r from to)) (contents_stay xs ys (g.held (Reg r)) (u r) more (a.1 r from to))),
       record {
         frame = frame-stays xs ys owner new m k depth bound more keeps up (length gs) g.own g.shape g.held less high a.2.frame;
-        arguments = λ j. argument-stays xs ys owner new m k depth bound more keeps (call_of xs owner up (length gs) g) j (g.held (In j)) (omega (arith, less)) high (a.2.arguments j);
+        arguments = λ j. argument-stays xs ys owner new m k depth bound more keeps (call_frame xs owner up (length gs) g) j (g.held (In j)) (omega (arith, less)) high (a.2.arguments j);
       },
       callers_stay p there start xs ys owner new m k depth bound more keeps gs (view_above m up g.shape u) (view_above k up g.shape v) up g.own g.shape g.held (omega (arith, less)) high a.2.frame
           (λ r from to.

@@ -25,8 +25,8 @@ pub record Waiting : Type 0 where
   pub end : ℕ
 
 -- the frame of a call that waits, at an address, with so many calls that wait above it
-abbrev pub call_of : Extents → Owners → (sp depth : ℕ) → Waiting → CallAt
-call_of xs owner sp depth g =
+abbrev pub call_frame : Extents → Owners → (sp depth : ℕ) → Waiting → CallAt
+call_frame xs owner sp depth g =
     record { extents = xs; owner = owner; sp = sp; depth = depth; own = g.own; shape = g.shape }
 
 -- a word is the address of a place where items stand
@@ -47,7 +47,7 @@ KeptAre xs held view = (r : ℕ) → 9 ≤ r → r < 16 → ContentIs xs (held (
 -- a call waits with its frame at an address
 pub record WaitsAt (xs : Extents) (owner : Owners) (m : Bytes) (sp depth : ℕ) (g : Waiting) : Type 0 where
   pub frame : FrameIs xs owner m sp depth g.own g.shape g.held
-  pub arguments : ArgumentsAre (call_of xs owner sp depth g) g.held m
+  pub arguments : ArgumentsAre (call_frame xs owner sp depth g) g.held m
 
 -- where the first call of a run returns to, and the end of the stack
 pub record Start : Type 0 where

@@ -15,19 +15,19 @@ use Rattle.machine_model.specs.Machine.{begin_locals, end_locals}
 use Rattle.temp_ir.specs.declared.insn.TempInsn.{TempInsn}
 use Rattle.temp_ir.specs.declared.insn.TempInsn.TheVariants as i
 use Rattle.alloc_model.specs.declared.allocation.Transfer.{Transfer}
-use Rattle.alloc_model.specs.Temporaries.{status_of}
+use Rattle.alloc_model.specs.Temporaries.{result_status}
 use Rattle.alloc_model.specs.Places.{Places, Plan, placed_site, do_all, places_read_at}
 use Rattle.frame_transfers.specs.Items.{items_of_transfers}
 use Rattle.frame_transfers.specs.Laws.{CallAt, FitsTheStack, StandsFor}
 use Rattle.call_entries.specs.Items.{ItemSetting, function_label, insn_items}
-use Rattle.call_entries.specs.Laws.{usable, HasOuter, RunIsOver}
+use Rattle.call_entries.specs.Laws.{is_usable, HasOuter, RunIsOver}
 use Rattle.call_entries.proofs.Runs.{jumps_are_done}
 use Rattle.call_parts.specs.Items.{exit_part}
 use Rattle.call_entries.specs.Stacks.{Waiting, Start, StackIs}
 use Rattle.call_entries.proofs.Stays.{stacks_stay}
-use Rattle.call_entries.specs.Entering.{passed, entry_places, called, HasRoom, EntryIs}
+use Rattle.call_entries.specs.Entering.{call_contents, entry_places, called_frame, HasRoom, EntryIs}
 use Rattle.call_entries.proofs.Entering.{calls_are_entered}
-use Rattle.call_exits.specs.Leaving.{returned, caller_of, resumed, ending_items, ExitIs}
+use Rattle.call_exits.specs.Leaving.{result_contents, caller_of, resumed_places, ending_items, ExitIs}
 use Rattle.call_exits.proofs.Leaving.{calls_are_left}
 use Rattle.call_exits.proofs.Ending.{runs_are_ended}
 use Rattle.edge_steps.specs.Points.{AllMayTransfer, PointIsLeft}
@@ -44,30 +44,30 @@ first-block a g (first ∷ blocks) insns rest e =
     let is : first ≡ insns = cc in
     ap (λ z. Label (g.block_label 0) ∷ block_items a g 0 z (blocks_items a g 1 blocks rest)) is
 
-calls-made : (p : Program) (there : Labels) (start : Start) (g : ItemSetting) (rest : List AsmItem) (end : ℕ) (c : CallAt) (gs : List Waiting) (o : Outer) (store : Places) (s : State) → FitsTheStack c → StackIs p there start c gs store s → HasOuter o s → (transfers : List Transfer) → AllMayTransfer c.shape transfers → (function arguments : ℕ) → arguments ≤ c.shape.outgoing + 6 → (a : Plan) (f : ItemSetting) (behind : List AsmItem) (last : ℕ) → FunctionStands p there a f function behind last → (insns : List TempInsn) → slice_get a.function.blocks 0 ≡ Some insns → top_transfers a 0 ≡ [] → HasRoom p c f.shape → StandsFor p there (items_of_transfers c.shape transfers (Branch Bsr 26 (function_label function) ∷ rest)) end c o.memory usable store s → EntryIs p there start (first_items a f insns behind) last c (called c f.shape (length o.memory)) gs o (do_all transfers store) (entry_places (passed function arguments (do_all transfers store))) rest end s
+calls-made : (p : Program) (there : Labels) (start : Start) (g : ItemSetting) (rest : List AsmItem) (end : ℕ) (c : CallAt) (gs : List Waiting) (o : Outer) (store : Places) (s : State) → FitsTheStack c → StackIs p there start c gs store s → HasOuter o s → (transfers : List Transfer) → AllMayTransfer c.shape transfers → (function arguments : ℕ) → arguments ≤ c.shape.outgoing + 6 → (a : Plan) (f : ItemSetting) (behind : List AsmItem) (last : ℕ) → FunctionStands p there a f function behind last → (insns : List TempInsn) → slice_get a.function.blocks 0 ≡ Some insns → top_transfers a 0 ≡ [] → HasRoom p c f.shape → StandsFor p there (items_of_transfers c.shape transfers (Branch Bsr 26 (function_label function) ∷ rest)) end c o.memory is_usable store s → EntryIs p there start (first_items a f insns behind) last c (called_frame c f.shape (length o.memory)) gs o (do_all transfers store) (entry_places (call_contents function arguments (do_all transfers store))) rest end s
 calls-made p there start g rest end c gs o store s call stack outer transfers may function arguments few a f behind last stands insns is top room h =
     let held = do_all transfers store in
     let d = edges_are_done p there start (Branch Bsr 26 (function_label function) ∷ rest) end c gs o store s call stack outer transfers (can-transfer-all c.shape transfers may) h in
     let blocks = blocks_items a f 0 a.function.blocks (exit_items f behind) in
     let e = calls_are_entered p there start c gs o held rest end d.to call d.stack d.outer (function_label function) function arguments f.shape blocks last stands.entry room few d.stands in
-    let D = called c f.shape (length o.memory) in
-    let entry = entry_places (passed function arguments held) in
+    let D = called_frame c f.shape (length o.memory) in
+    let entry = entry_places (call_contents function arguments held) in
     let later = blocks_items a f 1 (drop 1 a.function.blocks) (exit_items f behind) in
-    let at = subst (λ l. StandsFor p there l last D (begin_locals o f.shape.sizes).memory usable entry e.to) (first-block a f a.function.blocks insns (exit_items f behind) is) e.stands in
+    let at = subst (λ l. StandsFor p there l last D (begin_locals o f.shape.sizes).memory is_usable entry e.to) (first-block a f a.function.blocks insns (exit_items f behind) is) e.stands in
     let first = label-passed p there (block_items a f 0 insns later) last D (begin_locals o f.shape.sizes).memory entry e.to (f.block_label 0) at in
     record {
       to = e.to;
       comes = steps_add_up p s d.to e.to d.comes e.comes;
       some = second-some p s d.to e.to d.comes e.comes e.some;
       is_call = e.is_call;
-      stands = subst (λ xs. StandsFor p there (items_of_transfers f.shape xs (first_items a f insns behind)) last D (begin_locals o f.shape.sizes).memory usable entry e.to) top first;
+      stands = subst (λ xs. StandsFor p there (items_of_transfers f.shape xs (first_items a f insns behind)) last D (begin_locals o f.shape.sizes).memory is_usable entry e.to) top first;
       stack = e.stack;
       outer = e.outer;
     }
 
-pub calls_are_done : (p : Program) (there : Labels) (start : Start) (g : ItemSetting) (rest : List AsmItem) (end : ℕ) (c : CallAt) (gs : List Waiting) (o : Outer) (store : Places) (s : State) → FitsTheStack c → StackIs p there start c gs store s → HasOuter o s → (transfers : List Transfer) → AllMayTransfer c.shape transfers → (widest function arguments : ℕ) (registers : List ℕ) → registers ≡ [] → arguments ≤ c.shape.outgoing + 6 → (a : Plan) (f : ItemSetting) (behind : List AsmItem) (last : ℕ) → FunctionStands p there a f function behind last → (insns : List TempInsn) → slice_get a.function.blocks 0 ≡ Some insns → top_transfers a 0 ≡ [] → HasRoom p c f.shape → StandsFor p there (items_of_transfers c.shape transfers (insn_items g registers (i.Call function arguments) ++ rest)) end c o.memory usable store s → EntryIs p there start (first_items a f insns behind) last c (called c f.shape (length o.memory)) gs o (do_all transfers store) (entry_places ((placed_site widest transfers registers (i.Call function arguments)).fetch store)) rest end s
+pub calls_are_done : (p : Program) (there : Labels) (start : Start) (g : ItemSetting) (rest : List AsmItem) (end : ℕ) (c : CallAt) (gs : List Waiting) (o : Outer) (store : Places) (s : State) → FitsTheStack c → StackIs p there start c gs store s → HasOuter o s → (transfers : List Transfer) → AllMayTransfer c.shape transfers → (widest function arguments : ℕ) (registers : List ℕ) → registers ≡ [] → arguments ≤ c.shape.outgoing + 6 → (a : Plan) (f : ItemSetting) (behind : List AsmItem) (last : ℕ) → FunctionStands p there a f function behind last → (insns : List TempInsn) → slice_get a.function.blocks 0 ≡ Some insns → top_transfers a 0 ≡ [] → HasRoom p c f.shape → StandsFor p there (items_of_transfers c.shape transfers (insn_items g registers (i.Call function arguments) ++ rest)) end c o.memory is_usable store s → EntryIs p there start (first_items a f insns behind) last c (called_frame c f.shape (length o.memory)) gs o (do_all transfers store) (entry_places ((placed_site widest transfers registers (i.Call function arguments)).fetch store)) rest end s
 calls_are_done p there start g rest end c gs o store s call stack outer transfers may widest function arguments registers none few a f behind last stands insns is top room h =
-    subst (λ rs. EntryIs p there start (first_items a f insns behind) last c (called c f.shape (length o.memory)) gs o (do_all transfers store) (entry_places ((placed_site widest transfers rs (i.Call function arguments)).fetch store)) rest end s) (sym none)
+    subst (λ rs. EntryIs p there start (first_items a f insns behind) last c (called_frame c f.shape (length o.memory)) gs o (do_all transfers store) (entry_places ((placed_site widest transfers rs (i.Call function arguments)).fetch store)) rest end s) (sym none)
     (calls-made p there start g rest end c gs o store s call stack outer transfers may function arguments few a f behind last stands insns is top room h)
 
 -- ---- returns
@@ -75,9 +75,9 @@ calls_are_done p there start g rest end c gs o store s call stack outer transfer
 -- the machine has come to the exit part
 record AtExit (p : Program) (there : Labels) (start : Start) (g : ItemSetting) (behind : List AsmItem) (last : ℕ) (c : CallAt) (gs : List Waiting) (o : Outer) (held : Places) (s : State) : Type 0 where
   left : PointIsLeft p there start g.exit_label c gs o held s
-  stands : StandsFor p there (exit_part c.shape c.shape.saves behind) last c o.memory usable held left.to
+  stands : StandsFor p there (exit_part c.shape c.shape.saves behind) last c o.memory is_usable held left.to
 
-at-exit : (p : Program) (there : Labels) (start : Start) (g : ItemSetting) (rest : List AsmItem) (end : ℕ) (c : CallAt) (gs : List Waiting) (o : Outer) (store : Places) (s : State) → FitsTheStack c → g.shape ≡ c.shape → StackIs p there start c gs store s → HasOuter o s → (transfers : List Transfer) → AllMayTransfer c.shape transfers → (number : ℕ) (a : Plan) (behind : List AsmItem) (last : ℕ) → FunctionStands p there a g number behind last → StandsFor p there (items_of_transfers c.shape transfers (Branch Br 31 g.exit_label ∷ rest)) end c o.memory usable store s → AtExit p there start g behind last c gs o (do_all transfers store) s
+at-exit : (p : Program) (there : Labels) (start : Start) (g : ItemSetting) (rest : List AsmItem) (end : ℕ) (c : CallAt) (gs : List Waiting) (o : Outer) (store : Places) (s : State) → FitsTheStack c → g.shape ≡ c.shape → StackIs p there start c gs store s → HasOuter o s → (transfers : List Transfer) → AllMayTransfer c.shape transfers → (number : ℕ) (a : Plan) (behind : List AsmItem) (last : ℕ) → FunctionStands p there a g number behind last → StandsFor p there (items_of_transfers c.shape transfers (Branch Br 31 g.exit_label ∷ rest)) end c o.memory is_usable store s → AtExit p there start g behind last c gs o (do_all transfers store) s
 at-exit p there start g rest end c gs o store s call shape stack outer transfers may number a behind last stands h =
     let held = do_all transfers store in
     let d = edges_are_done p there start (Branch Br 31 g.exit_label ∷ rest) end c gs o store s call stack outer transfers (can-transfer-all c.shape transfers may) h in
@@ -91,16 +91,16 @@ at-exit p there start g rest end c gs o store s call shape stack outer transfers
         stack = stacks_stay p there start c gs held held d.to j.to d.stack d.stands.frame.frame (λ k. refl) j.kept;
         outer = j.outer;
       };
-      stands = subst (λ z. StandsFor p there (exit_part z z.saves behind) last c o.memory usable held j.to) shape (j.stands (exit_part g.shape g.shape.saves behind) last stands.exit);
+      stands = subst (λ z. StandsFor p there (exit_part z z.saves behind) last c o.memory is_usable held j.to) shape (j.stands (exit_part g.shape g.shape.saves behind) last stands.exit);
     }
 
-pub returns_are_done : (p : Program) (there : Labels) (start : Start) (g : ItemSetting) (rest : List AsmItem) (end : ℕ) (c : CallAt) (w : Waiting) (gs : List Waiting) (o : Outer) (store : Places) (s : State) → FitsTheStack c → g.shape ≡ c.shape → StackIs p there start c (w ∷ gs) store s → HasOuter o s → (transfers : List Transfer) → AllMayTransfer c.shape transfers → (widest function arguments number : ℕ) (with_value : Bool) (registers : List ℕ) → registers ≡ [] → (a : Plan) (behind : List AsmItem) (last : ℕ) → FunctionStands p there a g number behind last → StandsFor p there (items_of_transfers c.shape transfers (insn_items g registers (i.Return with_value) ++ rest)) end c o.memory usable store s → ExitIs p there start w gs (caller_of c (length gs) w) (end_locals o c.own (length c.shape.sizes)) (resumed function arguments w ((placed_site widest transfers registers (i.Return with_value)).fetch store)) s
+pub returns_are_done : (p : Program) (there : Labels) (start : Start) (g : ItemSetting) (rest : List AsmItem) (end : ℕ) (c : CallAt) (w : Waiting) (gs : List Waiting) (o : Outer) (store : Places) (s : State) → FitsTheStack c → g.shape ≡ c.shape → StackIs p there start c (w ∷ gs) store s → HasOuter o s → (transfers : List Transfer) → AllMayTransfer c.shape transfers → (widest function arguments number : ℕ) (with_value : Bool) (registers : List ℕ) → registers ≡ [] → (a : Plan) (behind : List AsmItem) (last : ℕ) → FunctionStands p there a g number behind last → StandsFor p there (items_of_transfers c.shape transfers (insn_items g registers (i.Return with_value) ++ rest)) end c o.memory is_usable store s → ExitIs p there start w gs (caller_of c (length gs) w) (end_locals o c.own (length c.shape.sizes)) (resumed_places function arguments w ((placed_site widest transfers registers (i.Return with_value)).fetch store)) s
 returns_are_done p there start g rest end c w gs o store s call shape stack outer transfers may widest function arguments number with_value registers none a behind last stands h =
     let held = do_all transfers store in
     let x = at-exit p there start g rest end c (w ∷ gs) o store s call shape stack outer transfers may number a behind last stands h in
     let t = x.left.to in
     let d = calls_are_left p there start c w gs o held behind last t call x.left.stack x.left.outer function arguments with_value x.stands in
-    subst (λ rs. ExitIs p there start w gs (caller_of c (length gs) w) (end_locals o c.own (length c.shape.sizes)) (resumed function arguments w ((placed_site widest transfers rs (i.Return with_value)).fetch store)) s) (sym none)
+    subst (λ rs. ExitIs p there start w gs (caller_of c (length gs) w) (end_locals o c.own (length c.shape.sizes)) (resumed_places function arguments w ((placed_site widest transfers rs (i.Return with_value)).fetch store)) s) (sym none)
     (record {
       to = d.to;
       comes = steps_add_up p s t d.to x.left.comes d.comes;
@@ -110,12 +110,12 @@ returns_are_done p there start g rest end c w gs o store s call shape stack oute
       outer = d.outer;
     })
 
-pub last_returns_are_done : (p : Program) (there : Labels) (start : Start) (g : ItemSetting) (rest : List AsmItem) (end : ℕ) (c : CallAt) (o : Outer) (store : Places) (s : State) → FitsTheStack c → g.shape ≡ c.shape → StackIs p there start c [] store s → HasOuter o s → start.behind ≡ ending_items → (transfers : List Transfer) → AllMayTransfer c.shape transfers → (widest number status : ℕ) (with_value : Bool) (registers : List ℕ) → registers ≡ [] → (a : Plan) (behind : List AsmItem) (last : ℕ) → FunctionStands p there a g number behind last → status_of ((placed_site widest transfers registers (i.Return with_value)).fetch store) ≡ Some status → StandsFor p there (items_of_transfers c.shape transfers (insn_items g registers (i.Return with_value) ++ rest)) end c o.memory usable store s → RunIsOver p (end_locals o c.own (length c.shape.sizes)) (Done status) s
+pub last_returns_are_done : (p : Program) (there : Labels) (start : Start) (g : ItemSetting) (rest : List AsmItem) (end : ℕ) (c : CallAt) (o : Outer) (store : Places) (s : State) → FitsTheStack c → g.shape ≡ c.shape → StackIs p there start c [] store s → HasOuter o s → start.behind ≡ ending_items → (transfers : List Transfer) → AllMayTransfer c.shape transfers → (widest number status : ℕ) (with_value : Bool) (registers : List ℕ) → registers ≡ [] → (a : Plan) (behind : List AsmItem) (last : ℕ) → FunctionStands p there a g number behind last → result_status ((placed_site widest transfers registers (i.Return with_value)).fetch store) ≡ Some status → StandsFor p there (items_of_transfers c.shape transfers (insn_items g registers (i.Return with_value) ++ rest)) end c o.memory is_usable store s → RunIsOver p (end_locals o c.own (length c.shape.sizes)) (Done status) s
 last_returns_are_done p there start g rest end c o store s call shape stack outer items transfers may widest number status with_value registers none a behind last stands e h =
     let held = do_all transfers store in
     let x = at-exit p there start g rest end c [] o store s call shape stack outer transfers may number a behind last stands h in
     let t = x.left.to in
-    let is : status_of (returned with_value held) ≡ Some status = subst (λ rs. status_of (map held (places_read_at rs (i.Return with_value))) ≡ Some status) none e in
+    let is : result_status (result_contents with_value held) ≡ Some status = subst (λ rs. result_status (map held (places_read_at rs (i.Return with_value))) ≡ Some status) none e in
     let d = runs_are_ended p there start c o held behind last t call x.left.stack x.left.outer items with_value status is x.stands in
     record {
       steps = x.left.comes.steps + d.steps;

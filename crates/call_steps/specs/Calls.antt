@@ -10,15 +10,15 @@ use Rattle.machine_model.specs.Machine.{end_locals}
 use Rattle.temp_ir.specs.declared.insn.TempInsn.{TempInsn}
 use Rattle.temp_ir.specs.declared.insn.TempInsn.TheVariants as i
 use Rattle.alloc_model.specs.declared.allocation.Transfer.{Transfer}
-use Rattle.alloc_model.specs.Temporaries.{status_of}
+use Rattle.alloc_model.specs.Temporaries.{result_status}
 use Rattle.alloc_model.specs.Places.{Places, Plan, placed_site, do_all}
 use Rattle.frame_transfers.specs.Items.{items_of_transfers}
 use Rattle.frame_transfers.specs.Laws.{CallAt, FitsTheStack, StandsFor}
 use Rattle.call_entries.specs.Items.{ItemSetting, insn_items}
-use Rattle.call_entries.specs.Laws.{usable, HasOuter, RunIsOver}
+use Rattle.call_entries.specs.Laws.{is_usable, HasOuter, RunIsOver}
 use Rattle.call_entries.specs.Stacks.{Waiting, Start, StackIs}
-use Rattle.call_entries.specs.Entering.{entry_places, called, HasRoom, EntryIs}
-use Rattle.call_exits.specs.Leaving.{caller_of, resumed, ending_items, ExitIs}
+use Rattle.call_entries.specs.Entering.{entry_places, called_frame, HasRoom, EntryIs}
+use Rattle.call_exits.specs.Leaving.{caller_of, resumed_places, ending_items, ExitIs}
 use Rattle.edge_steps.specs.Points.{AllMayTransfer}
 use Rattle.edge_steps.specs.Items.{top_transfers, insns_items, end_transfers, blocks_items, exit_items}
 use Rattle.edge_steps.specs.Laws.{FunctionStands}
@@ -41,8 +41,8 @@ CallsAreDone =
     HasRoom p c f.shape →
     StandsFor p there
     (items_of_transfers c.shape transfers (insn_items g registers (i.Call function arguments) ++ rest)) end c o.memory
-    usable store s →
-    EntryIs p there start (first_items a f insns behind) last c (called c f.shape (length o.memory)) gs o
+    is_usable store s →
+    EntryIs p there start (first_items a f insns behind) last c (called_frame c f.shape (length o.memory)) gs o
     (do_all transfers store)
     (entry_places ((placed_site widest transfers registers (i.Call function arguments)).fetch store)) rest end s
 
@@ -57,9 +57,9 @@ ReturnsAreDone =
     (a : Plan) (behind : List AsmItem) (last : ℕ) → FunctionStands p there a g number behind last →
     StandsFor p there
     (items_of_transfers c.shape transfers (insn_items g registers (i.Return with_value) ++ rest)) end c o.memory
-    usable store s →
+    is_usable store s →
     ExitIs p there start w gs (caller_of c (length gs) w) (end_locals o c.own (length c.shape.sizes))
-    (resumed function arguments w ((placed_site widest transfers registers (i.Return with_value)).fetch store)) s
+    (resumed_places function arguments w ((placed_site widest transfers registers (i.Return with_value)).fetch store)) s
 
 -- the return of the first function ends the run
 abbrev pub LastReturnsAreDone : Type 0
@@ -70,8 +70,8 @@ LastReturnsAreDone =
     (transfers : List Transfer) → AllMayTransfer c.shape transfers →
     (widest number status : ℕ) (with_value : Bool) (registers : List ℕ) → registers ≡ [] →
     (a : Plan) (behind : List AsmItem) (last : ℕ) → FunctionStands p there a g number behind last →
-    status_of ((placed_site widest transfers registers (i.Return with_value)).fetch store) ≡ Some status →
+    result_status ((placed_site widest transfers registers (i.Return with_value)).fetch store) ≡ Some status →
     StandsFor p there
     (items_of_transfers c.shape transfers (insn_items g registers (i.Return with_value) ++ rest)) end c o.memory
-    usable store s →
+    is_usable store s →
     RunIsOver p (end_locals o c.own (length c.shape.sizes)) (Done status) s

@@ -5,7 +5,7 @@ use Rattle.std.specs.Char.{is_ascii_digit}
 use Rattle.std.specs.List.{list_all}
 use Rattle.std.specs.Str.Parse.{digits_value, ParsesUnsigned}
 use Rattle.std.proofs.lemmas.Str.Parse.{IsNumeralModel, numerals_by_value, parse_digits}
-use Rattle.call_words.specs.Numbers.{is_number, when_within, number_within}
+use Rattle.call_words.specs.Numbers.{is_decimal, when_within, number_within}
 
 own : IsNumeralModel (λ ds. list_all is_ascii_digit ds ≡ true) (digits_value 10)
 own = numerals_by_value _ (search rules)
@@ -14,7 +14,7 @@ beyond : (low high n : ℕ) → high < n → None ≡ when_within low high n
 beyond low high n large = search rules
 
 -- a text of digits that is no word has a number beyond each word
-pub too_large : {E : Type 0} (low high : ℕ) (text : List ℕ) (e : E) → high < 2 ^ 64 → is_number text ≡ true → ParsesUnsigned 64 10 text (Err e) → None ≡ number_within low high text
+pub too_large : {E : Type 0} (low high : ℕ) (text : List ℕ) (e : E) → high < 2 ^ 64 → is_decimal text ≡ true → ParsesUnsigned 64 10 text (Err e) → None ≡ number_within low high text
 too_large low high text e word number parses =
     let digits : list_all is_ascii_digit text ≡ true = search rules in
     let some : 0 < length text = search rules in

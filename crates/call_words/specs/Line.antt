@@ -39,7 +39,8 @@ bare_line = on_top (λ s. record s { disable_help_flag = true; disable_version_f
 
 abbrev pub command_line : App
 command_line =
-    fold with_rule bare_line (command_rule ∷ file_rule ∷ option_rule option.Pass ∷ option_rule option.Alloc ∷ option_rule option.Stack
+    fold with_rule bare_line (command_rule ∷ file_rule ∷ option_rule option.Pass ∷ option_rule option.Alloc
+    ∷ option_rule option.Stack
     ∷ option_rule option.Budget ∷ option_rule option.Seed ∷ option_rule option.Size ∷ [])
 
 -- no kind of fault

@@ -6,8 +6,8 @@ use Rattle.std.specs.Str.Parse.{digits_value}
 use Rattle.call_words.specs.Limits.{least_stack, most_stack, least_budget, most_budget, most_digits}
 
 -- one to twenty decimal digits
-abbrev pub is_number : List ℕ → Bool
-is_number text = nat_le 1 (length text) && (nat_le (length text) most_digits && list_all is_ascii_digit text)
+abbrev pub is_decimal : List ℕ → Bool
+is_decimal text = nat_le 1 (length text) && (nat_le (length text) most_digits && list_all is_ascii_digit text)
 
 -- what lies between two numbers
 abbrev pub when_within : (low high : ℕ) → ℕ → Option ℕ
@@ -15,7 +15,7 @@ when_within low high n = if nat_le low n && nat_le n high then Some n else None
 
 -- the number of a text, where it is from the one to the other
 abbrev pub number_within : (low high : ℕ) → List ℕ → Option ℕ
-number_within low high text = if is_number text then when_within low high (digits_value 10 text) else None
+number_within low high text = if is_decimal text then when_within low high (digits_value 10 text) else None
 
 -- a stack is a multiple of 16
 abbrev pub when_whole : ℕ → Option ℕ

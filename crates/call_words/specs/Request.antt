@@ -29,8 +29,8 @@ abbrev pub exec_in : List Row → Option Command
 exec_in rows = unless_given (Pass ∷ Alloc ∷ Seed ∷ Size ∷ []) rows (option_map Exec (limits_in rows))
 
 -- a command without options
-abbrev pub alone : Command → List Row → Option Command
-alone command rows = unless_given (Pass ∷ Alloc ∷ Stack ∷ Budget ∷ Seed ∷ Size ∷ []) rows (Some command)
+abbrev pub no_options : Command → List Row → Option Command
+no_options command rows = unless_given (Pass ∷ Alloc ∷ Stack ∷ Budget ∷ Seed ∷ Size ∷ []) rows (Some command)
 
 abbrev pub print_in : List Row → Option Command
 print_in rows =
@@ -44,8 +44,8 @@ command_of word rows =
     else if bytes_eq word (codes "run") then run_in rows
     else if bytes_eq word (codes "vm") then vm_in rows
     else if bytes_eq word (codes "exec") then exec_in rows
-    else if bytes_eq word (codes "migrate") then alone Migrate rows
-    else if bytes_eq word (codes "assemble") then alone Assemble rows
+    else if bytes_eq word (codes "migrate") then no_options Migrate rows
+    else if bytes_eq word (codes "assemble") then no_options Assemble rows
     else if bytes_eq word (codes "print") then print_in rows
     else None
 
@@ -62,8 +62,8 @@ unfoldable pub request_of : List (List ℕ) → Option (Command × List ℕ)
 request_of words = if are_well words then request_in (rows_in words) else None
 
 -- a request of the code, as such a pair
-abbrev pub shown : Option Request → Option (Command × List ℕ)
-shown = option_map (λ r. (r.command, r.file.now))
+abbrev pub shown_request : Option Request → Option (Command × List ℕ)
+shown_request = option_map (λ r. (r.command, r.file.now))
 
 -- why the words are not read
 abbrev pub IsWordsFault : List (List ℕ) → WordsFault → Type 0

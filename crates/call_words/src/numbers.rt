@@ -28,7 +28,7 @@ fn are_digits(bytes: &[u8]) -> bool
 
 /// Whether a text is one to twenty decimal digits.
 fn is_number(text: &str) -> bool
-    ensures { result ≡ spec.is_number text.now }
+    ensures { result ≡ spec.is_decimal text.now }
 {
     let bytes = text.as_bytes();
     bytes.len() >= 1 && bytes.len() <= MOST_DIGITS && are_digits(bytes)

@@ -91,7 +91,7 @@ fn exec_in(matches: &ArgMatches<'_>) -> Option<Command>
 
 /// A command without options.
 fn alone(command: Command, matches: &ArgMatches<'_>) -> Option<Command>
-    ensures value { result ≡ spec.alone command (rows_of (found_of matches.now)) }
+    ensures value { result ≡ spec.no_options command (rows_of (found_of matches.now)) }
     ensures stack { spec.HasStack command → IfSome result spec.HasStack }
 {
     let others = [
@@ -146,7 +146,7 @@ fn command_of(word: &str, matches: &ArgMatches<'_>) -> Option<Command>
 
 /// The request of what the words give.
 fn request_in<'a>(matches: &ArgMatches<'a>) -> Option<Request<'a>>
-    ensures value { spec.shown result ≡ spec.request_in (rows_of (found_of matches.now)) }
+    ensures value { spec.shown_request result ≡ spec.request_in (rows_of (found_of matches.now)) }
     ensures stack { IfSome result (λ r. spec.HasStack r.command) }
 {
     let command = command_of(command_in(matches)?, matches)?;

@@ -6,7 +6,7 @@ use Rattle.std.proofs.lemmas.List.Elements.{All-contains}
 use Rattle.std.proofs.lemmas.Option.{slice_get_within, get_or_from_slice_get, none-some, same_Some}
 use Rattle.std.specs.Prelude.{All}
 use Rattle.pass_core.specs.Insns.{InsnLaws}
-use Rattle.cfg.specs.Walks.{bare_from, bare}
+use Rattle.cfg.specs.Walks.{zero_targets_from, zero_targets}
 use Rattle.cfg.specs.Renumber.{with_targets, renumber}
 
 set_seam : (front : List ℕ) (old new : ℕ) (back : List ℕ) → set (front ++ old ∷ back) (length front) new ≡ front ++ new ∷ back
@@ -21,29 +21,29 @@ module _ {I : Type 0} (reads writes targets : I → List ℕ) (with_target : I �
   length_kept : (i : I) (k block : ℕ) → k < length (targets i) → length (targets (with_target i k block)) ≡ length (targets i)
   length_kept i k block below = ap length (laws.sets_target i k block below) ∙ length-set (targets i) k block
 
-  bare_other : (n j k block : ℕ) (i : I) → k < length (targets i) → j + n ≤ length (targets i) → j ≤ k → k < j + n → bare_from with_target (with_target i k block) j n ≡ bare_from with_target i j n
+  bare_other : (n j k block : ℕ) (i : I) → k < length (targets i) → j + n ≤ length (targets i) → j ≤ k → k < j + n → zero_targets_from with_target (with_target i k block) j n ≡ zero_targets_from with_target i j n
   bare_other zero j k block i below within low high = absurd (omega arith)
   bare_other (suc n) j k block i below within low high = elim (cases_lt j k) [
     | inl apart ↦
         let differ : k ≢ j = λ same. omega arith in
         let there : j < length (targets i) = omega arith in
         let same : length (targets (with_target i j 0)) ≡ length (targets i) = length_kept i j 0 there in
-        ap (λ x. bare_from with_target x (suc j) n) (laws.sets_apart i k j block 0 differ below there)
+        ap (λ x. zero_targets_from with_target x (suc j) n) (laws.sets_apart i k j block 0 differ below there)
         ∙ bare_other n (suc j) k block (with_target i j 0) (omega (arith, same)) (omega (arith, same)) (omega arith) (omega arith)
     | inr reached ↦
         let same : j ≡ k = omega arith in
         let again : with_target (with_target i k block) j 0 ≡ with_target i j 0 =
         subst (λ m. with_target (with_target i m block) j 0 ≡ with_target i j 0) same (laws.sets_again i j block 0) in
-        ap (λ x. bare_from with_target x (suc j) n) again
+        ap (λ x. zero_targets_from with_target x (suc j) n) again
   ]
 
   -- the instruction without its targets stays when one is changed
-  bare_kept : (i : I) (k block : ℕ) → k < length (targets i) → bare targets with_target (with_target i k block) ≡ bare targets with_target i
+  bare_kept : (i : I) (k block : ℕ) → k < length (targets i) → zero_targets targets with_target (with_target i k block) ≡ zero_targets targets with_target i
   bare_kept i k block below =
-      ap (λ n. bare_from with_target (with_target i k block) 0 n) (length_kept i k block below)
+      ap (λ n. zero_targets_from with_target (with_target i k block) 0 n) (length_kept i k block below)
       ∙ bare_other (length (targets i)) 0 k block i below (omega arith) (omega arith) (omega arith)
 
-  pub bare_all : (i : I) (k : ℕ) (blocks : List ℕ) → k + length blocks ≤ length (targets i) → bare targets with_target (with_targets with_target i k blocks) ≡ bare targets with_target i
+  pub bare_all : (i : I) (k : ℕ) (blocks : List ℕ) → k + length blocks ≤ length (targets i) → zero_targets targets with_target (with_targets with_target i k blocks) ≡ zero_targets targets with_target i
   bare_all i k [] within = refl
   bare_all i k (block ∷ blocks) within =
       let below : k < length (targets i) = omega arith in
@@ -92,7 +92,7 @@ module _ {I : Type 0} (reads writes targets : I → List ℕ) (with_target : I �
       by_list (t ∷ u ∷ ts) some one = absurd (omega arith)
 
   module _ (numbers : List ℕ) where
-    pub renumber_bare : (i : I) → bare targets with_target (renumber targets with_target numbers i) ≡ bare targets with_target i
+    pub renumber_bare : (i : I) → zero_targets targets with_target (renumber targets with_target numbers i) ≡ zero_targets targets with_target i
     renumber_bare i = bare_all i 0 (map (λ block. slice_index_or numbers block 0) (targets i)) (omega (arith, length-map (λ (block : ℕ). slice_index_or numbers block 0) (targets i)))
 
     pub renumber_flows : (i : I) → flows_on (renumber targets with_target numbers i) ≡ flows_on i

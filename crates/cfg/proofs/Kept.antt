@@ -13,7 +13,7 @@ use Rattle.std.proofs.lemmas.List.Sums.{sum_by-cons}
 use Rattle.pass_core.specs.Insns.{InsnLaws}
 use Rattle.suifvm_ir.specs.Functions.{AllInsns, GoesToBlocks, IsStraight, EndsLate, front_of, last_of, stops, block_stops, insn_stops, successors_after, successors_of, count_of, insn_in, UsesRegisters}
 use Rattle.cfg.specs.Edges.{successors_from, edge_count}
-use Rattle.cfg.specs.Walks.{bare, block_at, SameWalks}
+use Rattle.cfg.specs.Walks.{zero_targets, block_at, SameWalks}
 use Rattle.cfg.specs.Paths.{Reached, IsEntry, Follows, AllReached}
 use Rattle.cfg.specs.Contents.{is_no_jump, contents, KeepsBlocks, KeepsBack}
 use Rattle.cfg.specs.Measures.{measure_of, NoMeasureGrows}
@@ -427,15 +427,15 @@ module _ {I : Type 0} (reads writes targets : I → List ℕ) (with_target : I �
       ap (λ flows. if flows then true else (if nat_lt 0 (length (targets (ren i))) then false else true)) (renumber_flows reads writes targets with_target jump_to flows_on traps laws numbers i)
       ∙ ap (λ n. if flows_on i then true else (if nat_lt 0 n then false else true)) count
 
-  same_or_not : (no_jump : Bool) (i j : I) (is js : List I) → bare targets with_target i ≡ bare targets with_target j → map (bare targets with_target) is ≡ map (bare targets with_target) js → map (bare targets with_target) (cond no_jump (i ∷ is) is) ≡ map (bare targets with_target) (cond no_jump (j ∷ js) js)
-  same_or_not true i j is js first rest = ap (λ x. x ∷ map (bare targets with_target) is) first ∙ ap (λ xs. bare targets with_target j ∷ xs) rest
+  same_or_not : (no_jump : Bool) (i j : I) (is js : List I) → zero_targets targets with_target i ≡ zero_targets targets with_target j → map (zero_targets targets with_target) is ≡ map (zero_targets targets with_target) js → map (zero_targets targets with_target) (cond no_jump (i ∷ is) is) ≡ map (zero_targets targets with_target) (cond no_jump (j ∷ js) js)
+  same_or_not true i j is js first rest = ap (λ x. x ∷ map (zero_targets targets with_target) is) first ∙ ap (λ xs. zero_targets targets with_target j ∷ xs) rest
   same_or_not false i j is js first rest = rest
 
   contents_kept : (xs : List I) → contents targets with_target flows_on (map ren xs) ≡ contents targets with_target flows_on xs
   contents_kept [] = refl
   contents_kept (x ∷ xs) =
       let rest : List I = filter (is_no_jump targets flows_on) (map ren xs) in
-      ap (λ no_jump. map (bare targets with_target) (cond no_jump (ren x ∷ rest) rest)) (no_jump_kept x)
+      ap (λ no_jump. map (zero_targets targets with_target) (cond no_jump (ren x ∷ rest) rest)) (no_jump_kept x)
       ∙ same_or_not (is_no_jump targets flows_on x) (ren x) x rest (filter (is_no_jump targets flows_on) xs) (renumber_bare reads writes targets with_target jump_to flows_on traps laws numbers x) (contents_kept xs)
 
   block_contents : (b : ℕ) → M b → contents targets with_target flows_on (block_at g (number_in marks b)) ≡ contents targets with_target flows_on (block_at f b)

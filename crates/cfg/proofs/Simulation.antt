@@ -1,7 +1,7 @@
 -- Functions that go alike have the same walks.
 use Rattle.std.proofs.Common.{◌≡◌, ℕ, suc, ◌<◌, Bool, true, List, [], ◌∷◌, length, Some, slice_get, get_or, sym, subst, ◌∙◌, arith}
 use Rattle.std.proofs.lemmas.Option.{slice_get_within, slice_get-get_or, same_Some}
-use Rattle.cfg.specs.Walks.{bare, block_at, Step, Done, Taken, NotTaken, Walk, Stops, Goes, Returns, Passes, Takes, Jumps, Falls, SameWalks}
+use Rattle.cfg.specs.Walks.{zero_targets, block_at, Step, Done, Taken, NotTaken, Walk, Stops, Goes, Returns, Passes, Takes, Jumps, Falls, SameWalks}
 
 module _ {I : Type 0} (targets : I → List ℕ) (with_target : I → ℕ → ℕ → I) (flows_on : I → Bool) where
   -- a target of this number that the other instruction has too, where a relation leads from the one to the other
@@ -12,7 +12,7 @@ module _ {I : Type 0} (targets : I → List ℕ) (with_target : I → ℕ → �
 
   -- two instructions do the same, and go to related blocks
   pub record AreAlike (R : ℕ → ℕ → Type 0) (i j : I) : Type 0 where
-    pub same : bare targets with_target i ≡ bare targets with_target j
+    pub same : zero_targets targets with_target i ≡ zero_targets targets with_target j
     pub flows : flows_on i ≡ flows_on j
     pub count : length (targets i) ≡ length (targets j)
     pub leads : (k block : ℕ) → slice_get (targets i) k ≡ Some block → Leads R block j k

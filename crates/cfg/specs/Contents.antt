@@ -1,6 +1,6 @@
 -- What a block does besides jumps.
 use Rattle.std.specs.Prelude.{◌≡◌, ℕ, Bool, List, [], map, filter, length, if◌then◌else◌, true, false, nat_lt, ◌⊎◌, ◌<◌}
-use Rattle.cfg.specs.Walks.{bare, block_at}
+use Rattle.cfg.specs.Walks.{zero_targets, block_at}
 use Rattle.cfg.specs.Paths.{GoesBack}
 
 -- an instruction is no jump: it has no target, or what follows it may be done after it
@@ -11,7 +11,7 @@ is_no_jump targets flows_on i = if flows_on i then true else (if nat_lt 0 (lengt
 abbrev pub contents : {I : Type 0} → (targets : I → List ℕ) → (with_target : I → ℕ → ℕ → I)
     → (flows_on : I → Bool) → List I → List I
 contents targets with_target flows_on block =
-    map (bare targets with_target) (filter (is_no_jump targets flows_on) block)
+    map (zero_targets targets with_target) (filter (is_no_jump targets flows_on) block)
 
 -- a block of one function other than the entry has the contents of a block
 pub record HasContents {I : Type 0} (targets : I → List ℕ) (with_target : I → ℕ → ℕ → I) (flows_on : I → Bool)

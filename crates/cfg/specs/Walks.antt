@@ -3,13 +3,13 @@
 use Rattle.std.specs.Prelude.{◌≡◌, ℕ, zero, suc, ◌<◌, Bool, true, false, List, [], ◌∷◌, ◌↔◌, length, slice_get, slice_index_or, Some}
 
 -- an instruction with n of its targets, from number k on, set to 0
-abbrev pub bare_from : {I : Type 0} → (with_target : I → ℕ → ℕ → I) → I → (k n : ℕ) → I
-bare_from with_target i k zero = i
-bare_from with_target i k (suc n) = bare_from with_target (with_target i k 0) (suc k) n
+abbrev pub zero_targets_from : {I : Type 0} → (with_target : I → ℕ → ℕ → I) → I → (k n : ℕ) → I
+zero_targets_from with_target i k zero = i
+zero_targets_from with_target i k (suc n) = zero_targets_from with_target (with_target i k 0) (suc k) n
 
 -- an instruction with each target set to 0: so instructions of functions with other numbers of blocks are compared
-abbrev pub bare : {I : Type 0} → (targets : I → List ℕ) → (with_target : I → ℕ → ℕ → I) → I → I
-bare targets with_target i = bare_from with_target i 0 (length (targets i))
+abbrev pub zero_targets : {I : Type 0} → (targets : I → List ℕ) → (with_target : I → ℕ → ℕ → I) → I → I
+zero_targets targets with_target i = zero_targets_from with_target i 0 (length (targets i))
 
 -- a step of a walk
 pub data Step (I : Type 0) : Type 0 where
@@ -32,16 +32,17 @@ pub data Walk {I : Type 0} (targets : I → List ℕ) (with_target : I → ℕ �
   Stops : {block : ℕ} {rest : List I} → Walk targets with_target flows_on blocks block rest []
   Goes : {block : ℕ} {rest : List I} {steps : List (Step I)} → (i : I) → length (targets i) ≡ 0
       → flows_on i ≡ true → Walk targets with_target flows_on blocks block rest steps
-      → Walk targets with_target flows_on blocks block (i ∷ rest) (Done (bare targets with_target i) ∷ steps)
+      → Walk targets with_target flows_on blocks block (i ∷ rest) (Done (zero_targets targets with_target i) ∷ steps)
   Returns : {block : ℕ} {rest : List I} → (i : I) → length (targets i) ≡ 0 → flows_on i ≡ false
-      → Walk targets with_target flows_on blocks block (i ∷ rest) (Done (bare targets with_target i) ∷ [])
+      → Walk targets with_target flows_on blocks block (i ∷ rest) (Done (zero_targets targets with_target i) ∷ [])
   Passes : {block : ℕ} {rest : List I} {steps : List (Step I)} → (i : I) → 0 < length (targets i)
       → flows_on i ≡ true → Walk targets with_target flows_on blocks block rest steps
-      → Walk targets with_target flows_on blocks block (i ∷ rest) (NotTaken (bare targets with_target i) ∷ steps)
+      → Walk targets with_target flows_on blocks block (i ∷ rest)
+      (NotTaken (zero_targets targets with_target i) ∷ steps)
   Takes : {block : ℕ} {rest : List I} {steps : List (Step I)} → (i : I) (k target : ℕ)
       → slice_get (targets i) k ≡ Some target → flows_on i ≡ true
       → Walk targets with_target flows_on blocks target (block_at blocks target) steps
-      → Walk targets with_target flows_on blocks block (i ∷ rest) (Taken (bare targets with_target i) k ∷ steps)
+      → Walk targets with_target flows_on blocks block (i ∷ rest) (Taken (zero_targets targets with_target i) k ∷ steps)
   Jumps : {block : ℕ} {rest : List I} {steps : List (Step I)} → (i : I) (k target : ℕ)
       → slice_get (targets i) k ≡ Some target → flows_on i ≡ false
       → Walk targets with_target flows_on blocks target (block_at blocks target) steps

@@ -3,7 +3,7 @@ use Rattle.std.proofs.Common.{◌≡◌, ℕ, suc, ◌+◌, ◌*◌, ◌≤◌, 
 use Rattle.std.proofs.lemmas.List.Sums.{sum_by-cons}
 use Rattle.pass_core.specs.Insns.{InsnLaws}
 use Rattle.suifvm_ir.specs.Functions.{last_of, count_of}
-use Rattle.cfg.specs.Walks.{bare}
+use Rattle.cfg.specs.Walks.{zero_targets}
 use Rattle.cfg.specs.Renumber.{renumber}
 use Rattle.cfg.specs.model.Search.{marked_count}
 use Rattle.cfg.proofs.Bare.{length-map, bare_all, renumber_bare}
@@ -50,11 +50,11 @@ module _ {I : Type 0} (targets : I → List ℕ) (with_target : I → ℕ → �
       )
 
 module _ {I : Type 0} (reads writes targets : I → List ℕ) (with_target : I → ℕ → ℕ → I) (jump_to : ℕ → I) (flows_on traps : I → Bool) (laws : InsnLaws reads writes targets with_target jump_to flows_on traps) (numbers : List ℕ) where
-  same_bare : (change : I → I) → ((i : I) → bare targets with_target (change i) ≡ bare targets with_target i) → (xs : List I) → map (bare targets with_target) (map change xs) ≡ map (bare targets with_target) xs
+  same_bare : (change : I → I) → ((i : I) → zero_targets targets with_target (change i) ≡ zero_targets targets with_target i) → (xs : List I) → map (zero_targets targets with_target) (map change xs) ≡ map (zero_targets targets with_target) xs
   same_bare change same [] = refl
   same_bare change same (x ∷ xs) =
-      ap (λ y. y ∷ map (bare targets with_target) (map change xs)) (same x)
-      ∙ ap (λ ys. bare targets with_target x ∷ ys) (same_bare change same xs)
+      ap (λ y. y ∷ map (zero_targets targets with_target) (map change xs)) (same x)
+      ∙ ap (λ ys. zero_targets targets with_target x ∷ ys) (same_bare change same xs)
 
   pub adds_jumps : (n : ℕ) (splits : List Bool) (blocks : List (List I)) → length splits ≡ length blocks → AddsJumps targets with_target jump_to blocks (split_from targets with_target jump_to numbers n splits blocks)
   adds_jumps n [] [] same = NoBlocks

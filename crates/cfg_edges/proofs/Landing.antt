@@ -2,7 +2,7 @@
 use Rattle.std.proofs.Common.{◌≡◌, ℕ, zero, suc, ◌<◌, Bool, true, false, List, [], ◌∷◌, length, Some, slice_get, get_or, refl, sym, ap, subst, ◌∙◌, arith}
 use Rattle.std.proofs.lemmas.Option.{slice_get_within, slice_get-get_or, same_Some}
 use Rattle.pass_core.specs.Insns.{InsnLaws}
-use Rattle.cfg.specs.Walks.{bare, block_at, Step, Done, Taken, NotTaken, Walk, Stops, Goes, Returns, Passes, Takes, Jumps, Falls, SameWalks}
+use Rattle.cfg.specs.Walks.{zero_targets, block_at, Step, Done, Taken, NotTaken, Walk, Stops, Goes, Returns, Passes, Takes, Jumps, Falls, SameWalks}
 
 module _ {I : Type 0} (reads writes targets : I → List ℕ) (with_target : I → ℕ → ℕ → I) (jump_to : ℕ → I) (flows_on traps : I → Bool) (laws : InsnLaws reads writes targets with_target jump_to flows_on traps) where
   -- a block of the one function leads where a block of the other does, at once or by a jump alone
@@ -17,7 +17,7 @@ module _ {I : Type 0} (reads writes targets : I → List ℕ) (with_target : I �
 
   -- two instructions do the same, and go where the same is done
   pub record AreAlike (R : ℕ → ℕ → Type 0) (g : List (List I)) (i j : I) : Type 0 where
-    pub same : bare targets with_target i ≡ bare targets with_target j
+    pub same : zero_targets targets with_target i ≡ zero_targets targets with_target j
     pub flows : flows_on i ≡ flows_on j
     pub count : length (targets i) ≡ length (targets j)
     pub leads : (k block : ℕ) → slice_get (targets i) k ≡ Some block → Leads R g block j k

@@ -13,7 +13,7 @@ use Rattle.pass_core.specs.Insns.{InsnLaws}
 use Rattle.suifvm_ir.specs.Functions.{AllInsns, GoesToBlocks, IsStraight, EndsLate, UsesRegisters, front_of, last_of, stops, block_stops, insn_stops, insn_in, successors_after, successors_of}
 use Rattle.cfg.specs.Edges.{successors_from}
 use Rattle.cfg.specs.Paths.{Reached, IsEntry, Follows, AllReached, GoesBack}
-use Rattle.cfg.specs.Walks.{bare, block_at, SameWalks}
+use Rattle.cfg.specs.Walks.{zero_targets, block_at, SameWalks}
 use Rattle.cfg_edges.specs.model.Split.{places, numbers_from, pieces, split_from, to_one, target_after}
 use Rattle.cfg.specs.Renumber.{with_targets, renumber}
 use Rattle.cfg.proofs.Bare.{length-map, bare_all, flows_all, targets_all, reads_all, writes_all, renumber_bare, renumber_flows, renumber_targets, renumber_reads, renumber_writes}
@@ -435,18 +435,18 @@ module _ {I : Type 0} (reads writes targets : I → List ℕ) (with_target : I �
       ))
 
   -- what stays of the contents of a block, under a change of targets alone
-  same_or_not : (no_jump : Bool) (i j : I) (is js : List I) → bare targets with_target i ≡ bare targets with_target j → map (bare targets with_target) is ≡ map (bare targets with_target) js → map (bare targets with_target) (cond no_jump (i ∷ is) is) ≡ map (bare targets with_target) (cond no_jump (j ∷ js) js)
-  same_or_not true i j is js first rest = ap (λ x. x ∷ map (bare targets with_target) is) first ∙ ap (λ xs. bare targets with_target j ∷ xs) rest
+  same_or_not : (no_jump : Bool) (i j : I) (is js : List I) → zero_targets targets with_target i ≡ zero_targets targets with_target j → map (zero_targets targets with_target) is ≡ map (zero_targets targets with_target) js → map (zero_targets targets with_target) (cond no_jump (i ∷ is) is) ≡ map (zero_targets targets with_target) (cond no_jump (j ∷ js) js)
+  same_or_not true i j is js first rest = ap (λ x. x ∷ map (zero_targets targets with_target) is) first ∙ ap (λ xs. zero_targets targets with_target j ∷ xs) rest
   same_or_not false i j is js first rest = rest
 
-  contents_same : (change : I → I) → ((i : I) → bare targets with_target (change i) ≡ bare targets with_target i) → ((i : I) → flows_on (change i) ≡ flows_on i) → ((i : I) → length (targets (change i)) ≡ length (targets i)) → (xs : List I) → contents targets with_target flows_on (map change xs) ≡ contents targets with_target flows_on xs
+  contents_same : (change : I → I) → ((i : I) → zero_targets targets with_target (change i) ≡ zero_targets targets with_target i) → ((i : I) → flows_on (change i) ≡ flows_on i) → ((i : I) → length (targets (change i)) ≡ length (targets i)) → (xs : List I) → contents targets with_target flows_on (map change xs) ≡ contents targets with_target flows_on xs
   contents_same change bares flows counts [] = refl
   contents_same change bares flows counts (x ∷ xs) =
       let rest : List I = filter (is_no_jump targets flows_on) (map change xs) in
       let kept : is_no_jump targets flows_on (change x) ≡ is_no_jump targets flows_on x =
       ap (λ flow. if flow then true else (if nat_lt 0 (length (targets (change x))) then false else true)) (flows x)
       ∙ ap (λ n. if flows_on x then true else (if nat_lt 0 n then false else true)) (counts x) in
-      ap (λ no_jump. map (bare targets with_target) (cond no_jump (change x ∷ rest) rest)) kept
+      ap (λ no_jump. map (zero_targets targets with_target) (cond no_jump (change x ∷ rest) rest)) kept
       ∙ same_or_not (is_no_jump targets flows_on x) (change x) x rest (filter (is_no_jump targets flows_on) xs) (bares x) (contents_same change bares flows counts xs)
 
   whole_contents : (b : ℕ) → contents targets with_target flows_on (map ren (block_at f b)) ≡ contents targets with_target flows_on (block_at f b)
@@ -473,7 +473,7 @@ module _ {I : Type 0} (reads writes targets : I → List ℕ) (with_target : I �
 
   jump_contents : (v : ℕ) → contents targets with_target flows_on (jump_to v ∷ []) ≡ []
   jump_contents v =
-      ap (λ no_jump. map (bare targets with_target) (cond no_jump (jump_to v ∷ []) []))
+      ap (λ no_jump. map (zero_targets targets with_target) (cond no_jump (jump_to v ∷ []) []))
       (ap (λ flow. if flow then true else (if nat_lt 0 (length (targets (jump_to v))) then false else true)) (laws.jump_stops v)
       ∙ ap (λ ts. if nat_lt 0 (length ts) then false else true) (laws.jump_targets v))
 

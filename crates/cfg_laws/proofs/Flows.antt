@@ -8,7 +8,7 @@ use Rattle.suifvm_ir.specs.declared.insn.VmInsn.{VmInsn}
 use Rattle.suifvm_ir.specs.declared.insn.VmInsn.TheVariants.{LoadConstant, LoadAddress, Load, Store, Copy, Unary, Binary, Shift, Convert, Compare, Branch, Jump, Call, Return, Mark, Nop}
 use Rattle.suifvm_ir.specs.Insns.{flows_on_of}
 use Rattle.vm_meaning.specs.Operations.{is_value_of}
-use Rattle.vm_meaning.specs.Effect.{does, first, return_act}
+use Rattle.vm_meaning.specs.Effect.{does, first_source, return_act}
 
 -- an act after which the next instruction follows, at once or behind a call
 abbrev GoesOn : Act Value → Type 0
@@ -24,7 +24,7 @@ returned false v o goes = goes
 
 return_stops : (value : Option TypedRegister) (vs : List Value) (o : Outer) → GoesOn (return_act value vs o) → ⊥
 return_stops None vs o goes = goes
-return_stops (Some value) vs o goes = returned (is_value_of value.ty (first vs)) (first vs) o goes
+return_stops (Some value) vs o goes = returned (is_value_of value.ty (first_source vs)) (first_source vs) o goes
 
 flow : (i : VmInsn) (own : ℕ) (vs : List Value) (o : Outer) → GoesOn (does i own vs o) → flows_on_of i ≡ true
 flow (Jump block) own vs o goes = absurd goes

@@ -4,7 +4,7 @@ use Rattle.mem_model.specs.declared.value.Value.{Value}
 use Rattle.mem_model.specs.World.{Outer, Meter, World, Rooms, enter_call, leave_call}
 use Rattle.mem_model.specs.Ending.{Ending, Done, Trap, Undefined, More, SameEnding}
 use Rattle.machine_model.specs.Code.{Stop, Exits, Traps, HasNoMeaning, Act, Writes, Jumps, Calls, Returns, Stops, Code}
-use Rattle.machine_model.specs.Machine.{Frame, Config, Next, Goes, Over, world_of, begin_locals, end_locals, turn_if, stop_ending, jump_to, resume, status_ending, return_to, act_on, step_with, step_at, step, go_on, exec, start}
+use Rattle.machine_model.specs.Machine.{Frame, Config, Next, Goes, Over, whole_world, begin_locals, end_locals, turn_if, stop_ending, jump_to, resume, status_ending, return_to, act_on, step_with, step_at, step, go_on, exec, start_config}
 use Rattle.machine_model.proofs.Runs.{steps_add_up}
 use Rattle.suifvm_ir.specs.declared.insn.VmBranchOp.{VmBranchOp}
 use Rattle.suifvm_ir.specs.declared.types.VmType.{VmType}
@@ -14,8 +14,8 @@ use Rattle.suifvm_ir.specs.Insns.{reads_of, writes_of, targets_of, flows_on_of}
 use Rattle.cfg.specs.Walks.{block_at}
 use Rattle.cfg.proofs.Kept.{none_stop}
 use Rattle.vm_meaning.specs.Operations.{value_holds}
-use Rattle.vm_meaning.specs.Effect.{does, takes_turn, branches, is_taken}
-use Rattle.vm_meaning.specs.Behave.{Registers, set_registers, registers_of, FunctionCode, insn_site, site_in_function, sizes_in, vm_code, status_of}
+use Rattle.vm_meaning.specs.Effect.{does, takes_turn, branches, is_branch_taken}
+use Rattle.vm_meaning.specs.Behave.{Registers, set_registers, registers_of, FunctionCode, insn_site, site_in_function, sizes_in, vm_code, result_status}
 use Rattle.cfg_laws.proofs.Flows.{writes_flow, calls_flow}
 use Rattle.cfg_laws.proofs.Walking.{Sort, IsJump, IsBranch, IsPlain, sort, Loud, Pair, SameInsn, TwoBranches, pair_of, Silent, Alike, meets, after_same, after_passed, after_taken, after_jump, after_fall}
 use Rattle.cfg_laws.proofs.Following.{Valid, SameAt, Stands, stands_next, stands_at, target_below, frame, config, site_insn, silent_run, step_end, step_jump, go_zero}
@@ -70,7 +70,7 @@ module _ (rooms : Rooms) (fs gs : List FunctionCode) (same : (n : ℕ) → SameA
   status_same at to w (Some status) = BothEnd (Done w status) (Done w status) refl
 
   return_same : (at to : ℕ) (vs : List Value) (w : World) (us ws : List (Frame Registers)) → Waiting us ws → SameNext (return_to Value Registers rooms first_code at vs w us) (return_to Value Registers rooms other_code to vs w ws)
-  return_same at to vs w _ _ NoCaller = status_same at to w (status_of vs)
+  return_same at to vs w _ _ NoCaller = status_same at to w (result_status vs)
   return_same at to vs w _ _ (Caller {us = us} {ws = ws} n own rs f g b p c q i is there valid here site stands waiting) =
       subst (λ o. SameNext (resume Value Registers rooms first_code (frame n own rs b p) us w vs o) (resume Value Registers rooms other_code (frame n own rs c q) ws w vs (site_in_function c q (slice_get gs n)))) (sym here)
       (subst (λ o. SameNext (resume Value Registers rooms first_code (frame n own rs b p) us w vs (Some (insn_site i))) (resume Value Registers rooms other_code (frame n own rs c q) ws w vs o)) (sym site)
@@ -91,17 +91,17 @@ module _ (rooms : Rooms) (fs gs : List FunctionCode) (same : (n : ℕ) → SameA
     -- an instruction without targets
     act_same : (i : VmInsn) (m : Meter) (a : Act Value) → targets_of i ≡ [] → site_in_function b at (slice_get fs n) ≡ Some (insn_site i) → site_in_function c to (slice_get gs n) ≡ Some (insn_site i) → ((vs : List Value) (o : Outer) → a ≡ Writes vs o → flows_on_of i ≡ true) → ((function : ℕ) (vs : List Value) (o : Outer) → a ≡ Calls function vs o → flows_on_of i ≡ true) → (flows_on_of i ≡ true → Stands f.blocks g.blocks b (suc at) c (suc to)) → SameNext (act_on Value Registers rooms first_code k m (insn_site i) a) (act_on Value Registers rooms other_code l m (insn_site i) a)
     act_same i m (Writes vs o) none here site writes calls next =
-        BothGo _ _ (Same _ _ us ws (world_of o m) (Inside n own (set_registers (writes_of i) vs rs) f g b (suc at) c (suc to) is there valid (next (writes vs o refl))) waiting)
+        BothGo _ _ (Same _ _ us ws (whole_world o m) (Inside n own (set_registers (writes_of i) vs rs) f g b (suc at) c (suc to) is there valid (next (writes vs o refl))) waiting)
     act_same i m (Jumps target o) none here site writes calls next =
-        subst (λ ts. SameNext (jump_to Value Registers rooms first_code k (world_of o m) (insn_site i) (slice_get ts target)) (jump_to Value Registers rooms other_code l (world_of o m) (insn_site i) (slice_get ts target))) (sym none)
+        subst (λ ts. SameNext (jump_to Value Registers rooms first_code k (whole_world o m) (insn_site i) (slice_get ts target)) (jump_to Value Registers rooms other_code l (whole_world o m) (insn_site i) (slice_get ts target))) (sym none)
         (BothEnd _ _ (_, refl))
     act_same i m (Calls function vs o) none here site writes calls next =
-        subst (λ sizes. SameNext (act_on Value Registers rooms first_code k m (insn_site i) (Calls function vs o)) (Goes (record { here = frame function (length o.memory) (registers_of vs) 0 0; callers = l.here ∷ ws; world = world_of (begin_locals o sizes) (enter_call rooms function m) }))) (locals_same function)
+        subst (λ sizes. SameNext (act_on Value Registers rooms first_code k m (insn_site i) (Calls function vs o)) (Goes (record { here = frame function (length o.memory) (registers_of vs) 0 0; callers = l.here ∷ ws; world = whole_world (begin_locals o sizes) (enter_call rooms function m) }))) (locals_same function)
         (BothGo _ _ (Same _ _ (k.here ∷ us) (l.here ∷ ws) _ (entry_same function (length o.memory) (registers_of vs)) (Caller n own rs f g b at c to i is there valid here site (next (calls function vs o refl)) waiting)))
     act_same i m (Returns vs o) none here site writes calls next =
-        subst (λ sizes. SameNext (act_on Value Registers rooms first_code k m (insn_site i) (Returns vs o)) (return_to Value Registers rooms other_code (other_code.number l.here.point) vs (world_of (end_locals o own (length sizes)) (leave_call rooms n m)) ws)) (locals_same n)
-        (return_same (first_code.number k.here.point) (other_code.number l.here.point) vs (world_of (end_locals o own (length (sizes_in (slice_get fs n)))) (leave_call rooms n m)) us ws waiting)
-    act_same i m (Stops e o) none here site writes calls next = stop_same e (first_code.number k.here.point) (other_code.number l.here.point) (world_of o m)
+        subst (λ sizes. SameNext (act_on Value Registers rooms first_code k m (insn_site i) (Returns vs o)) (return_to Value Registers rooms other_code (other_code.number l.here.point) vs (whole_world (end_locals o own (length sizes)) (leave_call rooms n m)) ws)) (locals_same n)
+        (return_same (first_code.number k.here.point) (other_code.number l.here.point) vs (whole_world (end_locals o own (length (sizes_in (slice_get fs n)))) (leave_call rooms n m)) us ws waiting)
+    act_same i m (Stops e o) none here site writes calls next = stop_same e (first_code.number k.here.point) (other_code.number l.here.point) (whole_world o m)
 
     plain_with : (i : VmInsn) (turn : Option Meter) → targets_of i ≡ [] → site_in_function b at (slice_get fs n) ≡ Some (insn_site i) → site_in_function c to (slice_get gs n) ≡ Some (insn_site i) → (flows_on_of i ≡ true → Stands f.blocks g.blocks b (suc at) c (suc to)) → SameNext (step_with Value Registers rooms first_code k (insn_site i) turn) (step_with Value Registers rooms other_code l (insn_site i) turn)
     plain_with i None none here site next = BothEnd (More w) (More w) refl
@@ -119,12 +119,12 @@ module _ (rooms : Rooms) (fs gs : List FunctionCode) (same : (n : ℕ) → SameA
 
     -- a branch
     taken_same : (op : VmBranchOp) (ty : VmType) (s t u : ℕ) (taken : Bool) → Stands f.blocks g.blocks b (suc at) c (suc to) → Stands f.blocks g.blocks t 0 u 0 → SameNext (act_on Value Registers rooms first_code k w.meter (insn_site (Branch op ty s t)) (if taken then Jumps 0 w.outer else Writes [] w.outer)) (act_on Value Registers rooms other_code l w.meter (insn_site (Branch op ty s u)) (if taken then Jumps 0 w.outer else Writes [] w.outer))
-    taken_same op ty s t u true next goes = BothGo _ _ (Same _ _ us ws (world_of w.outer w.meter) (Inside n own rs f g t 0 u 0 is there valid goes) waiting)
-    taken_same op ty s t u false next goes = BothGo _ _ (Same _ _ us ws (world_of w.outer w.meter) (Inside n own rs f g b (suc at) c (suc to) is there valid next) waiting)
+    taken_same op ty s t u true next goes = BothGo _ _ (Same _ _ us ws (whole_world w.outer w.meter) (Inside n own rs f g t 0 u 0 is there valid goes) waiting)
+    taken_same op ty s t u false next goes = BothGo _ _ (Same _ _ us ws (whole_world w.outer w.meter) (Inside n own rs f g b (suc at) c (suc to) is there valid next) waiting)
 
     branch_same : (op : VmBranchOp) (ty : VmType) (s t u : ℕ) (test : Option Bool) → Stands f.blocks g.blocks b (suc at) c (suc to) → Stands f.blocks g.blocks t 0 u 0 → SameNext (act_on Value Registers rooms first_code k w.meter (insn_site (Branch op ty s t)) (branches op test w.outer)) (act_on Value Registers rooms other_code l w.meter (insn_site (Branch op ty s u)) (branches op test w.outer))
-    branch_same op ty s t u None next goes = stop_same HasNoMeaning (first_code.number k.here.point) (other_code.number l.here.point) (world_of w.outer w.meter)
-    branch_same op ty s t u (Some test) next goes = taken_same op ty s t u (is_taken op test) next goes
+    branch_same op ty s t u None next goes = stop_same HasNoMeaning (first_code.number k.here.point) (other_code.number l.here.point) (whole_world w.outer w.meter)
+    branch_same op ty s t u (Some test) next goes = taken_same op ty s t u (is_branch_taken op test) next goes
 
     branch_step : (op : VmBranchOp) (ty : VmType) (s t u : ℕ) → site_in_function b at (slice_get fs n) ≡ Some (insn_site (Branch op ty s t)) → site_in_function c to (slice_get gs n) ≡ Some (insn_site (Branch op ty s u)) → Stands f.blocks g.blocks b (suc at) c (suc to) → Stands f.blocks g.blocks t 0 u 0 → SameNext (step Value Registers rooms first_code k) (step Value Registers rooms other_code l)
     branch_step op ty s t u here site next goes =
@@ -251,10 +251,10 @@ module _ (rooms : Rooms) (fs gs : List FunctionCode) (same : (n : ℕ) → SameA
       let after = one_step k l alike in
       go n l e (step Value Registers rooms first_code k) after.next after.steps (λ i j pair ends. comes n i j e pair ends) after.runs after.alike is
 
-  start_same : (main : ℕ) (w : World) → SameConfig (start Value Registers rooms first_code main w) (start Value Registers rooms other_code main w)
+  start_same : (main : ℕ) (w : World) → SameConfig (start_config Value Registers rooms first_code main w) (start_config Value Registers rooms other_code main w)
   start_same main w =
-      subst (λ sizes. SameConfig (start Value Registers rooms first_code main w) (record { here = frame main (length w.outer.memory) (registers_of []) 0 0; callers = []; world = world_of (begin_locals w.outer sizes) (enter_call rooms main w.meter) })) (locals_same main)
+      subst (λ sizes. SameConfig (start_config Value Registers rooms first_code main w) (record { here = frame main (length w.outer.memory) (registers_of []) 0 0; callers = []; world = whole_world (begin_locals w.outer sizes) (enter_call rooms main w.meter) })) (locals_same main)
       (Same _ _ [] [] _ (entry_same main (length w.outer.memory) (registers_of [])) NoCaller)
 
-  pub ends_alike : (n main : ℕ) (w : World) (e : Ending) → exec Value Registers rooms first_code n (start Value Registers rooms first_code main w) ≡ Over e → Comes (start Value Registers rooms other_code main w) e
-  ends_alike n main w e is = comes n (start Value Registers rooms first_code main w) (start Value Registers rooms other_code main w) e (start_same main w) is
+  pub ends_alike : (n main : ℕ) (w : World) (e : Ending) → exec Value Registers rooms first_code n (start_config Value Registers rooms first_code main w) ≡ Over e → Comes (start_config Value Registers rooms other_code main w) e
+  ends_alike n main w e is = comes n (start_config Value Registers rooms first_code main w) (start_config Value Registers rooms other_code main w) e (start_same main w) is

@@ -7,13 +7,13 @@ use Rattle.suifvm_ir.specs.declared.types.VmType.{VmType}
 use Rattle.suifvm_ir.specs.declared.insn.VmInsn.{VmInsn}
 use Rattle.suifvm_ir.specs.declared.insn.VmInsn.TheVariants.{LoadConstant, LoadAddress, Load, Store, Copy, Unary, Binary, Shift, Convert, Compare, Branch, Jump, Call, Return, Mark, Nop}
 use Rattle.suifvm_ir.specs.Insns.{targets_of, with_block, flows_on_of}
-use Rattle.cfg.specs.Walks.{bare, block_at, Step, Done, Taken, NotTaken, Walk, Stops, Goes, Returns, Passes, Takes, Jumps, Falls}
+use Rattle.cfg.specs.Walks.{zero_targets, block_at, Step, Done, Taken, NotTaken, Walk, Stops, Goes, Returns, Passes, Takes, Jumps, Falls}
 
 abbrev pub W : List (List VmInsn) → ℕ → List VmInsn → List (Step VmInsn) → Type 0
 W f b is steps = Walk targets_of with_block flows_on_of f b is steps
 
 abbrev pub strip : VmInsn → VmInsn
-strip i = bare targets_of with_block i
+strip i = zero_targets targets_of with_block i
 
 -- the instructions with a target, and all others
 pub data Sort : VmInsn → Type 0 where

@@ -6,7 +6,7 @@ use Rattle.suifvm_ir.specs.Insns.{targets_of, flows_on_of}
 use Rattle.suifvm_ir.specs.Programs.{VmFunction}
 use Rattle.suifvm_ir.specs.Text.{block_name}
 use Rattle.cfg.specs.Edges.{successors_from}
-use Rattle.cfg_text.specs.Text.{followers_text, line_text, lines_text, function_graph, graphs_text}
+use Rattle.cfg_text.specs.Text.{followers_text, block_line, lines_text, function_graph, graphs_text}
 
 -- what stands behind two pieces
 two_pieces : (out a b rest : List ℕ) → (out ++ a ++ b) ++ rest ≡ out ++ (a ++ b ++ rest)
@@ -21,10 +21,10 @@ followers_next out blocks i b is within =
 pub followers_end : (out blocks : List ℕ) (i : ℕ) → length blocks ≤ i → out ++ followers_text (drop i blocks) ≡ out
 followers_end out blocks i past = ap (λ x. out ++ x) (at_drop_all followers_text blocks i past) ∙ append-nil out
 
-pub lines_next : (out : List ℕ) (at : ℕ) (x : List ℕ) (rows : List (List ℕ)) → x ≡ get_or rows at x → at < length rows → (out ++ line_text at x) ++ lines_text (at + 1) (drop (at + 1) rows) ≡ out ++ lines_text at (drop at rows)
+pub lines_next : (out : List ℕ) (at : ℕ) (x : List ℕ) (rows : List (List ℕ)) → x ≡ get_or rows at x → at < length rows → (out ++ block_line at x) ++ lines_text (at + 1) (drop (at + 1) rows) ≡ out ++ lines_text at (drop at rows)
 lines_next out at x rows is within =
-    append_assoc out (line_text at x) (lines_text (at + 1) (drop (at + 1) rows))
-    ∙ ap (λ y. out ++ (line_text at y ++ lines_text (at + 1) (drop (at + 1) rows))) is
+    append_assoc out (block_line at x) (lines_text (at + 1) (drop (at + 1) rows))
+    ∙ ap (λ y. out ++ (block_line at y ++ lines_text (at + 1) (drop (at + 1) rows))) is
     ∙ ap (λ y. out ++ y) (sym (at_drop_more (lines_text at) rows at x within))
 
 pub lines_end : (out : List ℕ) (at : ℕ) (rows : List (List ℕ)) → length rows ≤ at → out ++ lines_text at (drop at rows) ≡ out

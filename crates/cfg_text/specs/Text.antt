@@ -11,13 +11,13 @@ followers_text [] = []
 followers_text (block ∷ blocks) = codes " " ++ block_name block ++ followers_text blocks
 
 -- a block with its number, and the blocks that may follow it
-abbrev pub line_text : (block : ℕ) → List ℕ → List ℕ
-line_text block followers = block_name block ++ codes ":" ++ followers_text followers ++ codes "\n"
+abbrev pub block_line : (block : ℕ) → List ℕ → List ℕ
+block_line block followers = block_name block ++ codes ":" ++ followers_text followers ++ codes "\n"
 
 -- the blocks from a number on
 abbrev pub lines_text : (block : ℕ) → List (List ℕ) → List ℕ
 lines_text block [] = []
-lines_text block (followers ∷ others) = line_text block followers ++ lines_text (block + 1) others
+lines_text block (followers ∷ others) = block_line block followers ++ lines_text (block + 1) others
 
 -- a function with its name, and its blocks
 abbrev pub function_graph : VmFunction → List ℕ

@@ -25,7 +25,7 @@ fn put_followers(out: &mut Vec<u8>, followers: &[u32]) -> Result<(), AllocError>
 
 /// Puts the line of a block.
 fn put_line(out: &mut Vec<u8>, block: u32, followers: &[u32]) -> Result<(), AllocError>
-    ensures { OnOk result (out.new.items ≡ out.old.items ++ text.line_text block followers.now) }
+    ensures { OnOk result (out.new.items ≡ out.old.items ++ text.block_line block followers.now) }
 {
     put_block(out, block)?;
     put(out, ":")?;

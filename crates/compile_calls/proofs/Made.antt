@@ -4,7 +4,7 @@ use Rattle.bk_io.specs.Shelf.{Shelf}
 use Rattle.alpha_isa.specs.Program.{Program}
 use Rattle.bk_io.specs.Outside.{Traffic}
 use Rattle.call_outcomes.specs.declared.outcome.Outcome.{Outcome}
-use Rattle.call_outcomes.specs.FromFile.{text_of}
+use Rattle.call_outcomes.specs.FromFile.{file_bytes}
 use Rattle.compile_options.specs.declared.Allocator.{Allocator}
 use Rattle.compile_options.specs.declared.MachineLimits.{MachineLimits}
 use Rattle.image_calls.specs.RunImage.{RunsImage}
@@ -14,7 +14,7 @@ use Rattle.compile_calls.specs.Run.{Runs}
 use Rattle.compile_calls.specs.model.Images.{IsImageOfShortText, HasFileImage}
 use Rattle.compile_calls.proofs.Told.{Read, built_told}
 
-pub image_told : (told : Option Shelf) (name text : List ℕ) (allocator : Allocator) (image : Program) → Read told name text → IsImageOfShortText text allocator image → HasFileImage (text_of told name) allocator image
+pub image_told : (told : Option Shelf) (name text : List ℕ) (allocator : Allocator) (image : Program) → Read told name text → IsImageOfShortText text allocator image → HasFileImage (file_bytes told name) allocator image
 image_told told name text allocator image front is = record {
   built = is.is.built;
   has = built_told told name text allocator is.is.built front (record { low = is.low; made = is.is.made; same = is.is.same });

@@ -2,7 +2,7 @@
 
 ghost use Rattle.std.specs.Prelude.{◌≡◌, ◌↔◌, IfOk, IfErr, IfSome, IsErrOf, IsTrue, Some, option_map};
 ghost use Rattle.bk_io.specs.Shelf.{is_due, after_call};
-ghost use Rattle.call_outcomes.specs.FromFile.{text_of, IsCause};
+ghost use Rattle.call_outcomes.specs.FromFile.{file_bytes, IsCause};
 ghost use Rattle.call_outcomes.specs.Output.{file_faults_unless};
 ghost use Rattle.compile_calls.specs.Compile.{RefusesText};
 ghost use Rattle.compile_calls.specs.model.Causes.{IsNoFault};
@@ -45,8 +45,8 @@ pub(crate) fn image_of_file<F: Files>(
     name: &str,
     files: &mut F,
 ) -> Result<Image, Outcome>
-    ensures image { IfOk result (HasFileImage (text_of (F.told files.old) name.now) options.now.allocator) }
-    ensures cause { IfErr result (IsCause (RefusesText (text_of (F.told files.old) name.now))) }
+    ensures image { IfOk result (HasFileImage (file_bytes (F.told files.old) name.now) options.now.allocator) }
+    ensures cause { IfErr result (IsCause (RefusesText (file_bytes (F.told files.old) name.now))) }
     ensures due { IfSome (F.told files.old)
         (λ shelf. IsErrOf result Outcome.FileFault ↔ IsTrue (is_due shelf name.now)) }
     ensures told { F.told files.new ≡ option_map after_call (F.told files.old) }

@@ -2,7 +2,7 @@
 
 ghost use Rattle.std.specs.Prelude.{◌≡◌, ◌≢◌, ◌↔◌, IfSome, IsTrue, length, option_map};
 ghost use Rattle.bk_io.specs.Shelf.{is_due, after_call};
-ghost use Rattle.call_outcomes.specs.FromFile.{text_of};
+ghost use Rattle.call_outcomes.specs.FromFile.{file_bytes};
 ghost use Rattle.call_outcomes.specs.Output.{file_faults_after, output_faults_after};
 ghost use Rattle.compile_calls.specs.Texts.{text_of_pass};
 ghost use Rattle.compile_calls.specs.Print.{WritesText, Prints};
@@ -39,7 +39,7 @@ pub fn print<F: Files, O: Sink>(
     files: &mut F,
     out: &mut O,
 ) -> Outcome
-    ensures answer { Prints options.now.allocator pass (text_of (F.told files.old) name.now) result
+    ensures answer { Prints options.now.allocator pass (file_bytes (F.told files.old) name.now) result
         (O.taken out.old) (O.taken out.new) }
     ensures due { IfSome (F.told files.old) (λ shelf. (result ≡ Outcome.FileFault) ↔ IsTrue (is_due shelf name.now)) }
     ensures told { F.told files.new ≡ option_map after_call (F.told files.old) }

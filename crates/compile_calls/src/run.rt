@@ -3,7 +3,7 @@
 ghost use Rattle.std.specs.Prelude.{◌≡◌, ◌↔◌, IfSome, IsTrue, option_map};
 ghost use Rattle.alpha_isa.specs.Behave.{IsStack};
 ghost use Rattle.bk_io.specs.Shelf.{is_due, after_call};
-ghost use Rattle.call_outcomes.specs.FromFile.{text_of};
+ghost use Rattle.call_outcomes.specs.FromFile.{file_bytes};
 ghost use Rattle.call_outcomes.specs.Output.{file_faults_after, input_faults_after, output_faults_after};
 ghost use Rattle.compile_calls.specs.Run.{Runs};
 
@@ -26,7 +26,7 @@ pub fn run<F: Files, I: Source, O: Sink>(
     out: &mut O,
 ) -> Outcome
     requires { IsStack limits.stack }
-    ensures answer { Runs options.now.allocator limits (text_of (F.told files.old) name.now) result
+    ensures answer { Runs options.now.allocator limits (file_bytes (F.told files.old) name.now) result
         (record { left = I.left input.old; made = I.made input.old; taken = O.taken out.old })
         (record { left = I.left input.new; made = I.made input.new; taken = O.taken out.new }) }
     ensures due { IfSome (F.told files.old) (λ shelf. (result ≡ Outcome.FileFault) ↔ IsTrue (is_due shelf name.now)) }

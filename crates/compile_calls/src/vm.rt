@@ -2,7 +2,7 @@
 
 ghost use Rattle.std.specs.Prelude.{◌≡◌, ◌≢◌, ◌↔◌, IfSome, IsTrue, option_map};
 ghost use Rattle.bk_io.specs.Shelf.{is_due, after_call};
-ghost use Rattle.call_outcomes.specs.FromFile.{text_of};
+ghost use Rattle.call_outcomes.specs.FromFile.{file_bytes};
 ghost use Rattle.call_outcomes.specs.Output.{file_faults_after, input_faults_after, output_faults_after};
 ghost use Rattle.compile_calls.specs.Vm.{outcome_of_ending, RunsProgram, RunsText};
 
@@ -57,7 +57,7 @@ pub fn vm<F: Files, I: Source, O: Sink>(
     input: &mut I,
     out: &mut O,
 ) -> Outcome
-    ensures answer { RunsText options.now.allocator turns (text_of (F.told files.old) name.now) result
+    ensures answer { RunsText options.now.allocator turns (file_bytes (F.told files.old) name.now) result
         (record { left = I.left input.old; made = I.made input.old; taken = O.taken out.old })
         (record { left = I.left input.new; made = I.made input.new; taken = O.taken out.new }) }
     ensures due { IfSome (F.told files.old) (λ shelf. (result ≡ Outcome.FileFault) ↔ IsTrue (is_due shelf name.now)) }

@@ -30,7 +30,7 @@ use Rattle.program_rooms.specs.AllocationLaws.{HasFrame, AllocationsFit, LabelsA
 use Rattle.program_rooms.specs.Laws.{FunctionsHaveFrames, FramesFitTheirRooms}
 use Rattle.program_rooms.specs.WordLaws.{UnitTextsFitImages}
 use Rattle.program_rooms.specs.Words.{OnlyMemoryIsShort}
-use Rattle.program_rooms.specs.Assemblies.{gathered}
+use Rattle.program_rooms.specs.Assemblies.{whole_assembly}
 use Rattle.program_rooms.specs.Layouts.{FunctionsAreLaidOut}
 use Rattle.program_rooms.specs.Programs.{HasItemsOf, plans_of}
 use Rattle.program_rooms.specs.AssemblyLaws.{AssembliesAreWhole, AssembliesHavePrograms, ProgramsAreAllocated, placing_of}
@@ -94,7 +94,7 @@ can_be_assembled prepared_fit have_names have_frames fit few text tree u vm temp
 -- ---- that an assembly is whole
 
 pub whole : AssembliesAreWhole → (temps : TempProgram) (allocations : List Allocation) (finals : List FinalFn) → CanBeLaidOut temps allocations → All (λ (a : Allocation). AllInsns HasSmallNumbers a.func.blocks) allocations
-    → FunctionsAreLaidOut temps.globals allocations finals → IsWhole (gathered finals temps.globals)
+    → FunctionsAreLaidOut temps.globals allocations finals → IsWhole (whole_assembly finals temps.globals)
 whole are_whole temps allocations finals can numbers laid_out =
     are_whole temps.globals allocations finals ∣ can.lawful ∣₁ can.data_size can.some
     (λ j y within. record { fit = can.fit j y within; name = can.names j y within; numbers = numbers j y within }) laid_out
@@ -107,14 +107,14 @@ if_ok P Q more (Err e) h = tt
 -- the same where the lists are read as slices
 module _ (are_whole : AssembliesAreWhole) (temps : TempProgram) (allocations : List Allocation) (can : CanBeLaidOut temps allocations) (numbers : All (λ (a : Allocation). AllInsns HasSmallNumbers a.func.blocks) allocations) (finals : List FinalFn)
     (laid_out : FunctionsAreLaidOut temps.globals allocations finals) (read : List FinalFn) (is_read : read ≡ finals) (globals : List DataObject) (are_globals : globals ≡ temps.globals) where
-  same_assembly : gathered finals temps.globals ≡ gathered read globals
-  same_assembly = ap (λ fs. gathered fs temps.globals) (sym is_read) ∙ ap (λ gs. gathered read gs) (sym are_globals)
+  same_assembly : whole_assembly finals temps.globals ≡ whole_assembly read globals
+  same_assembly = ap (λ fs. whole_assembly fs temps.globals) (sym is_read) ∙ ap (λ gs. whole_assembly read gs) (sym are_globals)
 
-  pub whole_of_slices : IsWhole (gathered read globals)
+  pub whole_of_slices : IsWhole (whole_assembly read globals)
   whole_of_slices = subst IsWhole same_assembly (whole are_whole temps allocations finals can numbers laid_out)
 
-  pub assembly_of_slices : {E : Type 0} (r : Result Assembly E) → IfOk r (λ (asm : Assembly). asm ≡ gathered read globals) → IfOk r (IsAssemblyOf temps allocations)
-  assembly_of_slices r h = if_ok (λ (asm : Assembly). asm ≡ gathered read globals) (IsAssemblyOf temps allocations)
+  pub assembly_of_slices : {E : Type 0} (r : Result Assembly E) → IfOk r (λ (asm : Assembly). asm ≡ whole_assembly read globals) → IfOk r (IsAssemblyOf temps allocations)
+  assembly_of_slices r h = if_ok (λ (asm : Assembly). asm ≡ whole_assembly read globals) (IsAssemblyOf temps allocations)
       (λ asm is. record { finals = finals; laid_out = laid_out; is_gathered = is ∙ sym same_assembly; whole = subst IsWhole (sym is) whole_of_slices }) r h
 
 -- ---- the assembly of a unit

@@ -4,7 +4,7 @@ use Rattle.alpha_isa.specs.Program.{IsLawful}
 use Rattle.alpha_items.specs.Assembly.{IsWhole}
 use Rattle.alpha_items.specs.Words.{Words}
 use Rattle.c_typed_tree.specs.declared.units.TypedUnit.{TypedUnit}
-use Rattle.c_semantics.specs.Behaves.{rooms_of, run}
+use Rattle.c_semantics.specs.Behaves.{rooms_of, run_main}
 use Rattle.mem_model.specs.World.{Rooms}
 use Rattle.mem_model.specs.Ending.{IsDefined}
 use Rattle.suifvm_ir.specs.declared.program.VmProgram.{VmProgram}
@@ -28,7 +28,7 @@ use Rattle.compiler.specs.declared.built.Built.{Built}
 abbrev pub CodeRunsAs : TypedUnit → VmProgram → Type 0
 CodeRunsAs u p =
     (rooms : Rooms) (input : List ℕ) (turns : ℕ) → All (λ byte. byte < 256) input →
-    IsDefined (run u rooms input turns) → VmRunsTo rooms p input turns (run u rooms input turns)
+    IsDefined (run_main u rooms input turns) → VmRunsTo rooms p input turns (run_main u rooms input turns)
 
 -- a path leads to each block of a function, and none of its edges has to be split
 pub record IsTidy (f : TempFn) : Type 0 where

@@ -29,8 +29,8 @@ use Rattle.temp_ir.specs.declared.operation.DivisionRoutine.TheVariants.{Divq, R
 use Rattle.temp_ir.specs.declared.insn.TempInsn.TheVariants as i
 use Rattle.temp_ir.specs.Fixed.{ended_by_divisions, has_number}
 use Rattle.alloc_model.specs.Contents as contents
-use Rattle.alloc_model.specs.Contents.{Content, Bundle, unset, word}
-use Rattle.alloc_model.specs.Effect.{routine_of, takes, outcome_answer, writes, division_answer}
+use Rattle.alloc_model.specs.Contents.{Content, Bundle, unset_content, word_content}
+use Rattle.alloc_model.specs.Effect.{routine_of, takes_word, outcome_answer, writes, division_answer}
 use Rattle.alloc_model.specs.Contents.{Fails}
 use Rattle.alloc_model.specs.Places.{Places, Reg}
 use Rattle.flat_memory.specs.Bytes.{AreBytes}
@@ -43,7 +43,7 @@ use Rattle.flat_frames.specs.Frames.{FrameIs, is_written}
 use Rattle.frame_accesses.proofs.Runs.{stands, bytes-same, reached-same}
 use Rattle.frame_transfers.specs.Laws.{CallAt, FitsTheStack, StandsFor}
 use Rattle.call_stacks.specs.Items.{ItemSetting}
-use Rattle.call_stacks.specs.InstructionItemsLaws.{usable, HasOuter, ComesToItems, ActIsDone, store_behind}
+use Rattle.call_stacks.specs.InstructionItemsLaws.{is_usable, HasOuter, ComesToItems, ActIsDone, store_behind}
 use Rattle.call_stacks.proofs.Runs.{usable-low}
 use Rattle.call_stacks.specs.Stacks.{KeepsCallers}
 use Rattle.call_stacks.proofs.Stays.{frame-stays}
@@ -65,7 +65,7 @@ routines-divide Divlu = divlu_divides
 routines-divide Remlu = remlu_divides
 
 -- a word that a division takes is an operand of its routine
-takes-operand : (r : DivisionRoutine) (n : ℕ) → takes r n ≡ true → rt.IsRoutineOperand (routine_of r) n
+takes-operand : (r : DivisionRoutine) (n : ℕ) → takes_word r n ≡ true → rt.IsRoutineOperand (routine_of r) n
 takes-operand Divq n e = refl
 takes-operand Remq n e = refl
 takes-operand Divqu n e = refl
@@ -75,7 +75,7 @@ takes-operand Reml n e = eqb-true (sign_extension w32 n) n e
 takes-operand Divlu n e = eqb-true (sign_extension w32 n) n e
 takes-operand Remlu n e = eqb-true (sign_extension w32 n) n e
 
-module _ (p : Program) (there : Labels) (g : ItemSetting) (rest : List AsmItem) (end : ℕ) (c : CallAt) (o : Outer) (held : Places) (s : State) (call : FitsTheStack c) (outer : HasOuter o s) (routines : RoutinesStand p there) (scratch : HasScratch p c s) (r : DivisionRoutine) (h : StandsFor p there (Branch Bsr 23 (entry_label (routine_of r)) ∷ rest) end c o.memory usable held s) where
+module _ (p : Program) (there : Labels) (g : ItemSetting) (rest : List AsmItem) (end : ℕ) (c : CallAt) (o : Outer) (held : Places) (s : State) (call : FitsTheStack c) (outer : HasOuter o s) (routines : RoutinesStand p there) (scratch : HasScratch p c s) (r : DivisionRoutine) (h : StandsFor p there (Branch Bsr 23 (entry_label (routine_of r)) ∷ rest) end c o.memory is_usable held s) where
   -- ---- the branch
 
   record Branched : Type 0 where
@@ -222,7 +222,7 @@ module _ (p : Program) (there : Labels) (g : ItemSetting) (rest : List AsmItem) 
         clash k e = cc
 
     abbrev after : Places
-    after = store_behind [] (i.Divide r) held (word n ∷ [])
+    after = store_behind [] (i.Divide r) held (word_content n ∷ [])
 
     frame-is : FrameIs c.extents c.owner (memory_bytes p t) c.sp c.depth c.own c.shape after
     frame-is =
@@ -230,7 +230,7 @@ module _ (p : Program) (there : Labels) (g : ItemSetting) (rest : List AsmItem) 
         record { aligned = f.aligned; slots = λ k lt. f.slots k lt; outgoing = λ k lt. f.outgoing k lt; owned = f.owned; objects = f.objects }
 
     -- a register but 27
-    kept-register : (q : ℕ) → usable q ≡ true → q ≢ 27 → (e : Bool) → has_number ended_by_divisions q ≡ e → ContentIs c.extents (if e then unset else held (Reg q)) (register t q)
+    kept-register : (q : ℕ) → is_usable q ≡ true → q ≢ 27 → (e : Bool) → has_number ended_by_divisions q ≡ e → ContentIs c.extents (if e then unset_content else held (Reg q)) (register t q)
     kept-register q u ne true f = tt
     kept-register q u ne false f =
         let low = usable-low q u in
@@ -241,10 +241,10 @@ module _ (p : Program) (there : Labels) (g : ItemSetting) (rest : List AsmItem) 
         clash : true ≡ false → ⊥
         clash e = cc
 
-    registers-are : (q : ℕ) → usable q ≡ true → ContentIs c.extents (after (Reg q)) (register t q)
+    registers-are : (q : ℕ) → is_usable q ≡ true → ContentIs c.extents (after (Reg q)) (register t q)
     registers-are q u = by_test (q == 27) refl
       where
-        by_test : (e : Bool) → (q == 27) ≡ e → ContentIs c.extents (if e then word n else (if has_number ended_by_divisions q then unset else held (Reg q))) (register t q)
+        by_test : (e : Bool) → (q == 27) ≡ e → ContentIs c.extents (if e then word_content n else (if has_number ended_by_divisions q then unset_content else held (Reg q))) (register t q)
         by_test true f = ap (register t) (eqb-true q 27 f) ∙ here
         by_test false f = kept-register q u (λ e. clash (sym (ap (λ k. k == 27) e) ∙ f)) (has_number ended_by_divisions q) refl
           where
@@ -297,20 +297,20 @@ module _ (p : Program) (there : Labels) (g : ItemSetting) (rest : List AsmItem) 
     output = x.output ∙ b.output ∙ outer.output;
   }
 
-  words-done : (m n : ℕ) → register s 24 ≡ m → register s 25 ≡ n → (e : Bool) → (takes r m && takes r n) ≡ e → ActIsDone p there g rest end c (store_behind [] (i.Divide r) held) (i.Divide r) s (writes (if e then outcome_answer (rt.outcome (routine_of r) m n) else Fails) o)
+  words-done : (m n : ℕ) → register s 24 ≡ m → register s 25 ≡ n → (e : Bool) → (takes_word r m && takes_word r n) ≡ e → ActIsDone p there g rest end c (store_behind [] (i.Divide r) held) (i.Divide r) s (writes (if e then outcome_answer (rt.routine_outcome (routine_of r) m n) else Fails) o)
   words-done m n first second false e = tt
   words-done m n first second true e =
-      let both = and_parts (takes r m) (takes r n) e in
+      let both = and_parts (takes_word r m) (takes_word r n) e in
       let b = branched in
       let left : register b.to 24 ≡ m = b.registers 24 (λ f. omega (arith, f)) (λ f. omega (arith, f)) ∙ first in
       let right : register b.to 25 ≡ n = b.registers 25 (λ f. omega (arith, f)) (λ f. omega (arith, f)) ∙ second in
       let is = called b (subst (rt.IsRoutineOperand (routine_of r)) (sym left) (takes-operand r m both.0)) (subst (rt.IsRoutineOperand (routine_of r)) (sym right) (takes-operand r n both.1)) in
       let done = routines-divide r p routines.word b.to is in
-      ended b (rt.outcome (routine_of r) m n) (subst (λ k. RoutineDoes p b.to (rt.outcome (routine_of r) m k)) right (subst (λ k. RoutineDoes p b.to (rt.outcome (routine_of r) k (register b.to 25))) left done))
+      ended b (rt.routine_outcome (routine_of r) m n) (subst (λ k. RoutineDoes p b.to (rt.routine_outcome (routine_of r) m k)) right (subst (λ k. RoutineDoes p b.to (rt.routine_outcome (routine_of r) k (register b.to 25))) left done))
 
   contents-done : (u v : Content) → held (Reg 24) ≡ u → held (Reg 25) ≡ v → ActIsDone p there g rest end c (store_behind [] (i.Divide r) held) (i.Divide r) s (writes (division_answer r u v) o)
   contents-done (contents.Plain (Word m)) (contents.Plain (Word n)) e f =
-      words-done m n (subst (λ z. ContentIs c.extents z (register s 24)) e (h.registers 24 refl)) (subst (λ z. ContentIs c.extents z (register s 25)) f (h.registers 25 refl)) (takes r m && takes r n) refl
+      words-done m n (subst (λ z. ContentIs c.extents z (register s 24)) e (h.registers 24 refl)) (subst (λ z. ContentIs c.extents z (register s 25)) f (h.registers 25 refl)) (takes_word r m && takes_word r n) refl
   contents-done (contents.Plain (Word m)) (contents.Plain (Address q)) e f = tt
   contents-done (contents.Plain (Word m)) (contents.Plain Unset) e f = tt
   contents-done (contents.Plain (Word m)) (Bundle cells) e f = tt
@@ -318,6 +318,6 @@ module _ (p : Program) (there : Labels) (g : ItemSetting) (rest : List AsmItem) 
   contents-done (contents.Plain Unset) v e f = tt
   contents-done (Bundle cells) v e f = tt
 
-pub divisions_are_done : (p : Program) (there : Labels) (g : ItemSetting) (rest : List AsmItem) (end : ℕ) (c : CallAt) (o : Outer) (held : Places) (s : State) → FitsTheStack c → HasOuter o s → RoutinesStand p there → HasScratch p c s → (r : DivisionRoutine) → StandsFor p there (Branch Bsr 23 (entry_label (routine_of r)) ∷ rest) end c o.memory usable held s → ActIsDone p there g rest end c (store_behind [] (i.Divide r) held) (i.Divide r) s (writes (division_answer r (held (Reg 24)) (held (Reg 25))) o)
+pub divisions_are_done : (p : Program) (there : Labels) (g : ItemSetting) (rest : List AsmItem) (end : ℕ) (c : CallAt) (o : Outer) (held : Places) (s : State) → FitsTheStack c → HasOuter o s → RoutinesStand p there → HasScratch p c s → (r : DivisionRoutine) → StandsFor p there (Branch Bsr 23 (entry_label (routine_of r)) ∷ rest) end c o.memory is_usable held s → ActIsDone p there g rest end c (store_behind [] (i.Divide r) held) (i.Divide r) s (writes (division_answer r (held (Reg 24)) (held (Reg 25))) o)
 divisions_are_done p there g rest end c o held s call outer routines scratch r h =
     contents-done p there g rest end c o held s call outer routines scratch r h (held (Reg 24)) (held (Reg 25)) refl refl

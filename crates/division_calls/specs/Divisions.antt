@@ -19,7 +19,7 @@ use Rattle.flat_memory.specs.Relation.{Nobody}
 use Rattle.flat_memory.specs.Machine.{is_reached}
 use Rattle.frame_transfers.specs.Laws.{CallAt, FitsTheStack, StandsFor}
 use Rattle.call_stacks.specs.Items.{ItemSetting}
-use Rattle.call_stacks.specs.InstructionItemsLaws.{usable, HasOuter, ActIsDone, store_behind}
+use Rattle.call_stacks.specs.InstructionItemsLaws.{is_usable, HasOuter, ActIsDone, store_behind}
 
 -- the routines stand in the text, and their labels at their entries
 pub record RoutinesStand (p : Program) (there : Labels) : Type 0 where
@@ -39,6 +39,6 @@ DivisionsAreDone =
     (p : Program) (there : Labels) (g : ItemSetting) (rest : List AsmItem) (end : ℕ) (c : CallAt) (o : Outer)
     (held : Places)
     (s : State) → FitsTheStack c → HasOuter o s → RoutinesStand p there → HasScratch p c s → (r : DivisionRoutine) →
-    StandsFor p there (Branch Bsr 23 (entry_label (routine_of r)) ∷ rest) end c o.memory usable held s →
+    StandsFor p there (Branch Bsr 23 (entry_label (routine_of r)) ∷ rest) end c o.memory is_usable held s →
     ActIsDone p there g rest end c (store_behind [] (i.Divide r) held) (i.Divide r) s
     (writes (division_answer r (held (Reg 24)) (held (Reg 25))) o)

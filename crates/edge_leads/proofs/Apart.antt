@@ -6,7 +6,7 @@ use Rattle.suifvm_ir.specs.Functions.{last_of, successors_after, successors_of}
 use Rattle.temp_ir.specs.declared.insn.TempInsn.{TempInsn}
 use Rattle.temp_ir.specs.declared.insn.TempInsn.TheVariants as i
 use Rattle.temp_ir.specs.Insns.{targets_of, flows_on_of}
-use Rattle.flat_steps.specs.Items.{is_branch, ends_with_branch}
+use Rattle.flat_steps.specs.Items.{is_temp_branch, ends_with_branch}
 use Rattle.cfg.specs.Edges.{successors_from, edges_to, edges_from, sources_of}
 use Rattle.cfg_edges.specs.Critical.{NoneCritical}
 use Rattle.edge_leads.specs.Leads.{IsEdge, BranchesGoApart}
@@ -76,7 +76,7 @@ source-of (f ∷ followers) n (suc k) nexts to e has =
 -- ---- branches
 
 -- a block with a branch has two successors
-two-successors : (block : ℕ) (o : Option TempInsn) → is_branch o ≡ true → length (successors_after targets_of flows_on_of block o) ≤ 1 → ⊥
+two-successors : (block : ℕ) (o : Option TempInsn) → is_temp_branch o ≡ true → length (successors_after targets_of flows_on_of block o) ≤ 1 → ⊥
 two-successors block None e few = cc
 two-successors block (Some (i.Branch op source to)) e few = omega (arith, few)
 two-successors block (Some x) e few = cc
@@ -92,7 +92,7 @@ module _ (blocks : List (List TempInsn)) (none : NoneCritical targets_of flows_o
   apart : BranchesGoApart blocks
   apart branch other to e ends f =
       let sum : 0 + branch ≡ branch = omega arith in
-      let last : is_branch (last_of e.insns) ≡ true = sym (ap ends_with_branch (get-index blocks branch e.insns [] e.there)) ∙ ends in
+      let last : is_temp_branch (last_of e.insns) ≡ true = sym (ap ends_with_branch (get-index blocks branch e.insns [] e.there)) ∙ ends in
       ⊎_elim
       (λ few. absurd (two-successors (0 + branch) (last_of e.insns) last few))
       (λ one. one-only (sources_of (edges_from 0 (successors_from targets_of flows_on_of 0 blocks)) to) other branch one (is-source other to f) (is-source branch to e))

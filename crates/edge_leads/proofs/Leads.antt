@@ -11,7 +11,7 @@ use Rattle.alloc_model.specs.declared.allocation.EdgeCode.{EdgeCode}
 use Rattle.alloc_model.specs.Temporaries.{goes_on, flows_out}
 use Rattle.alloc_model.specs.Places.{Plan, edge_transfers, code_in}
 use Rattle.alloc_model.specs.Faithful.{HasLists}
-use Rattle.flat_steps.specs.Items.{is_branch, ends_with_branch, top_transfers, end_transfers}
+use Rattle.flat_steps.specs.Items.{is_temp_branch, ends_with_branch, top_transfers, end_transfers}
 use Rattle.flat_steps.proofs.Tops.{test-or-not, get-some, all-edges, all-unmapped}
 use Rattle.flat_steps.specs.Builds.{EdgesLead}
 use Rattle.edge_leads.specs.Leads.{AreBlocks, IsEdge, BranchesGoApart}
@@ -205,11 +205,11 @@ module _ (a : Plan) (l : HasLists a) (ok : AreBlocks a.function.blocks) (apart :
     jumps = λ block at to e.
         let z = located blocks block at (i.Jump to) e in
         let last = is-last block at (i.Jump to) z (λ q. cc) in
-        no-tops block to (first-edge block z.insns (i.Jump to) to z.there last (Contains-push [] to)) (branch-at block z.insns false z.there (ap is_branch last));
+        no-tops block to (first-edge block z.insns (i.Jump to) to z.there last (Contains-push [] to)) (branch-at block z.insns false z.there (ap is_temp_branch last));
     branches = λ block at op source to e.
         let z = located blocks block at (i.Branch op source to) e in
         let last = is-last block at (i.Branch op source to) z (λ q. cc) in
-        tops-are block to (first-edge block z.insns (i.Branch op source to) to z.there last (Contains-push [] to)) (branch-at block z.insns true z.there (ap is_branch last));
+        tops-are block to (first-edge block z.insns (i.Branch op source to) to z.there last (Contains-push [] to)) (branch-at block z.insns true z.there (ap is_temp_branch last));
     follows = flows-before;
     ends = ends-are;
   }

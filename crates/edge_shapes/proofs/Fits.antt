@@ -13,11 +13,11 @@ use Rattle.alloc_model.specs.declared.allocation.EdgeCode.{EdgeCode}
 use Rattle.alloc_model.specs.Effect.{Temp}
 use Rattle.alloc_model.specs.Temporaries.{flows_out}
 use Rattle.alloc_model.specs.Places.{Place, Reg, Slot, In, Out, Plan, edge_transfers, code_in}
-use Rattle.alloc_model.specs.Faithful.{Held, stands, MovesAsk, before, given_registers, named_registers, IsTransfer, IsGivenOrScratch, HasLists, Faithful}
+use Rattle.alloc_model.specs.Faithful.{Held, stands, MovesAsk, held_before, given_registers, named_registers, IsTransfer, IsGivenOrScratch, HasLists, Faithful}
 use Rattle.flat_frames.specs.Shapes.{FrameShape}
 use Rattle.flat_frames.specs.Frames.{with_known}
 use Rattle.frame_transfers.specs.Laws.{IsWritable, CanTransferAll}
-use Rattle.function_items.specs.InstructionItemsLaws.{usable}
+use Rattle.function_items.specs.InstructionItemsLaws.{is_usable}
 use Rattle.function_items.specs.Items.{ends_with_branch, end_transfers}
 use Rattle.function_shapes.specs.Shapes.{names_in, shape_of}
 use Rattle.edge_shapes.proofs.Holding.{either, known_place, Knows, knows-stands, knows-before}
@@ -103,25 +103,25 @@ found-named p (e ∷ es) r = either (λ o. names_in (code_in o) r ≡ true → l
     (λ named. or-left (names_in e.code r) (list_any (λ z. names_in z.code r) es) named)
     (λ named. or-right (names_in e.code r) (list_any (λ z. names_in z.code r) es) (found-named p es r named))
 
-pub found_fits : (a : Plan) → HasLists a → (p : EdgeCode → Bool) (block at : ℕ) → MovesAsk (code_in (find p a.edges)) (before a block at) → CanTransferAll (shape_of a) usable (code_in (find p a.edges))
-found_fits a l p block at asks = can-transfer (shape_of a) (code_in (find p a.edges)) usable (before a block at)
+pub found_fits : (a : Plan) → HasLists a → (p : EdgeCode → Bool) (block at : ℕ) → MovesAsk (code_in (find p a.edges)) (held_before a block at) → CanTransferAll (shape_of a) is_usable (code_in (find p a.edges))
+found_fits a l p block at asks = can-transfer (shape_of a) (code_in (find p a.edges)) is_usable (held_before a block at)
     (λ r named. or-right (list_any (λ xs. names_in xs r) a.at) (list_any (λ rs. has_number rs r) a.regs || list_any (λ z. names_in z.code r) a.edges)
     (or-right (list_any (λ rs. has_number rs r) a.regs) (list_any (λ z. names_in z.code r) a.edges) (found-named p a.edges r named)))
     (found a.temps p a.edges l.edge_transfers)
     (knows-before a l block at)
     asks
 
-pub targets_fit : (a : Plan) → Faithful a → (block at : ℕ) (x : TempInsn) → insn_at a.function.blocks block at ≡ Some x → (k to : ℕ) → slice_get (targets_of x) k ≡ Some to → CanTransferAll (shape_of a) usable (edge_transfers a block to)
+pub targets_fit : (a : Plan) → Faithful a → (block at : ℕ) (x : TempInsn) → insn_at a.function.blocks block at ≡ Some x → (k to : ℕ) → slice_get (targets_of x) k ≡ Some to → CanTransferAll (shape_of a) is_usable (edge_transfers a block to)
 targets_fit a f block at x there k to leads =
     let keeps = f.jumps block at x there k to leads in
     found_fits a f.lists (λ e. (e.from == block) && (e.to == to)) block (suc at) keeps.moves
 
-if-both : (s : FrameShape) (b c : Bool) (xs : List Transfer) → (b ≡ true → CanTransferAll s usable xs) → CanTransferAll s usable (if b && c then xs else [])
+if-both : (s : FrameShape) (b c : Bool) (xs : List Transfer) → (b ≡ true → CanTransferAll s is_usable xs) → CanTransferAll s is_usable (if b && c then xs else [])
 if-both s true true xs h = h refl
 if-both s true false xs h = tt
 if-both s false c xs h = tt
 
-pub ends_fit : (a : Plan) → Faithful a → (block : ℕ) (insns : List TempInsn) → slice_get a.function.blocks block ≡ Some insns → CanTransferAll (shape_of a) usable (end_transfers a block insns)
+pub ends_fit : (a : Plan) → Faithful a → (block : ℕ) (insns : List TempInsn) → slice_get a.function.blocks block ≡ Some insns → CanTransferAll (shape_of a) is_usable (end_transfers a block insns)
 ends_fit a f block insns there = if-both (shape_of a) (flows_out insns) (not (ends_with_branch insns)) (edge_transfers a block (suc block)) (λ flows.
     let keeps = f.follows block insns there flows in
     found_fits a f.lists (λ e. (e.from == block) && (e.to == suc block)) block (length insns) keeps.moves)

@@ -17,10 +17,10 @@ use Rattle.alloc_model.specs.declared.allocation.TempPlace.{TempPlace}
 use Rattle.alloc_model.specs.declared.allocation.Transfer.{Transfer}
 use Rattle.alloc_model.specs.declared.allocation.Transfer.TheVariants.{Store, Load, Shift}
 use Rattle.alloc_model.specs.Effect.{Holder, Temp, Fixed, Incoming, Outgoing, holders_written, others_written}
-use Rattle.alloc_model.specs.Places.{Place, Reg, Slot, In, Out, home_of, places_written_at, is_ended, target_of, moved_temp, Plan, linear_number, transfers_at, registers_at}
-use Rattle.alloc_model.specs.Needs.{place_of, named_place}
-use Rattle.alloc_model.specs.Faithful.{Held, stands, forget, end_all, write_all, move_all, behind_insn, at_top, at_entry, at_start, before, given_registers, IsGivenRegister, IsOwnPlace, IsStanding, IsTransfer, HasLists}
-use Rattle.function_items.specs.InstructionItemsLaws.{usable}
+use Rattle.alloc_model.specs.Places.{Place, Reg, Slot, In, Out, home_of, places_written_at, ends_place, transfer_target, moved_temp, Plan, linear_number, transfers_at, registers_at}
+use Rattle.alloc_model.specs.Needs.{top_place, named_place}
+use Rattle.alloc_model.specs.Faithful.{Held, stands, forget, end_all, write_all, move_all, behind_insn, at_top, at_entry, at_start, held_before, given_registers, IsGivenRegister, IsOwnPlace, IsStanding, IsTransfer, HasLists}
+use Rattle.function_items.specs.InstructionItemsLaws.{is_usable}
 
 -- ---- lists and tests
 
@@ -41,19 +41,19 @@ all-at P xss n h = ⊎_elim
 
 -- ---- usable registers
 
-all-usable : All (λ r. usable r ≡ true) given_registers
-all-usable = All-from_recursion (λ r. usable r ≡ true) given_registers (refl, (refl, (refl, (refl, (refl, (refl, (refl, (refl, (refl, (refl, (refl, (refl, (refl, (refl, (refl, (refl, (refl, (refl, (refl, (refl, (refl, (refl, (refl, (refl, (refl, (refl, tt))))))))))))))))))))))))))
+all-usable : All (λ r. is_usable r ≡ true) given_registers
+all-usable = All-from_recursion (λ r. is_usable r ≡ true) given_registers (refl, (refl, (refl, (refl, (refl, (refl, (refl, (refl, (refl, (refl, (refl, (refl, (refl, (refl, (refl, (refl, (refl, (refl, (refl, (refl, (refl, (refl, (refl, (refl, (refl, (refl, tt))))))))))))))))))))))))))
 
-given-usable : (r : ℕ) → IsGivenRegister r → usable r ≡ true
-given-usable r h = All-contains (λ q. usable q ≡ true) given_registers r all-usable h
+given-usable : (r : ℕ) → IsGivenRegister r → is_usable r ≡ true
+given-usable r h = All-contains (λ q. is_usable q ≡ true) given_registers r all-usable h
 
-argument-usable : (count r : ℕ) → Contains (argument_registers count) r → usable r ≡ true
-argument-usable count r h = All-contains (λ q. usable q ≡ true) (argument_registers count) r
-    (All-take (λ q. usable q ≡ true) (min count 6) (16 ∷ 17 ∷ 18 ∷ 19 ∷ 20 ∷ 21 ∷ [])
-    (All-from_recursion (λ q. usable q ≡ true) (16 ∷ 17 ∷ 18 ∷ 19 ∷ 20 ∷ 21 ∷ []) (refl, (refl, (refl, (refl, (refl, (refl, tt))))))))
+argument-usable : (count r : ℕ) → Contains (argument_registers count) r → is_usable r ≡ true
+argument-usable count r h = All-contains (λ q. is_usable q ≡ true) (argument_registers count) r
+    (All-take (λ q. is_usable q ≡ true) (min count 6) (16 ∷ 17 ∷ 18 ∷ 19 ∷ 20 ∷ 21 ∷ [])
+    (All-from_recursion (λ q. is_usable q ≡ true) (16 ∷ 17 ∷ 18 ∷ 19 ∷ 20 ∷ 21 ∷ []) (refl, (refl, (refl, (refl, (refl, (refl, tt))))))))
     h
 
-number-usable : (f : FixedRegister) → usable (register_number f) ≡ true
+number-usable : (f : FixedRegister) → is_usable (register_number f) ≡ true
 number-usable Value = refl
 number-usable Argument0 = refl
 number-usable Argument1 = refl
@@ -81,23 +81,23 @@ knows-stands known n p h knows is m q e = ⊎_elim (λ l. knows m q l.0) (λ r. 
 
 abbrev AllKnown : List Place → Type 0
 AllKnown [] = Unit {0}
-AllKnown (p ∷ ps) = (known_place usable p ≡ true) × AllKnown ps
+AllKnown (p ∷ ps) = (known_place is_usable p ≡ true) × AllKnown ps
 
-knows-written : (ns : List Holder) (ps : List Place) (h : Held) → AllKnown ps → Knows usable h → Knows usable (write_all ns ps h)
+knows-written : (ns : List Holder) (ps : List Place) (h : Held) → AllKnown ps → Knows is_usable h → Knows is_usable (write_all ns ps h)
 knows-written [] ps h all knows = knows
 knows-written (n ∷ ns) [] h all knows = knows
-knows-written (n ∷ ns) (p ∷ ps) h all knows = knows-written ns ps (stands n p (forget n h)) all.1 (knows-stands usable n p (forget n h) (λ m q e. knows m q e.0) all.0)
+knows-written (n ∷ ns) (p ∷ ps) h all knows = knows-written ns ps (stands n p (forget n h)) all.1 (knows-stands is_usable n p (forget n h) (λ m q e. knows m q e.0) all.0)
 
-target-known : (temps : ℕ) (x : Transfer) → IsTransfer temps IsGivenRegister x → known_place usable (target_of x) ≡ true
+target-known : (temps : ℕ) (x : Transfer) → IsTransfer temps IsGivenRegister x → known_place is_usable (transfer_target x) ≡ true
 target-known temps (Store t r) h = refl
 target-known temps (Load t r) h = given-usable r (All-head IsGivenRegister r [] h.1)
 target-known temps (Shift t from to) h = given-usable to (All-head IsGivenRegister to [] (All-tail IsGivenRegister from (to ∷ []) h.1))
 
-knows-moved : (temps : ℕ) (xs : List Transfer) (h : Held) → All (IsTransfer temps IsGivenRegister) xs → Knows usable h → Knows usable (move_all xs h)
+knows-moved : (temps : ℕ) (xs : List Transfer) (h : Held) → All (IsTransfer temps IsGivenRegister) xs → Knows is_usable h → Knows is_usable (move_all xs h)
 knows-moved temps [] h all knows = knows
-knows-moved temps (x ∷ xs) h all knows = knows-moved temps xs (stands (Temp (moved_temp x)) (target_of x) h)
+knows-moved temps (x ∷ xs) h all knows = knows-moved temps xs (stands (Temp (moved_temp x)) (transfer_target x) h)
     (All-tail (IsTransfer temps IsGivenRegister) x xs all)
-    (knows-stands usable (Temp (moved_temp x)) (target_of x) h knows (target-known temps x (All-head (IsTransfer temps IsGivenRegister) x xs all)))
+    (knows-stands is_usable (Temp (moved_temp x)) (transfer_target x) h knows (target-known temps x (All-head (IsTransfer temps IsGivenRegister) x xs all)))
 
 -- ---- behind an instruction
 
@@ -134,9 +134,9 @@ others-known (i.Serve Trap) = tt
 others-known (i.Return with_value) = tt
 others-known i.Mark = tt
 
-knows-behind : (a : Plan) → HasLists a → (block at : ℕ) (o : Option TempInsn) (h : Held) → Knows usable h → Knows usable (behind_insn (transfers_at a block at) (registers_at a block at) o h)
+knows-behind : (a : Plan) → HasLists a → (block at : ℕ) (o : Option TempInsn) (h : Held) → Knows is_usable h → Knows is_usable (behind_insn (transfers_at a block at) (registers_at a block at) o h)
 knows-behind a l block at None h knows = knows
-knows-behind a l block at (Some x) h knows = knows-written (holders_written x) (places_written_at rs x) (end_all (is_ended x) (move_all (transfers_at a block at) h))
+knows-behind a l block at (Some x) h knows = knows-written (holders_written x) (places_written_at rs x) (end_all (ends_place x) (move_all (transfers_at a block at) h))
     (known-append (map Reg (drop (length (reads_of x)) rs)) (map home_of (others_written x))
     (known-registers (length (reads_of x)) rs (all-at IsGivenRegister a.regs (linear_number a.function.blocks block at) l.given))
     (others-known x))
@@ -147,35 +147,35 @@ knows-behind a l block at (Some x) h knows = knows-written (holders_written x) (
 
 -- ---- at the top of a block
 
-knows-entry : (a : Plan) → Knows usable (at_entry a)
-knows-entry a (Temp t) q e = subst (λ z. known_place usable z ≡ true) (sym e) refl
-knows-entry a (Fixed r) q e = subst (λ z. known_place usable z ≡ true) (sym e.1) (argument-usable a.params r e.0)
+knows-entry : (a : Plan) → Knows is_usable (at_entry a)
+knows-entry a (Temp t) q e = subst (λ z. known_place is_usable z ≡ true) (sym e) refl
+knows-entry a (Fixed r) q e = subst (λ z. known_place is_usable z ≡ true) (sym e.1) (argument-usable a.params r e.0)
 knows-entry a (Incoming k) q e = absurd e
 knows-entry a (Outgoing k) q e = absurd e
 
-place-usable : (t : ℕ) (p : Loc) → IsOwnPlace t p → known_place usable (place_of p) ≡ true
+place-usable : (t : ℕ) (p : Loc) → IsOwnPlace t p → known_place is_usable (top_place p) ≡ true
 place-usable t (loc.Reg r) h = given-usable r h
 place-usable t (loc.Slot k) h = refl
 
-named-usable : (temps t : ℕ) (ss : List TempPlace) → All (IsStanding temps) ss → known_place usable (named_place t (find (λ s. s.temp == t) ss)) ≡ true
+named-usable : (temps t : ℕ) (ss : List TempPlace) → All (IsStanding temps) ss → known_place is_usable (named_place t (find (λ s. s.temp == t) ss)) ≡ true
 named-usable temps t [] all = refl
-named-usable temps t (s ∷ ss) all = let head = All-head (IsStanding temps) s ss all in either (λ o. known_place usable (named_place t o) ≡ true) (s.temp == t) (Some s) (find (λ z. z.temp == t) ss)
+named-usable temps t (s ∷ ss) all = let head = All-head (IsStanding temps) s ss all in either (λ o. known_place is_usable (named_place t o) ≡ true) (s.temp == t) (Some s) (find (λ z. z.temp == t) ss)
     (place-usable s.temp s.place head.1)
     (named-usable temps t ss (All-tail (IsStanding temps) s ss all))
 
-knows-top : (a : Plan) → HasLists a → (block : ℕ) → Knows usable (at_top a block)
+knows-top : (a : Plan) → HasLists a → (block : ℕ) → Knows is_usable (at_top a block)
 knows-top a l block (Temp t) q e = ⊎_elim
-    (λ x. subst (λ z. known_place usable z ≡ true) (sym x.1) (named-usable a.temps t (slice_index_or a.top block []) (all-at (IsStanding a.temps) a.top block l.standing.0)))
-    (λ x. subst (λ z. known_place usable z ≡ true) (sym x.1) refl)
+    (λ x. subst (λ z. known_place is_usable z ≡ true) (sym x.1) (named-usable a.temps t (slice_index_or a.top block []) (all-at (IsStanding a.temps) a.top block l.standing.0)))
+    (λ x. subst (λ z. known_place is_usable z ≡ true) (sym x.1) refl)
     e
 knows-top a l block (Fixed r) q e = absurd e
 knows-top a l block (Incoming k) q e = absurd e
 knows-top a l block (Outgoing k) q e = absurd e
 
-knows-start : (a : Plan) → HasLists a → (block : ℕ) → Knows usable (at_start a block)
+knows-start : (a : Plan) → HasLists a → (block : ℕ) → Knows is_usable (at_start a block)
 knows-start a l zero = knows-entry a
 knows-start a l (suc block) = knows-top a l (suc block)
 
-pub knows-before : (a : Plan) → HasLists a → (block at : ℕ) → Knows usable (before a block at)
+pub knows-before : (a : Plan) → HasLists a → (block at : ℕ) → Knows is_usable (held_before a block at)
 knows-before a l block zero = knows-start a l block
-knows-before a l block (suc at) = knows-behind a l block at (insn_at a.function.blocks block at) (before a block at) (knows-before a l block at)
+knows-before a l block (suc at) = knows-behind a l block at (insn_at a.function.blocks block at) (held_before a block at) (knows-before a l block at)

@@ -10,9 +10,9 @@ use Rattle.temp_ir.specs.Insns.{targets_of, flows_on_of}
 use Rattle.alloc_model.specs.declared.allocation.EdgeCode.{EdgeCode}
 use Rattle.alloc_model.specs.Temporaries.{goes_on, flows_out}
 use Rattle.alloc_model.specs.Places.{Plan, edge_transfers, code_in}
-use Rattle.alloc_model.specs.Faithful.{MovesAsk, before, rising, edges_from, Faithful}
+use Rattle.alloc_model.specs.Faithful.{MovesAsk, held_before, sorted_targets, sorted_edges_from, Faithful}
 use Rattle.frame_transfers.specs.Laws.{CanTransferAll}
-use Rattle.function_items.specs.InstructionItemsLaws.{usable}
+use Rattle.function_items.specs.InstructionItemsLaws.{is_usable}
 use Rattle.function_items.specs.Items.{ends_with_branch, top_transfers}
 use Rattle.function_shapes.specs.Shapes.{shape_of}
 use Rattle.edge_shapes.proofs.Holding.{either}
@@ -65,7 +65,7 @@ one-of true n to (zero, lt, is) = (refl, sym is)
 one-of true n to (suc k, lt, is) = absurd (omega (arith, lt))
 one-of false n to (k, lt, is) = absurd (omega (arith, lt))
 
-all-rising : (P : ℕ → Type 0) (xs : List ℕ) → All P xs → All P (rising xs)
+all-rising : (P : ℕ → Type 0) (xs : List ℕ) → All P xs → All P (sorted_targets xs)
 all-rising P [] h = h
 all-rising P (a ∷ []) h = h
 all-rising P (a ∷ b ∷ []) h = either (All P) (nat_lt b a) (b ∷ a ∷ []) (a ∷ b ∷ [])
@@ -73,10 +73,10 @@ all-rising P (a ∷ b ∷ []) h = either (All P) (nat_lt b a) (b ∷ a ∷ []) (
     h
 all-rising P (a ∷ b ∷ c ∷ xs) h = h
 
-pub all-edges : (G : ℕ × ℕ → Type 0) (start : ℕ) (blocks : List (List TempInsn)) → ((k : ℕ) (insns : List TempInsn) → slice_get blocks k ≡ Some insns → (to : ℕ) → Contains (successors_of targets_of flows_on_of (start + k) insns) to → G (start + k, to)) → All G (edges_from start blocks)
+pub all-edges : (G : ℕ × ℕ → Type 0) (start : ℕ) (blocks : List (List TempInsn)) → ((k : ℕ) (insns : List TempInsn) → slice_get blocks k ≡ Some insns → (to : ℕ) → Contains (successors_of targets_of flows_on_of (start + k) insns) to → G (start + k, to)) → All G (sorted_edges_from start blocks)
 all-edges G start [] h = All-from_recursion G [] tt
-all-edges G start (insns ∷ blocks) h = All-append G (map (λ to. (start, to)) (rising after)) (edges_from (suc start) blocks)
-    (All-map G (λ to. (start, to)) (rising after)
+all-edges G start (insns ∷ blocks) h = All-append G (map (λ to. (start, to)) (sorted_targets after)) (sorted_edges_from (suc start) blocks)
+    (All-map G (λ to. (start, to)) (sorted_targets after)
     (all-rising (λ to. G (start, to)) after
     (λ k d lt. here (slice_index_or after k d) (All-contains_itself after k d lt))))
     (all-edges G (suc start) blocks
@@ -98,7 +98,7 @@ all-unmapped G f (x ∷ xs) h = All-cons (λ z. G (f z)) x xs (All-head G (f x) 
 
 record IsAsked (a : Plan) (from to : ℕ) : Type 0 where
   at : ℕ
-  moves : MovesAsk (edge_transfers a from to) (before a from at)
+  moves : MovesAsk (edge_transfers a from to) (held_before a from at)
 
 goes-on-asked : (a : Plan) → Faithful a → (k : ℕ) (insns : List TempInsn) → slice_get a.function.blocks k ≡ Some insns → flows_out insns ≡ true → (to : ℕ) → to ≡ suc k → IsAsked a k to
 goes-on-asked a f k insns there flows to is =
@@ -126,7 +126,7 @@ all-asked a f = all-unmapped (λ e. IsAsked a e.0 e.1) (λ e. (e.from, e.to)) a.
 
 -- ---- the edge at the top of a block
 
-option-fits : (a : Plan) → Faithful a → (block : ℕ) (o : Option EdgeCode) → find (λ e. (e.to == block) && ends_with_branch (slice_index_or a.function.blocks e.from [])) a.edges ≡ o → CanTransferAll (shape_of a) usable (code_in o)
+option-fits : (a : Plan) → Faithful a → (block : ℕ) (o : Option EdgeCode) → find (λ e. (e.to == block) && ends_with_branch (slice_index_or a.function.blocks e.from [])) a.edges ≡ o → CanTransferAll (shape_of a) is_usable (code_in o)
 option-fits a f block None is = tt
 option-fits a f block (Some z) is =
     let one = found-one (λ e. (e.to == block) && ends_with_branch (slice_index_or a.function.blocks e.from [])) (λ e. IsAsked a e.from e.to) a.edges z (all-asked a f) is in
@@ -135,7 +135,7 @@ option-fits a f block (Some z) is =
     (narrow one.1)
     (and-both (z.from == z.from) (z.to == z.to) (eq-eqb z.from z.from refl) (eq-eqb z.to z.to refl))
     is in
-    subst (λ o. CanTransferAll (shape_of a) usable (code_in o)) same
+    subst (λ o. CanTransferAll (shape_of a) is_usable (code_in o)) same
     (found_fits a f.lists (λ e. (e.from == z.from) && (e.to == z.to)) z.from asked.at asked.moves)
   where
     narrow : ((z.to == block) && ends_with_branch (slice_index_or a.function.blocks z.from [])) ≡ true → (y : EdgeCode) → ((y.from == z.from) && (y.to == z.to)) ≡ true → ((y.to == block) && ends_with_branch (slice_index_or a.function.blocks y.from [])) ≡ true
@@ -144,5 +144,5 @@ option-fits a f block (Some z) is =
         subst (λ m. ((y.to == block) && ends_with_branch (slice_index_or a.function.blocks m [])) ≡ true) (sym (eqb-true y.from z.from h.0))
         (subst (λ m. ((m == block) && ends_with_branch (slice_index_or a.function.blocks z.from [])) ≡ true) (sym (eqb-true y.to z.to h.1)) passes)
 
-pub tops_fit : (a : Plan) → Faithful a → (block : ℕ) → CanTransferAll (shape_of a) usable (top_transfers a block)
+pub tops_fit : (a : Plan) → Faithful a → (block : ℕ) → CanTransferAll (shape_of a) is_usable (top_transfers a block)
 tops_fit a f block = option-fits a f block (find (λ e. (e.to == block) && ends_with_branch (slice_index_or a.function.blocks e.from [])) a.edges) refl

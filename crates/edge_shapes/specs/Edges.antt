@@ -7,7 +7,7 @@ use Rattle.temp_ir.specs.Insns.{targets_of}
 use Rattle.alloc_model.specs.Places.{Plan, edge_transfers}
 use Rattle.alloc_model.specs.Faithful.{Faithful}
 use Rattle.frame_transfers.specs.Laws.{CanTransferAll}
-use Rattle.function_items.specs.InstructionItemsLaws.{usable}
+use Rattle.function_items.specs.InstructionItemsLaws.{is_usable}
 use Rattle.function_items.specs.Items.{top_transfers, end_transfers}
 use Rattle.function_shapes.specs.Shapes.{shape_of}
 
@@ -15,14 +15,14 @@ use Rattle.function_shapes.specs.Shapes.{shape_of}
 abbrev pub TargetsFit : Type 0
 TargetsFit =
     (a : Plan) → Faithful a → (block at : ℕ) (x : TempInsn) → insn_at a.function.blocks block at ≡ Some x → (k to : ℕ) →
-    slice_get (targets_of x) k ≡ Some to → CanTransferAll (shape_of a) usable (edge_transfers a block to)
+    slice_get (targets_of x) k ≡ Some to → CanTransferAll (shape_of a) is_usable (edge_transfers a block to)
 
 -- and those at the end of a block that goes on to the next one
 abbrev pub EndsFit : Type 0
 EndsFit =
     (a : Plan) → Faithful a → (block : ℕ) (insns : List TempInsn) → slice_get a.function.blocks block ≡ Some insns →
-    CanTransferAll (shape_of a) usable (end_transfers a block insns)
+    CanTransferAll (shape_of a) is_usable (end_transfers a block insns)
 
 -- and those at the top of a block, of the edge that leads to it from a block with a branch
 abbrev pub TopsFit : Type 0
-TopsFit = (a : Plan) → Faithful a → (block : ℕ) → CanTransferAll (shape_of a) usable (top_transfers a block)
+TopsFit = (a : Plan) → Faithful a → (block : ℕ) → CanTransferAll (shape_of a) is_usable (top_transfers a block)

@@ -15,7 +15,7 @@ use Rattle.alloc_model.specs.Places.{Places, Plan, placed_site, do_all}
 use Rattle.frame_transfers.specs.Items.{items_of_transfers}
 use Rattle.frame_transfers.specs.Laws.{CallAt, FitsTheStack, StandsFor, CanTransferAll}
 use Rattle.function_items.specs.InstructionItems.{ItemSetting}
-use Rattle.function_items.specs.InstructionItemsLaws.{usable, HasOuter}
+use Rattle.function_items.specs.InstructionItemsLaws.{is_usable, HasOuter}
 use Rattle.placed_steps.specs.Stacks.{Waiting, Start, StackIs}
 use Rattle.placed_steps.specs.Points.{AllMayTransfer, PointIsPassed, PointIsLeft}
 use Rattle.function_items.specs.Items.{top_transfers, insns_items, end_transfers, blocks_items, exit_items}
@@ -26,8 +26,8 @@ abbrev pub EdgesAreDone : Type 0
 EdgesAreDone =
     (p : Program) (there : Labels) (start : Start) (rest : List AsmItem) (end : ℕ) (c : CallAt) (gs : List Waiting)
     (o : Outer) (store : Places) (s : State) → FitsTheStack c → StackIs p there start c gs store s → HasOuter o s →
-    (xs : List Transfer) → CanTransferAll c.shape usable xs →
-    StandsFor p there (items_of_transfers c.shape xs rest) end c o.memory usable store s →
+    (xs : List Transfer) → CanTransferAll c.shape is_usable xs →
+    StandsFor p there (items_of_transfers c.shape xs rest) end c o.memory is_usable store s →
     PointIsPassed p there start rest end c gs o (do_all xs store) s
 
 -- a jump, with the transfers before it and those of its edge
@@ -35,11 +35,11 @@ abbrev pub JumpsAreDone : Type 0
 JumpsAreDone =
     (p : Program) (there : Labels) (start : Start) (rest : List AsmItem) (end : ℕ) (c : CallAt) (gs : List Waiting)
     (o : Outer) (store : Places) (s : State) → FitsTheStack c → StackIs p there start c gs store s → HasOuter o s →
-    (transfers edge : List Transfer) → AllMayTransfer c.shape transfers → CanTransferAll c.shape usable edge →
+    (transfers edge : List Transfer) → AllMayTransfer c.shape transfers → CanTransferAll c.shape is_usable edge →
     (l widest block : ℕ) (registers : List ℕ) → registers ≡ [] →
     StandsFor p there
     (items_of_transfers c.shape transfers
-    (items_of_transfers c.shape edge (Branch Br 31 l ∷ rest))) end c o.memory usable
+    (items_of_transfers c.shape edge (Branch Br 31 l ∷ rest))) end c o.memory is_usable
     store s →
     PointIsLeft p there start l c gs o
     (do_all edge ((placed_site widest transfers registers (i.Jump block)).put [] store)) s
@@ -49,8 +49,8 @@ abbrev pub EndsAreDone : Type 0
 EndsAreDone =
     (p : Program) (there : Labels) (start : Start) (items : List AsmItem) (end : ℕ) (c : CallAt) (gs : List Waiting)
     (o : Outer) (store : Places) (s : State) → FitsTheStack c → StackIs p there start c gs store s → HasOuter o s →
-    (xs : List Transfer) (l : ℕ) → CanTransferAll c.shape usable xs →
-    StandsFor p there (items_of_transfers c.shape xs (Label l ∷ items)) end c o.memory usable store s →
+    (xs : List Transfer) (l : ℕ) → CanTransferAll c.shape is_usable xs →
+    StandsFor p there (items_of_transfers c.shape xs (Label l ∷ items)) end c o.memory is_usable store s →
     PointIsPassed p there start items end c gs o (do_all xs store) s
 
 -- from the label of a block the machine comes to its first instruction, with the transfers at its top done
@@ -60,7 +60,7 @@ BlocksAreEntered =
     (end : ℕ) (c : CallAt) (gs : List Waiting) (o : Outer) (held : Places) (s : State) → FitsTheStack c →
     g.shape ≡ c.shape →
     FunctionStands p there a g number behind end → (block : ℕ) (insns : List TempInsn) →
-    slice_get a.function.blocks block ≡ Some insns → CanTransferAll c.shape usable (top_transfers a block) →
+    slice_get a.function.blocks block ≡ Some insns → CanTransferAll c.shape is_usable (top_transfers a block) →
     PointIsLeft p there start (g.block_label block) c gs o held s →
     PointIsPassed p there start
     (insns_items a g block 0 insns (items_of_transfers g.shape (end_transfers a block insns)

@@ -4,7 +4,7 @@ use Rattle.std.specs.Prelude.{nat_lt, slice_get, if◌then◌else◌}
 use Rattle.std.proofs.lemmas.Bool.{lt-ltb, le-ltb, cond-true, cond-false}
 use Rattle.data_object.specs.Layout.{place_after}
 use Rattle.flat_memory.specs.Relation.{OfObject, OfFrame, SlotPiece, ReturnPiece, SavedPiece, ArgumentPiece}
-use Rattle.flat_frames.specs.Shapes.{FrameShape, argument_at, return_at, saved_at, slot_at, objects_at, bytes_before, object_at, objects_size, object_owner, owner_at, IsPiece, PiecesOf, IsSmallFrame}
+use Rattle.flat_frames.specs.Shapes.{FrameShape, argument_at, return_at, saved_at, slot_at, objects_at, bytes_before, frame_object_at, objects_size, object_owner, owner_at, IsPiece, PiecesOf, IsSmallFrame}
 
 -- ---- objects
 
@@ -87,12 +87,12 @@ module _ (s : FrameShape) (depth own : ℕ) where
         ∙ ap (λ j. OfFrame depth (SlotPiece j)) is;
   }
 
-  object-piece : (k n : ℕ) → slice_get s.sizes k ≡ Some n → IsPiece s depth own (object_at s k) n (OfObject (own + k))
+  object-piece : (k n : ℕ) → slice_get s.sizes k ≡ Some n → IsPiece s depth own (frame_object_at s k) n (OfObject (own + k))
   object-piece k n e = record {
     within = let h = object-within s.sizes k n e in omega (arith, h);
     owned = λ i small.
-        let rest : object_at s k + i - objects_at s ≡ bytes_before s.sizes k + i = omega arith in
-        behind_slots (object_at s k + i) (omega arith) ∙ ap (object_owner depth own s.sizes) rest ∙ object-owned s.sizes depth own k n i e small;
+        let rest : frame_object_at s k + i - objects_at s ≡ bytes_before s.sizes k + i = omega arith in
+        behind_slots (frame_object_at s k + i) (omega arith) ∙ ap (object_owner depth own s.sizes) rest ∙ object-owned s.sizes depth own k n i e small;
   }
 
   pub pieces_of : PiecesOf s depth own

@@ -8,7 +8,7 @@ use Rattle.alloc_model.specs.Places.{Places, Reg, Slot, Out, place_eq}
 use Rattle.flat_memory.specs.Bytes.{Bytes, bytes_from, put_bytes, low_bytes, number_from}
 use Rattle.flat_memory.specs.Relation.{Extents, Owner, Owners, OfObject, OfFrame, Nobody, FramePiece, SlotPiece, ArgumentPiece, MemoryIs}
 use Rattle.flat_operations.specs.Contents.{ContentIs}
-use Rattle.flat_frames.specs.Shapes.{FrameShape, argument_at, slot_at, object_at, frame_size, owner_at}
+use Rattle.flat_frames.specs.Shapes.{FrameShape, argument_at, slot_at, frame_object_at, frame_size, owner_at}
 
 -- the word at an address, and the bytes with a word there
 abbrev pub word_in : Bytes → (address : ℕ) → ℕ
@@ -25,7 +25,7 @@ pub record FrameIs (xs : Extents) (owner : Owners) (m : Bytes) (sp depth own : �
   pub outgoing : (k : ℕ) → k < s.outgoing → ContentIs xs (store (Out k)) (word_in m (sp + argument_at k))
   pub owned : (i : ℕ) → i < frame_size s → owner (sp + i) ≡ owner_at s depth own i
   pub objects : (k n : ℕ) → slice_get s.sizes k ≡ Some n →
-      slice_get xs (own + k) ≡ Some (record { base = sp + object_at s k; size = n })
+      slice_get xs (own + k) ≡ Some (record { base = sp + frame_object_at s k; size = n })
 
 -- bytes of objects alone may change
 pub record KeepsFrames (owner : Owners) (m k : Bytes) : Type 0 where

@@ -35,8 +35,8 @@ bytes_before sizes zero = 0
 bytes_before [] (suc k) = 0
 bytes_before (n ∷ sizes) (suc k) = place_after n + bytes_before sizes k
 
-abbrev pub object_at : FrameShape → (number : ℕ) → ℕ
-object_at s k = objects_at s + bytes_before s.sizes k
+abbrev pub frame_object_at : FrameShape → (number : ℕ) → ℕ
+frame_object_at s k = objects_at s + bytes_before s.sizes k
 
 abbrev pub objects_size : (sizes : List ℕ) → ℕ
 objects_size sizes = bytes_before sizes (length sizes)
@@ -75,7 +75,8 @@ pub record PiecesOf (s : FrameShape) (depth own : ℕ) : Type 0 where
   pub returns : IsPiece s depth own (return_at s) 8 (OfFrame depth ReturnPiece)
   pub saved : (r : ℕ) → 9 ≤ r → r < 16 → IsPiece s depth own (saved_at s r) 8 (OfFrame depth (SavedPiece r))
   pub slots : (t : ℕ) → t < s.temps → IsPiece s depth own (slot_at s t) 8 (OfFrame depth (SlotPiece t))
-  pub objects : (k n : ℕ) → slice_get s.sizes k ≡ Some n → IsPiece s depth own (object_at s k) n (OfObject (own + k))
+  pub objects : (k n : ℕ) → slice_get s.sizes k ≡ Some n
+      → IsPiece s depth own (frame_object_at s k) n (OfObject (own + k))
 
 abbrev pub PiecesLieApart : Type 0
 PiecesLieApart = (s : FrameShape) (depth own : ℕ) → PiecesOf s depth own

@@ -16,7 +16,7 @@ use Rattle.data_object.specs.Start.{memory_cell, start_object, start_memory}
 use Rattle.flat_memory.specs.Bytes.{Bytes, AreBytes, low_bytes}
 use Rattle.flat_memory.specs.Relation.{Extents, IsExtent, CellIs, CellsAreAt, OfObject, Nobody, ObjectIs, MemoryIs}
 use Rattle.flat_memory.specs.Machine.{is_in_data, is_in_stack, memory_bytes, HasParts}
-use Rattle.flat_globals.specs.Globals.{offset_of, cell_byte, AreLaidOut, DataIs, extents_of, owner_from, owner_of}
+use Rattle.flat_globals.specs.Globals.{global_offset, cell_byte, AreLaidOut, DataIs, extents_of, owner_from, owner_of}
 use Rattle.flat_globals.proofs.Lists.{get-below, stands-at, get-index, get-map, map-size, replicate-size, append-size, get-first, get-second, get-same, byte-small}
 
 -- ---- where objects lie
@@ -158,7 +158,7 @@ module _ (globals : List DataObject) (p : Program) (s : State) (lawful : AreLaid
           within = subst (Reaches plus) e reaches;
           place = refl;
         },
-        is ∙ ap (λ z. slice_index (low_bytes 8 (start + offset_of z + plus)) part) e,
+        is ∙ ap (λ z. slice_index (low_bytes 8 (start + global_offset z + plus)) part) e,
       )
 
   cell-is : (k : ℕ) (o : DataObject) → slice_get globals k ≡ Some o → (at : ℕ) (x : DataCell) (n : ℕ) → slice_get o.cells at ≡ Some x → n ≡ cell_byte globals start x → CellIs xs (memory_cell x) n

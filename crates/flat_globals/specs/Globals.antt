@@ -14,15 +14,15 @@ use Rattle.flat_memory.specs.Relation.{Extents, Owners, OfObject, Nobody, Memory
 use Rattle.flat_memory.specs.Machine.{memory_bytes, HasParts}
 
 -- where an object begins in the data, in bytes
-abbrev pub offset_of : Option DataObject → ℕ
-offset_of None = 0
-offset_of (Some o) = o.offset
+abbrev pub global_offset : Option DataObject → ℕ
+global_offset None = 0
+global_offset (Some o) = o.offset
 
 -- the byte of a cell, where the data begins at an address
 abbrev pub cell_byte : List DataObject → (start : ℕ) → DataCell → ℕ
 cell_byte globals start (Byte b) = b
 cell_byte globals start (AddressPart global plus part) =
-    slice_index (low_bytes 8 (start + offset_of (slice_get globals global) + plus)) part
+    slice_index (low_bytes 8 (start + global_offset (slice_get globals global) + plus)) part
 
 -- objects lie one behind the other, have no more cells than bytes, and hold addresses of objects that are there
 pub record AreLaidOut (globals : List DataObject) : Type 0 where

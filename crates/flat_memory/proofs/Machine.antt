@@ -3,8 +3,8 @@ use Rattle.std.proofs.Common.{◌≡◌, ℕ, zero, suc, ◌+◌, ◌-◌, ◌*�
 use Rattle.std.specs.Prelude.{◌==◌, ◌&&◌, ◌||◌, not, nat_le, nat_lt, slice_index, if◌then◌else◌}
 use Rattle.std.proofs.lemmas.Bool.{cases_lt, ltb-true, leb-true, lt-ltb, le-leb, lt-leb, le-ltb, and_parts, and_from, or_cases, and_left, and_right, false_from_ne_true, cond-true, cond-false}
 use Rattle.std.proofs.lemmas.List.{length-take-le, get_or-take, get_or-drop, get_or_append_left, get_or-append_right}
-use Rattle.alpha_isa.specs.Program.{Program, data_start, stack_start, data_size}
-use Rattle.alpha_isa.specs.State.{State, lies_in, part_of, with_part, bytes_at, with_bytes}
+use Rattle.alpha_isa.specs.Program.{Program, data_start, stack_start, image_data_size}
+use Rattle.alpha_isa.specs.State.{State, lies_in, byte_range, with_part, bytes_at, with_bytes}
 use Rattle.mem_model.specs.Memory.{IsWidth}
 use Rattle.flat_memory.specs.Bytes.{Bytes, bytes_from, put_bytes, low_bytes, number_from}
 use Rattle.flat_memory.specs.Machine.{is_in_data, is_in_stack, is_reached, memory_bytes, HasParts, IsReached, IsAfterStore, NumbersOfAccesses}
@@ -126,7 +126,7 @@ module _ (p : Program) (s : State) (parts : HasParts p s) where
       (λ e. let j = in_part-is (data_start p) (a + (width - 1)) (length s.data_bytes) e in inl (record { from = i.0; to = let k = j.1 in omega (arith, k) }))
       (λ e. let j = in_part-is (stack_start p) (a + (width - 1)) (length s.stack_bytes) e in
       let le = below in let lt = i.1 in
-      let end = stays_below a width ((data_start p + data_size p + 65535) / 65536) wide r.aligned (omega (arith, le, lt)) in
+      let end = stays_below a width ((data_start p + image_data_size p + 65535) / 65536) wide r.aligned (omega (arith, le, lt)) in
       let k = j.0 in absurd (omega (arith, k, end)))
       (or_cases (is_in_data p s (a + (width - 1))) (is_in_stack p s (a + (width - 1))) last))
       (λ d. let i = in_part-is (stack_start p) a (length s.stack_bytes) d in ⊎_elim
@@ -152,11 +152,11 @@ module _ (p : Program) (s : State) (parts : HasParts p s) where
   loads_read_bytes a width wide r = ⊎_elim
       (λ l.
       let f = l.from in let t = l.to in
-      three (not (a % width == 0)) (lies_in a width (data_start p) s.data_bytes) (lies_in a width (stack_start p) s.stack_bytes) None (Some (part_of s.data_bytes (a - data_start p) width)) (Some (part_of s.stack_bytes (a - stack_start p) width)) None (is_aligned a width r.aligned) (lies a width (data_start p) s.data_bytes l)
+      three (not (a % width == 0)) (lies_in a width (data_start p) s.data_bytes) (lies_in a width (stack_start p) s.stack_bytes) None (Some (byte_range s.data_bytes (a - data_start p) width)) (Some (byte_range s.stack_bytes (a - stack_start p) width)) None (is_aligned a width r.aligned) (lies a width (data_start p) s.data_bytes l)
       ∙ ap Some (part-bytes (memory_bytes p s) s.data_bytes a (a - data_start p) width (omega (arith, f, t)) (λ k lt. let e : a + k - data_start p ≡ a - data_start p + k = omega (arith, f) in data_byte (a + k) (omega (arith, f)) (omega (arith, t)) ∙ ap (λ j. get_or s.data_bytes j 0) e)))
       (λ l.
       let f = l.from in let t = l.to in
-      four (not (a % width == 0)) (lies_in a width (data_start p) s.data_bytes) (lies_in a width (stack_start p) s.stack_bytes) None (Some (part_of s.data_bytes (a - data_start p) width)) (Some (part_of s.stack_bytes (a - stack_start p) width)) None (is_aligned a width r.aligned) (not_in_data a width (width-pos width wide) l.from) (lies a width (stack_start p) s.stack_bytes l)
+      four (not (a % width == 0)) (lies_in a width (data_start p) s.data_bytes) (lies_in a width (stack_start p) s.stack_bytes) None (Some (byte_range s.data_bytes (a - data_start p) width)) (Some (byte_range s.stack_bytes (a - stack_start p) width)) None (is_aligned a width r.aligned) (not_in_data a width (width-pos width wide) l.from) (lies a width (stack_start p) s.stack_bytes l)
       ∙ ap Some (part-bytes (memory_bytes p s) s.stack_bytes a (a - stack_start p) width (omega (arith, f, t)) (λ k lt. let e : a + k - stack_start p ≡ a - stack_start p + k = omega (arith, f) in stack_byte (a + k) (omega (arith, f)) (omega (arith, t)) ∙ ap (λ j. get_or s.stack_bytes j 0) e)))
       (one_part a width wide r)
 

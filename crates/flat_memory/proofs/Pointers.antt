@@ -5,12 +5,12 @@ use Rattle.std.specs.Ordering.{int_eq}
 use Rattle.std.proofs.lemmas.Bool.Decides.{Decides-int_eq}
 use Rattle.std.proofs.lemmas.Bool.{false_from_ne_true, cases_lt, cases_eq, eqb-true, ne_eqb, or_parts, not-true, ltb-false, lt-ltb, le-ltb, le-leb, lt-leb}
 use Rattle.std.proofs.lemmas.Int.{ints}
-use Rattle.alpha_isa.specs.Arithmetic.{word_at, word_from, difference}
+use Rattle.alpha_isa.specs.Arithmetic.{word_at, word_from, word_difference}
 use Rattle.mem_model.specs.declared.value.Ptr.{Ptr}
 use Rattle.mem_model.specs.declared.value.Value.{Value}
 use Rattle.mem_model.specs.declared.value.Value.TheVariants.{Word, Address, Unset}
 use Rattle.mem_model.specs.Memory.{Memory, object_at}
-use Rattle.mem_model.specs.Pointers.{ptr_plus, is_live, size_at, is_offset, is_at_end, share_object, when, pointer_plus, pointer_minus, pointer_lt, pointer_le, pointer_eq, addresses_eq, is_null}
+use Rattle.mem_model.specs.Pointers.{ptr_plus, is_live, size_at, is_offset, is_at_end, share_object, option_if, pointer_plus, pointer_minus, pointer_lt, pointer_le, pointer_eq, addresses_eq, is_null}
 use Rattle.mem_model.proofs.RowValues.{both}
 use Rattle.mem_model.proofs.Pointers.{when-some}
 use Rattle.flat_memory.specs.Bytes.{Bytes}
@@ -29,7 +29,7 @@ moved : (base at to size : ℕ) (by : ℤ) → pos at +ℤ by ≡ pos to → at 
 moved base at to size (pos n) e p q s = let f : at + n ≡ to = cc in omega (arith, f)
 moved base at to size (negsuc n) e p q s = let f : at ≡ to + suc n = omega (arith, ints, e) in omega (arith, f)
 
-apart : (base a b size : ℕ) (d : ℤ) → pos a -ℤ pos b ≡ d → a ≤ size → b ≤ size → base + size < 2 ^ 64 → word_at (difference (base + a) (base + b)) ≡ word_from d
+apart : (base a b size : ℕ) (d : ℤ) → pos a -ℤ pos b ≡ d → a ≤ size → b ≤ size → base + size < 2 ^ 64 → word_at (word_difference (base + a) (base + b)) ≡ word_from d
 apart base a b size (pos n) e p q s = let f : a ≡ b + n = omega (arith, ints, e) in omega (arith, f)
 apart base a b size (negsuc n) e p q s = let f : a + suc n ≡ b = omega (arith, ints, e) in omega (arith, f)
 
@@ -116,13 +116,13 @@ module _ (xs : Extents) (memory : Memory) (owner : Owners) (m : Bytes) (mem : Me
 
   -- ---- two pointers
 
-  minus-is : (v u : Value) (w x : ℕ) (d : ℤ) → ValueIs xs v w → ValueIs xs u x → pointer_minus memory v u ≡ Some d → word_at (difference w x) ≡ word_from d
+  minus-is : (v u : Value) (w x : ℕ) (d : ℤ) → ValueIs xs v w → ValueIs xs u x → pointer_minus memory v u ≡ Some d → word_at (word_difference w x) ≡ word_from d
   minus-is (Address p) (Address q) w x d s t e =
       let a = when-some (share_object memory p q) (p.offset -ℤ q.offset) d e in
       let tests = both (is_live memory p) (p.object == q.object) a.0 in
       let o = in_one p q w x s t (eqb-true p.object q.object tests.1) in
       let f : pos o.at -ℤ pos o.to ≡ d = ap (λ z. z -ℤ pos o.to) (sym o.p_offset) ∙ ap (λ z. p.offset -ℤ z) (sym o.q_offset) ∙ a.1 in
-      ap (λ k. word_at (difference k x)) o.w_is ∙ ap (λ k. word_at (difference (o.base + o.at) k)) o.x_is ∙ apart o.base o.at o.to o.size d f o.at_within o.to_within o.small
+      ap (λ k. word_at (word_difference k x)) o.w_is ∙ ap (λ k. word_at (word_difference (o.base + o.at) k)) o.x_is ∙ apart o.base o.at o.to o.size d f o.at_within o.to_within o.small
   minus-is (Address p) (Word k) w x d s t e = absurd (cc)
   minus-is (Address p) Unset w x d s t e = absurd (cc)
   minus-is (Word k) u w x d s t e = absurd (cc)
@@ -187,7 +187,7 @@ module _ (xs : Extents) (memory : Memory) (owner : Owners) (m : Bytes) (mem : Me
       let f : int_eq (pos o.at) (pos o.to) ≡ b = ap (λ z. int_eq z (pos o.to)) (sym o.p_offset) ∙ ap (int_eq p.offset) (sym o.q_offset) ∙ e in
       ap (λ k. k == x) o.w_is ∙ ap (λ k. o.base + o.at == k) o.x_is ∙ same_eq o.base o.at o.to ∙ f
 
-  eq-two : (p q : Ptr) (w x : ℕ) (b : Bool) → IsAddressOf xs p w → IsAddressOf xs q x → is_live memory p ≡ true → is_live memory q ≡ true → (p.object == q.object) ≡ false → when (not (is_at_end memory p || is_at_end memory q)) false ≡ Some b → (w == x) ≡ b
+  eq-two : (p q : Ptr) (w x : ℕ) (b : Bool) → IsAddressOf xs p w → IsAddressOf xs q x → is_live memory p ≡ true → is_live memory q ≡ true → (p.object == q.object) ≡ false → option_if (not (is_at_end memory p || is_at_end memory q)) false ≡ Some b → (w == x) ≡ b
   eq-two p q w x b s t lp lq differ e =
       let a = when-some (not (is_at_end memory p || is_at_end memory q)) false b e in
       let ends = or_parts (is_at_end memory p) (is_at_end memory q) (not-true (is_at_end memory p || is_at_end memory q) a.0) in
@@ -198,7 +198,7 @@ module _ (xs : Extents) (memory : Memory) (owner : Owners) (m : Bytes) (mem : Me
       clash : OfObject p.object ≡ OfObject q.object → ⊥
       clash h = let o : p.object ≡ q.object = cc in let t : true ≡ false = sym (eq-eqb p.object q.object o) ∙ differ in absurd (cc)
 
-  addresses-is : (p q : Ptr) (w x : ℕ) (b : Bool) → IsAddressOf xs p w → IsAddressOf xs q x → is_live memory p ≡ true → is_live memory q ≡ true → (t : Bool) → (p.object == q.object) ≡ t → (if t then Some (int_eq p.offset q.offset) else when (not (is_at_end memory p || is_at_end memory q)) false) ≡ Some b → (w == x) ≡ b
+  addresses-is : (p q : Ptr) (w x : ℕ) (b : Bool) → IsAddressOf xs p w → IsAddressOf xs q x → is_live memory p ≡ true → is_live memory q ≡ true → (t : Bool) → (p.object == q.object) ≡ t → (if t then Some (int_eq p.offset q.offset) else option_if (not (is_at_end memory p || is_at_end memory q)) false) ≡ Some b → (w == x) ≡ b
   addresses-is p q w x b s t lp lq true one e = eq-same p q w x b s t (eqb-true p.object q.object one) cc
   addresses-is p q w x b s t lp lq false two e = eq-two p q w x b s t lp lq two e
 

@@ -9,12 +9,12 @@ use Rattle.flat_memory.specs.Bytes.{Bytes, bytes_from, put_bytes, low_bytes, num
 use Rattle.flat_memory.specs.Relation.{Extents, Owners, OfObject, Nobody, MemoryIs}
 
 -- an object that holds a pointer to the third byte of another one, of which two bytes were written
-abbrev pub target : Ptr
-target = record { object = 1; offset = pos 2 }
+abbrev pub example_target : Ptr
+example_target = record { object = 1; offset = pos 2 }
 
 abbrev pub memory : Memory
 memory =
-    record { live = true; writable = true; cells = parts_of target }
+    record { live = true; writable = true; cells = parts_of example_target }
     ∷ record { live = true; writable = false; cells = Byte 7 ∷ Byte 1 ∷ Empty ∷ [] }
     ∷ no_object
     ∷ []
@@ -30,12 +30,12 @@ owners y =
     else if nat_le 65544 y && nat_lt y 65547 then OfObject 1 else Nobody
 
 -- the pointer is the address 65,546, and what was never written is any byte
-abbrev pub bytes : Bytes
-bytes = put_bytes (put_bytes (λ y. 0) 65536 (low_bytes 8 65546)) 65544 (7 ∷ 1 ∷ 99 ∷ [])
+abbrev pub example_bytes : Bytes
+example_bytes = put_bytes (put_bytes (λ y. 0) 65536 (low_bytes 8 65546)) 65544 (7 ∷ 1 ∷ 99 ∷ [])
 
 pub record ExampleStands : Type 0 where
-  pub stands : MemoryIs extents memory owners bytes
-  pub pointer : load_at memory (record { object = 0; offset = pos 0 }) 8 true ≡ Ok (Address target)
-  pub address : number_from (bytes_from bytes 65536 8) ≡ 65546
+  pub stands : MemoryIs extents memory owners example_bytes
+  pub pointer : load_at memory (record { object = 0; offset = pos 0 }) 8 true ≡ Ok (Address example_target)
+  pub address : number_from (bytes_from example_bytes 65536 8) ≡ 65546
   pub number : load_at memory (record { object = 1; offset = pos 0 }) 2 false ≡ Ok (Word 263)
-  pub word : number_from (bytes_from bytes 65544 2) ≡ 263
+  pub word : number_from (bytes_from example_bytes 65544 2) ≡ 263

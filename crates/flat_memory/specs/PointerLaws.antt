@@ -1,6 +1,6 @@
 -- What the operators on pointers give, their addresses give as words.
 use Rattle.std.specs.Prelude.{◌≡◌, ◌==◌, ℕ, ◌+◌, ℤ, Bool, nat_lt, nat_le, Some}
-use Rattle.alpha_isa.specs.Arithmetic.{word_at, word_from, difference}
+use Rattle.alpha_isa.specs.Arithmetic.{word_at, word_from, word_difference}
 use Rattle.mem_model.specs.declared.value.Value.{Value}
 use Rattle.mem_model.specs.Memory.{Memory}
 use Rattle.mem_model.specs.Pointers.{pointer_plus, pointer_minus, pointer_lt, pointer_le, pointer_eq, is_null}
@@ -16,7 +16,7 @@ PointersMove =
 
 -- the distance and the comparisons of two pointers, and the test against null of the first
 pub record AnswersAre (memory : Memory) (v u : Value) (w x : ℕ) : Type 0 where
-  pub minus : (d : ℤ) → pointer_minus memory v u ≡ Some d → word_at (difference w x) ≡ word_from d
+  pub minus : (d : ℤ) → pointer_minus memory v u ≡ Some d → word_at (word_difference w x) ≡ word_from d
   pub lt : (b : Bool) → pointer_lt memory v u ≡ Some b → nat_lt w x ≡ b
   pub le : (b : Bool) → pointer_le memory v u ≡ Some b → nat_le w x ≡ b
   pub eq : (b : Bool) → pointer_eq memory v u ≡ Some b → (w == x) ≡ b

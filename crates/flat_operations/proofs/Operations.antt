@@ -7,8 +7,8 @@ use Rattle.std.proofs.Math.Facts.{sfits_to_z}
 use Rattle.std.proofs.lemmas.Int.{of_z-to_z, ints}
 use Rattle.std.proofs.lemmas.Nat.{or_shifted}
 use Rattle.alpha_isa.specs.Arithmetic as isa
-use Rattle.alpha_isa.specs.Arithmetic.{OperationEffect, Keeps, Overflows, word_at, word_from, signed_value, difference, operation_effect}
-use Rattle.alpha_isa.specs.Step.{is_taken}
+use Rattle.alpha_isa.specs.Arithmetic.{OperationEffect, Keeps, Overflows, word_at, word_from, signed_value, word_difference, operation_effect}
+use Rattle.alpha_isa.specs.Step.{is_branch_taken}
 use Rattle.mem_model.specs.declared.value.Ptr.{Ptr}
 use Rattle.mem_model.specs.declared.value.Value.{Value}
 use Rattle.mem_model.specs.declared.value.Value.TheVariants.{Word, Address, Unset}
@@ -21,7 +21,7 @@ use Rattle.temp_ir.specs.declared.operation.Operation.{Operation}
 use Rattle.temp_ir.specs.declared.operation.Operation.TheVariants.{Addl, Subl, Cmpult, Addq, S4addq, Subq, Cmpeq, S8addq, Cmpule, AddlV, SublV, Cmplt, AddqV, SubqV, Cmple, And, Bic, Bis, Ornot, Xor, Eqv, Zapnot, Srl, Sll, Sra, Mull, Mulq, Umulh, MullV, MulqV}
 use Rattle.temp_ir.specs.declared.operation.ExtendOp.{ExtendOp}
 use Rattle.temp_ir.specs.Operations.{branch_op, operate_op, extend_op}
-use Rattle.alloc_model.specs.Contents.{Content, Plain, Bundle, word, Gives, residue, content_answer, effect_answer, test_word, pointer_moved, other_content, operate_answer, extend_answer, moved_content, pointer_test, test_of}
+use Rattle.alloc_model.specs.Contents.{Content, Plain, Bundle, word_content, Gives, residue, content_answer, effect_answer, test_word, pointer_moved, other_content, operate_answer, extend_answer, moved_content, pointer_test, branch_test}
 use Rattle.flat_memory.specs.Bytes.{Bytes, low_bytes}
 use Rattle.flat_memory.specs.Relation.{Extents, ValueIs, CellsAre, Owners, MemoryIs}
 use Rattle.flat_memory.specs.Laws.{MoreExtents}
@@ -47,19 +47,19 @@ from-signed n small =
 reading-fits : (n : ℕ) → FitsSigned w64 (signed_value w64 n)
 reading-fits n = sfits_to_z {w = w64} {n = n % 2 ^ 64} (record { fits = omega arith })
 
-from-negated : (x n : ℕ) (z d : ℤ) → FitsSigned w64 z → d ≡ pos 0 -ℤ z → word_from z ≡ n → n < 2 ^ 64 → word_at (x + word_from d) ≡ word_at (difference x n)
+from-negated : (x n : ℕ) (z d : ℤ) → FitsSigned w64 z → d ≡ pos 0 -ℤ z → word_from z ≡ n → n < 2 ^ 64 → word_at (x + word_from d) ≡ word_at (word_difference x n)
 from-negated x n (pos a) (pos b) fits e w small =
     let f : a + b ≡ 0 = omega (arith, ints, e) in
     let g : a ≡ n = w in
-    let h : word_at (x + b) ≡ word_at (difference x n) = omega (arith, f, g) in h
+    let h : word_at (x + b) ≡ word_at (word_difference x n) = omega (arith, f, g) in h
 from-negated x n (pos a) (negsuc b) fits e w small =
     let f : a ≡ suc b = omega (arith, ints, e) in
     let g : a ≡ n = w in
-    let h : word_at (x + (2 ^ 64 - suc b)) ≡ word_at (difference x n) = omega (arith, f, g, small) in h
+    let h : word_at (x + (2 ^ 64 - suc b)) ≡ word_at (word_difference x n) = omega (arith, f, g, small) in h
 from-negated x n (negsuc a) (pos b) fits e w small =
     let f : b ≡ suc a = omega (arith, ints, e) in
     let g : 2 ^ 64 - suc a ≡ n = w in
-    let h : word_at (x + b) ≡ word_at (difference x n) = omega (arith, f, g, small, fits.sfits) in h
+    let h : word_at (x + b) ≡ word_at (word_difference x n) = omega (arith, f, g, small, fits.sfits) in h
 from-negated x n (negsuc a) (negsuc b) fits e w small = let f : ⊥ = omega (arith, ints, e) in absurd f
 
 -- the word of a number that lies between -2^64 and 2^64 is its residue
@@ -81,7 +81,7 @@ module _ (xs : Extents) (memory : Memory) (owner : Owners) (m : Bytes) (mem : Me
   tested : (test : Option Bool) (b : Bool) (c : Content) → test_word test ≡ Some c → ((a : Bool) → test ≡ Some a → b ≡ a) → GivesFor (isa.Gives (if b then 1 else 0)) c
   unfolding GivesFor
   tested test b c e h =
-      let a = map-some (λ t. word (if t then 1 else 0)) test c e in
+      let a = map-some (λ t. word_content (if t then 1 else 0)) test c e in
       ((if b then 1 else 0), refl, subst (λ d. ContentIs xs d (if b then 1 else 0)) a.2 (ap (λ t. if t then 1 else 0) (h a.0 a.1)))
 
   sum-gives : (a b : Content) (x y : ℕ) (c : Content) → y < 2 ^ 64 → x < 2 ^ 64 → ContentIs xs a x → ContentIs xs b y → other_content memory Addq a b ≡ Some c → GivesFor (isa.Gives (word_at (x + y))) c
@@ -108,15 +108,15 @@ module _ (xs : Extents) (memory : Memory) (owner : Owners) (m : Bytes) (mem : Me
       let apart : pos h.at -ℤ pos k.at ≡ d = ap (λ z. z -ℤ pos k.at) (sym h.offset) ∙ ap (λ z. p.offset -ℤ z) (sym k.offset) ∙ made.1 in
       small-residue h.at k.at d apart (omega (arith, h.within, h.sound.small)) (omega (arith, k.within, k.sound.small))
 
-  difference-gives : (a b : Content) (x y : ℕ) (c : Content) → y < 2 ^ 64 → ContentIs xs a x → ContentIs xs b y → other_content memory Subq a b ≡ Some c → GivesFor (isa.Gives (word_at (difference x y))) c
+  difference-gives : (a b : Content) (x y : ℕ) (c : Content) → y < 2 ^ 64 → ContentIs xs a x → ContentIs xs b y → other_content memory Subq a b ≡ Some c → GivesFor (isa.Gives (word_at (word_difference x y))) c
   unfolding GivesFor
   difference-gives (Plain (Address p)) (Plain (Word n)) x y c fy h k e =
       let small : n < 2 ^ 64 = subst (λ j. j < 2 ^ 64) k fy in
-      moved-gives (Address p) x (pos 0 -ℤ signed_value w64 n) c (word_at (difference x y)) h e (from-negated x y (signed_value w64 n) (pos 0 -ℤ signed_value w64 n) (reading-fits n) refl (from-signed n small ∙ sym k) fy)
+      moved-gives (Address p) x (pos 0 -ℤ signed_value w64 n) c (word_at (word_difference x y)) h e (from-negated x y (signed_value w64 n) (pos 0 -ℤ signed_value w64 n) (reading-fits n) refl (from-signed n small ∙ sym k) fy)
   difference-gives (Plain (Address p)) (Plain (Address q)) x y c fy h k e =
-      let d = map-some (λ z. word (residue z)) (pointer_minus memory (Address p) (Address q)) c e in
-      let is : word_at (difference x y) ≡ residue d.0 = (pointers_answer xs memory owner m mem (Address p) (Address q) x y h k).minus d.0 d.1 ∙ distance-small p q x y d.0 h k d.1 in
-      (word_at (difference x y), refl, subst (λ z. ContentIs xs z (word_at (difference x y))) d.2 is)
+      let d = map-some (λ z. word_content (residue z)) (pointer_minus memory (Address p) (Address q)) c e in
+      let is : word_at (word_difference x y) ≡ residue d.0 = (pointers_answer xs memory owner m mem (Address p) (Address q) x y h k).minus d.0 d.1 ∙ distance-small p q x y d.0 h k d.1 in
+      (word_at (word_difference x y), refl, subst (λ z. ContentIs xs z (word_at (word_difference x y))) d.2 is)
   difference-gives (Plain (Address p)) (Plain Unset) x y c fy h k e = absurd (cc)
   difference-gives (Plain (Address p)) (Bundle cells) x y c fy h k e = absurd (cc)
   difference-gives (Plain (Word n)) b x y c fy h k e = absurd (cc)
@@ -219,7 +219,7 @@ module _ (xs : Extents) (memory : Memory) (owner : Owners) (m : Bytes) (mem : Me
 
   pub moves_correspond : (c d : Content) (x : ℕ) (by : ℤ) → ContentIs xs c x → moved_content memory c by ≡ Some d → ContentIs xs d (word_at (x + word_from by))
   moves_correspond (Plain (Word n)) d x by h e =
-      let is : word (word_at (n + word_from by)) ≡ d = cc in
+      let is : word_content (word_at (n + word_from by)) ≡ d = cc in
       subst (λ z. ContentIs xs z (word_at (x + word_from by))) is (ap (λ k. word_at (k + word_from by)) h)
   moves_correspond (Plain (Address p)) d x by h e =
       let u = map-some Plain (pointer_plus memory (Address p) by) d e in
@@ -230,7 +230,7 @@ module _ (xs : Extents) (memory : Memory) (owner : Owners) (m : Bytes) (mem : Me
   is-null : (v : Value) (x : ℕ) (b : Bool) → ValueIs xs v x → is_null memory v ≡ Some b → (x == 0) ≡ b
   is-null v x b h e = (pointers_answer xs memory owner m mem v v x x h h).null b e
 
-  pointer-tests : (op : TempBranchOp) (v : Value) (x : ℕ) (b : Bool) → ValueIs xs v x → pointer_test op (is_null memory v) ≡ Some b → is_taken (branch_op op) x ≡ b
+  pointer-tests : (op : TempBranchOp) (v : Value) (x : ℕ) (b : Bool) → ValueIs xs v x → pointer_test op (is_null memory v) ≡ Some b → is_branch_taken (branch_op op) x ≡ b
   pointer-tests Beq v x b h e = is-null v x b h e
   pointer-tests Bne v x b h e = let a = map-some not (is_null memory v) b e in ap not (is-null v x a.0 h a.1) ∙ a.2
   pointer-tests Blbc v x b h e = absurd (cc)
@@ -240,8 +240,8 @@ module _ (xs : Extents) (memory : Memory) (owner : Owners) (m : Bytes) (mem : Me
   pointer-tests Bge v x b h e = absurd (cc)
   pointer-tests Bgt v x b h e = absurd (cc)
 
-  pub tests_correspond : (op : TempBranchOp) (c : Content) (x : ℕ) (b : Bool) → ContentIs xs c x → test_of op memory c ≡ Some b → is_taken (branch_op op) x ≡ b
-  tests_correspond op (Plain (Word n)) x b h e = let is : is_taken (branch_op op) n ≡ b = cc in ap (is_taken (branch_op op)) h ∙ is
+  pub tests_correspond : (op : TempBranchOp) (c : Content) (x : ℕ) (b : Bool) → ContentIs xs c x → branch_test op memory c ≡ Some b → is_branch_taken (branch_op op) x ≡ b
+  tests_correspond op (Plain (Word n)) x b h e = let is : is_branch_taken (branch_op op) n ≡ b = cc in ap (is_branch_taken (branch_op op)) h ∙ is
   tests_correspond op (Plain (Address p)) x b h e = pointer-tests op (Address p) x b h e
   tests_correspond op (Plain Unset) x b h e = absurd (cc)
   tests_correspond op (Bundle cells) x b h e = absurd (cc)

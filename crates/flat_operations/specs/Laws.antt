@@ -2,7 +2,7 @@
 use Rattle.std.specs.Prelude.{◌≡◌, ℕ, ◌+◌, ◌^◌, ◌<◌, ℤ, Bool, Some}
 use Rattle.std.specs.Int.{w32}
 use Rattle.alpha_isa.specs.Arithmetic.{word_at, word_from, sign_extension, operation_effect}
-use Rattle.alpha_isa.specs.Step.{is_taken}
+use Rattle.alpha_isa.specs.Step.{is_branch_taken}
 use Rattle.mem_model.specs.declared.value.Ptr.{Ptr}
 use Rattle.mem_model.specs.Memory.{Memory}
 use Rattle.temp_ir.specs.declared.operation.LoadOp.{LoadOp}
@@ -12,7 +12,7 @@ use Rattle.temp_ir.specs.declared.operation.TempBranchOp.{TempBranchOp}
 use Rattle.temp_ir.specs.declared.operation.Operation.{Operation}
 use Rattle.temp_ir.specs.declared.operation.ExtendOp.{ExtendOp}
 use Rattle.temp_ir.specs.Operations.{branch_op, operate_op, extend_op}
-use Rattle.alloc_model.specs.Contents.{Content, operate_answer, extend_answer, moved_content, loaded_content, stored_memory, load_width, store_width, test_of}
+use Rattle.alloc_model.specs.Contents.{Content, operate_answer, extend_answer, moved_content, loaded_content, stored_memory, load_width, store_width, branch_test}
 use Rattle.flat_memory.specs.Bytes.{Bytes, bytes_from, put_bytes, low_bytes, number_from}
 use Rattle.flat_memory.specs.Relation.{Extents, Owners, MemoryIs}
 use Rattle.flat_memory.specs.Laws.{IsRangeAt, MoreExtents}
@@ -42,8 +42,8 @@ FlatMovesCorrespond =
 abbrev pub FlatTestsCorrespond : Type 0
 FlatTestsCorrespond =
     (xs : Extents) (memory : Memory) (owner : Owners) (m : Bytes) → MemoryIs xs memory owner m →
-    (op : TempBranchOp) (c : Content) (x : ℕ) (b : Bool) → ContentIs xs c x → test_of op memory c ≡ Some b →
-    is_taken (branch_op op) x ≡ b
+    (op : TempBranchOp) (c : Content) (x : ℕ) (b : Bool) → ContentIs xs c x → branch_test op memory c ≡ Some b →
+    is_branch_taken (branch_op op) x ≡ b
 
 -- more extents keep what stands for a content
 abbrev pub ContentsStay : Type 0

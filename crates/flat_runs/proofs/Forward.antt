@@ -16,7 +16,7 @@ use Rattle.flat_steps.specs.Laws.{RunIsOver}
 use Rattle.flat_steps.specs.Builds.{Build, BuildStands}
 use Rattle.flat_steps.specs.Matching.{Matches, FitsStack, StepIsDone, step_of}
 use Rattle.flat_steps.proofs.Steps.{steps_are_done}
-use Rattle.flat_runs.specs.Runs.{run_of, RunIsDone}
+use Rattle.flat_runs.specs.Runs.{build_run, RunIsDone}
 
 -- the machine has come to where it stands
 pub stays : (p : Program) (s : State) → Comes p s s
@@ -41,20 +41,20 @@ module _ (b : Build) (ok : BuildStands b) where
   carried s t c (Over (More w)) h = record { to = h.to; comes = steps_add_up b.program s t h.to c h.comes; output = h.output }
 
   -- the stack holds a step where it holds the run
-  pub fits-first : (n : ℕ) (x : Next Places) → FitsStack b (go_on x (run_of b n)) → FitsStack b x
+  pub fits-first : (n : ℕ) (x : Next Places) → FitsStack b (go_on x (build_run b n)) → FitsStack b x
   fits-first n (Goes d) fits = let rises = peak_rises Content Places b.rooms (placed_code b.plans) n d in omega (arith, rises, fits)
   fits-first n (Over e) fits = fits
 
-  onward : (n : ℕ) (k : Config Places) (s : State) (x : Next Places) → ((d : Config Places) (t : State) → Matches b d t → FitsStack b (run_of b n d) → RunIsDone b t (run_of b n d)) → StepIsDone b k s x → FitsStack b (go_on x (run_of b n)) → RunIsDone b s (go_on x (run_of b n))
-  onward n k s (Goes d) ih h fits = carried s h.to h.comes (run_of b n d) (ih d h.to h.matches fits)
+  onward : (n : ℕ) (k : Config Places) (s : State) (x : Next Places) → ((d : Config Places) (t : State) → Matches b d t → FitsStack b (build_run b n d) → RunIsDone b t (build_run b n d)) → StepIsDone b k s x → FitsStack b (go_on x (build_run b n)) → RunIsDone b s (go_on x (build_run b n))
+  onward n k s (Goes d) ih h fits = carried s h.to h.comes (build_run b n d) (ih d h.to h.matches fits)
   onward n k s (Over (Done w status)) ih h fits = h
   onward n k s (Over (Trap w code)) ih h fits = h
   onward n k s (Over (Undefined w at)) ih h fits = tt
   onward n k s (Over (More w)) ih h fits = record { to = s; comes = stays b.program s; output = sym h.1 }
 
-  pub runs_done : (n : ℕ) (k : Config Places) (s : State) → Matches b k s → FitsStack b (run_of b n k) → RunIsDone b s (run_of b n k)
+  pub runs_done : (n : ℕ) (k : Config Places) (s : State) → Matches b k s → FitsStack b (build_run b n k) → RunIsDone b s (build_run b n k)
   runs_done zero k s m fits = record { to = s; comes = stays b.program s; matches = m }
   runs_done (suc n) k s m fits = onward n k s (step_of b k) (runs_done n) (steps_are_done b ok k s m (fits-first n (step_of b k) fits)) fits
 
-pub runs_are_done : (b : Build) → BuildStands b → (n : ℕ) (k : Config Places) (s : State) → Matches b k s → FitsStack b (run_of b n k) → RunIsDone b s (run_of b n k)
+pub runs_are_done : (b : Build) → BuildStands b → (n : ℕ) (k : Config Places) (s : State) → Matches b k s → FitsStack b (build_run b n k) → RunIsDone b s (build_run b n k)
 runs_are_done b ok n k s m fits = runs_done b ok n k s m fits

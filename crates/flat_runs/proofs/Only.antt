@@ -12,9 +12,9 @@ use Rattle.alloc_model.specs.Contents.{Content}
 use Rattle.alloc_model.specs.Places.{Places, Plan, placed_code}
 use Rattle.flat_steps.specs.Laws.{RunIsOver}
 use Rattle.flat_steps.specs.Builds.{Build, BuildStands}
-use Rattle.flat_steps.specs.Matching.{place_of, Matches, IsFollowed, FitsStack, StepIsDone, step_of}
+use Rattle.flat_steps.specs.Matching.{point_place, Matches, IsFollowed, FitsStack, StepIsDone, step_of}
 use Rattle.flat_steps.proofs.Steps.{steps_are_done}
-use Rattle.flat_runs.specs.Runs.{run_of, longest_of, turns_for, IsEndOf, IsFrontOf, BelongsTo}
+use Rattle.flat_runs.specs.Runs.{build_run, longest_of, turns_for, IsEndOf, IsFrontOf, BelongsTo}
 use Rattle.flat_runs.proofs.Machines.{rest-of, one-end, goes-before, over-behind, front-of}
 use Rattle.flat_runs.proofs.Turns.{TakesOne, step-one, place-below}
 use Rattle.flat_runs.proofs.Forward.{fits-first}
@@ -60,7 +60,7 @@ less-times j m S le =
 module _ (b : Build) (ok : BuildStands b) (keeps : KeepsOutput Content Places (placed_code b.plans)) where
   -- turns are left for so many steps of the machine
   abbrev Enough : (m : ℕ) → Config Places → Type 0
-  Enough m k = m * suc (longest_of b.plans) + longest_of b.plans < k.world.meter.turns + place_of b k.here.point
+  Enough m k = m * suc (longest_of b.plans) + longest_of b.plans < k.world.meter.turns + point_place b k.here.point
 
   -- the machine ends, and so it belongs to that end
   at-end : (s : State) (e : Ending) (o : Outer) (h : step.Halt) (m : ℕ) → RunIsOver b.program o h s → ((last : State) → last.output ≡ o.output → IsEndOf h last e) → ((t : State) → IsPrefix t.output o.output → IsFrontOf t e) → (x : step.MachineNext) → step.exec b.program m s ≡ x → BelongsTo x e
@@ -71,9 +71,9 @@ module _ (b : Build) (ok : BuildStands b) (keeps : KeepsOutput Content Places (p
       subst (λ x. BelongsTo x e) (sym (one-end b.program d.steps m s h g d.last t d.run is)) (ends d.last d.output)
 
   -- what belongs to the rest of the run
-  module _ (n : ℕ) (e : Ending) (ih : (d : Config Places) (t : State) → Matches b d t → run_of b n d ≡ Over e → (m : ℕ) → Enough m d → BelongsTo (step.exec b.program m t) e) where
+  module _ (n : ℕ) (e : Ending) (ih : (d : Config Places) (t : State) → Matches b d t → build_run b n d ≡ Over e → (m : ℕ) → Enough m d → BelongsTo (step.exec b.program m t) e) where
     -- the machine has not yet come so far
-    early : (d : Config Places) (s : State) (k : Config Places) (h : IsFollowed b k d s) → run_of b n d ≡ Over e → (m : ℕ) → m < h.comes.steps → (x : step.MachineNext) → step.exec b.program m s ≡ x → BelongsTo x e
+    early : (d : Config Places) (s : State) (k : Config Places) (h : IsFollowed b k d s) → build_run b n d ≡ Over e → (m : ℕ) → m < h.comes.steps → (x : step.MachineNext) → step.exec b.program m s ≡ x → BelongsTo x e
     early d s k h over m lt (step.Goes t) is =
         let first = front-of b.program m h.comes.steps s (step.Goes t) (step.Goes h.to) (omega (arith, lt)) is h.comes.run in
         let then = output_grows Content Places b.rooms (placed_code b.plans) keeps n d in
@@ -83,20 +83,20 @@ module _ (b : Build) (ok : BuildStands b) (keeps : KeepsOutput Content Places (p
         let after = over-behind b.program h.comes.steps m s h.to t g is h.comes.run in
         absurd (omega (arith, lt, after))
 
-    late : (d : Config Places) (s : State) (k : Config Places) (was : Matches b k s) (h : IsFollowed b k d s) → run_of b n d ≡ Over e → k.world.meter.turns ≤ suc d.world.meter.turns → (m : ℕ) → h.comes.steps ≤ m → Enough m k → BelongsTo (step.exec b.program m s) e
+    late : (d : Config Places) (s : State) (k : Config Places) (was : Matches b k s) (h : IsFollowed b k d s) → build_run b n d ≡ Over e → k.world.meter.turns ≤ suc d.world.meter.turns → (m : ℕ) → h.comes.steps ≤ m → Enough m k → BelongsTo (step.exec b.program m s) e
     late d s k was h over one m le enough =
         let j = h.comes.steps in
         subst (λ x. BelongsTo x e) (sym (rest-of b.program h.comes.steps m s h.to le h.comes.run))
         (ih d h.to h.matches over (m - h.comes.steps) (left h.comes.steps le h.moves))
       where
-        left : (j : ℕ) → j ≤ m → (1 ≤ j) ⊎ (place_of b d.here.point ≡ suc (place_of b k.here.point)) → Enough (m - j) d
+        left : (j : ℕ) → j ≤ m → (1 ≤ j) ⊎ (point_place b d.here.point ≡ suc (point_place b k.here.point)) → Enough (m - j) d
         left zero le (inl some) = absurd (omega (arith, some))
         left (suc j) le (inl some) =
-            let fewer = fewer-steps j m (suc (longest_of b.plans)) k.world.meter.turns d.world.meter.turns (place_of b k.here.point) (longest_of b.plans) refl le enough (place-below b k s was) one in
+            let fewer = fewer-steps j m (suc (longest_of b.plans)) k.world.meter.turns d.world.meter.turns (point_place b k.here.point) (longest_of b.plans) refl le enough (place-below b k s was) one in
             omega (arith, fewer)
-        left j le (inr is) = no-more-steps j m (suc (longest_of b.plans)) k.world.meter.turns d.world.meter.turns (place_of b k.here.point) (place_of b d.here.point) (longest_of b.plans) enough is one (less-times j m (suc (longest_of b.plans)) le)
+        left j le (inr is) = no-more-steps j m (suc (longest_of b.plans)) k.world.meter.turns d.world.meter.turns (point_place b k.here.point) (point_place b d.here.point) (longest_of b.plans) enough is one (less-times j m (suc (longest_of b.plans)) le)
 
-    belongs : (k : Config Places) (s : State) → Matches b k s → (m : ℕ) → Enough m k → (x : Next Places) → StepIsDone b k s x → TakesOne k.world.meter.turns x → go_on x (run_of b n) ≡ Over e → BelongsTo (step.exec b.program m s) e
+    belongs : (k : Config Places) (s : State) → Matches b k s → (m : ℕ) → Enough m k → (x : Next Places) → StepIsDone b k s x → TakesOne k.world.meter.turns x → go_on x (build_run b n) ≡ Over e → BelongsTo (step.exec b.program m s) e
     belongs k s was m enough (Goes d) h one over = ⊎_elim
         (λ lt. early d s k h over m lt (step.exec b.program m s) refl)
         (λ le. late d s k was h over one m le enough)
@@ -121,10 +121,10 @@ module _ (b : Build) (ok : BuildStands b) (keeps : KeepsOutput Content Places (p
         let below = place-below b k s was in
         absurd (omega (arith, none, below, enough))
 
-  fits-end : (n : ℕ) (x : Next Places) (e : Ending) → go_on x (run_of b n) ≡ Over e → FitsStack b (Over e) → FitsStack b x
+  fits-end : (n : ℕ) (x : Next Places) (e : Ending) → go_on x (build_run b n) ≡ Over e → FitsStack b (Over e) → FitsStack b x
   fits-end n x e over fits = fits-first b ok n x (subst (FitsStack b) (sym over) fits)
 
-  only-these : (e : Ending) → FitsStack b (Over e) → (n : ℕ) (k : Config Places) (s : State) → Matches b k s → run_of b n k ≡ Over e → (m : ℕ) → Enough m k → BelongsTo (step.exec b.program m s) e
+  only-these : (e : Ending) → FitsStack b (Over e) → (n : ℕ) (k : Config Places) (s : State) → Matches b k s → build_run b n k ≡ Over e → (m : ℕ) → Enough m k → BelongsTo (step.exec b.program m s) e
   only-these e fits zero k s was over m enough = absurd (goes k e over)
     where
       goes : (k : Config Places) (e : Ending) → Goes k ≡ Over e → ⊥
@@ -132,7 +132,7 @@ module _ (b : Build) (ok : BuildStands b) (keeps : KeepsOutput Content Places (p
   only-these e fits (suc n) k s was over m enough =
       belongs n e (only-these e fits n) k s was m enough (step_of b k) (steps_are_done b ok k s was (fits-end n (step_of b k) e over fits)) (step-one Content Places b.rooms (placed_code b.plans) k) over
 
-pub only_these_end : ((plans : List Plan) → KeepsOutput Content Places (placed_code plans)) → (b : Build) → BuildStands b → (n : ℕ) (k : Config Places) (s : State) (e : Ending) → Matches b k s → run_of b n k ≡ Over e → FitsStack b (Over e) → (m : ℕ) → turns_for b.plans m ≤ k.world.meter.turns → BelongsTo (step.exec b.program m s) e
+pub only_these_end : ((plans : List Plan) → KeepsOutput Content Places (placed_code plans)) → (b : Build) → BuildStands b → (n : ℕ) (k : Config Places) (s : State) (e : Ending) → Matches b k s → build_run b n k ≡ Over e → FitsStack b (Over e) → (m : ℕ) → turns_for b.plans m ≤ k.world.meter.turns → BelongsTo (step.exec b.program m s) e
 only_these_end keeps b ok n k s e was over fits m enough =
     let each : turns_for b.plans m ≡ m * suc (longest_of b.plans) + suc (longest_of b.plans) = omega arith in
     only-these b ok (keeps b.plans) e fits n k s was over m (omega (arith, each, enough))

@@ -4,12 +4,12 @@ use Rattle.std.specs.Prelude.{slice_get, max}
 use Rattle.alpha_isa.specs.State.{State}
 use Rattle.mem_model.specs.World.{Meter, World, Rooms, turn_from, leave_call}
 use Rattle.machine_model.specs.Code.{Act, Writes, Jumps, Calls, Returns, Stops, Site, Code}
-use Rattle.machine_model.specs.Machine.{Frame, Config, Next, Goes, Over, world_of, end_locals, turn_if, jump_to, resume, return_to, act_on, step_with, step_at, step}
+use Rattle.machine_model.specs.Machine.{Frame, Config, Next, Goes, Over, whole_world, end_locals, turn_if, jump_to, resume, return_to, act_on, step_with, step_at, step}
 use Rattle.suifvm_ir.specs.Functions.{count_of}
 use Rattle.temp_ir.specs.declared.insn.TempInsn.{TempInsn}
 use Rattle.alloc_model.specs.Places.{Places, Plan}
 use Rattle.flat_steps.specs.Builds.{Build}
-use Rattle.flat_steps.specs.Matching.{place_of, Matches}
+use Rattle.flat_steps.specs.Matching.{point_place, Matches}
 use Rattle.flat_steps.proofs.Lists.{count-cons, count-behind, get-below}
 use Rattle.flat_steps.proofs.Points.{place-is}
 use Rattle.flat_runs.specs.Runs.{longest_of}
@@ -34,10 +34,10 @@ module _ (V S : Type 0) (rooms : Rooms) (c : Code V S) where
 
   act-one : (n : ℕ) (k : Config S) (m : Meter) (s : Site V S) (a : Act V) → n ≤ suc m.turns → TakesOne n (act_on V S rooms c k m s a)
   act-one n k m s (Writes vs o) h = h
-  act-one n k m s (Jumps target o) h = jump-one n k (world_of o m) s (slice_get s.targets target) h
+  act-one n k m s (Jumps target o) h = jump-one n k (whole_world o m) s (slice_get s.targets target) h
   act-one n k m s (Calls function vs o) h = h
   act-one n k m s (Returns vs o) h =
-      return-one n (c.number k.here.point) vs (world_of (end_locals o k.here.own (length (c.locals k.here.point.function))) (leave_call rooms k.here.point.function m)) k.callers h
+      return-one n (c.number k.here.point) vs (whole_world (end_locals o k.here.own (length (c.locals k.here.point.function))) (leave_call rooms k.here.point.function m)) k.callers h
   act-one n k m s (Stops e o) h = tt
 
   from-one : (n : ℕ) (m t : Meter) → turn_from n m ≡ Some t → n ≤ suc t.turns
@@ -79,7 +79,7 @@ front-count (suc n) (x ∷ blocks) =
     let all = count-cons x blocks in
     omega (arith, h, front, all)
 
-pub place-below : (b : Build) (k : Config Places) (s : State) → Matches b k s → place_of b k.here.point ≤ longest_of b.plans
+pub place-below : (b : Build) (k : Config Places) (s : State) → Matches b k s → point_place b k.here.point ≤ longest_of b.plans
 place-below b k s m =
     let is = place-is b k.here.point m.plan m.is_in.plan in
     let most = longest-holds b.plans k.here.point.function m.plan m.is_in.plan in

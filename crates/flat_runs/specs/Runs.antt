@@ -13,8 +13,8 @@ use Rattle.flat_steps.specs.Laws.{RunIsOver}
 use Rattle.flat_steps.specs.Builds.{Build, BuildStands}
 use Rattle.flat_steps.specs.Matching.{Matches, FitsStack}
 
-abbrev pub run_of : Build → (steps : ℕ) → Config Places → Next Places
-run_of b n k = exec Content Places b.rooms (placed_code b.plans) n k
+abbrev pub build_run : Build → (steps : ℕ) → Config Places → Next Places
+build_run b n k = exec Content Places b.rooms (placed_code b.plans) n k
 
 -- ---- what a run comes to, the machine comes to
 
@@ -39,8 +39,9 @@ RunIsDone b s (Over (More w)) = HasWritten b w.outer.output s
 
 abbrev pub RunsAreDone : Type 0
 RunsAreDone =
-    (b : Build) → BuildStands b → (n : ℕ) (k : Config Places) (s : State) → Matches b k s → FitsStack b (run_of b n k) →
-    RunIsDone b s (run_of b n k)
+    (b : Build) → BuildStands b → (n : ℕ) (k : Config Places) (s : State) → Matches b k s →
+    FitsStack b (build_run b n k) →
+    RunIsDone b s (build_run b n k)
 
 -- ---- and nothing else
 
@@ -73,5 +74,5 @@ BelongsTo (step.Over h last) e = IsEndOf h last e
 abbrev pub OnlyTheseEnd : Type 0
 OnlyTheseEnd =
     (b : Build) → BuildStands b → (n : ℕ) (k : Config Places) (s : State) (e : Ending) → Matches b k s →
-    run_of b n k ≡ Over e → FitsStack b (Over e) → (m : ℕ) → turns_for b.plans m ≤ k.world.meter.turns →
+    build_run b n k ≡ Over e → FitsStack b (Over e) → (m : ℕ) → turns_for b.plans m ≤ k.world.meter.turns →
     BelongsTo (step.exec b.program m s) e

@@ -3,7 +3,7 @@ use Rattle.std.proofs.Common.{◌≡◌, ◌≢◌, ℕ, zero, suc, ◌+◌, ◌
 use Rattle.std.specs.Prelude.{nat_le, nat_lt, ◌==◌, ◌&&◌, ◌||◌, slice_get, slice_index, slice_set}
 use Rattle.std.proofs.lemmas.Bool.{cases_lt, le-leb, lt-ltb, le-ltb, cond-true, cond-false}
 use Rattle.alpha_isa.specs.declared.insn.BranchOp.TheVariants.{Bsr}
-use Rattle.alpha_isa.specs.Program.{Program, data_of, data_size, data_start, stack_start, word_address}
+use Rattle.alpha_isa.specs.Program.{Program, data_of, image_data_size, data_start, stack_start, word_address}
 use Rattle.alpha_isa.specs.State.{State, register}
 use Rattle.alpha_isa.specs.Behave as behave
 use Rattle.alpha_items.specs.declared.item.AsmItem.TheVariants.{Branch}
@@ -25,7 +25,7 @@ use Rattle.flat_memory.specs.Relation.{Extent, IsExtent, Owner, Owners, OfObject
 use Rattle.flat_memory.specs.Machine.{is_in_data, is_in_stack, memory_bytes, is_reached, HasParts}
 use Rattle.flat_memory.specs.Laws.{AreNew}
 use Rattle.flat_memory.proofs.Objects.{extents_grow, others_may_change, objects_begin}
-use Rattle.flat_frames.specs.Shapes.{FrameShape, frame_size, objects_at, object_at, bytes_before, owner_at}
+use Rattle.flat_frames.specs.Shapes.{FrameShape, frame_size, objects_at, frame_object_at, bytes_before, owner_at}
 use Rattle.flat_frames.specs.Frames.{FrameIs}
 use Rattle.flat_frames.proofs.Shapes.{pieces_of, frames_are_small}
 use Rattle.frame_accesses.specs.Laws.{IsAt}
@@ -36,14 +36,14 @@ use Rattle.call_parts.specs.Items.{entry_part}
 use Rattle.call_parts.specs.Laws.{IsFrameAt, EntryDone}
 use Rattle.call_parts.proofs.Entries.{entries_are_done}
 use Rattle.instruction_items.specs.Items.{function_label}
-use Rattle.instruction_items.specs.Laws.{usable}
+use Rattle.instruction_items.specs.Laws.{is_usable}
 use Rattle.flat_runs.specs.Stacks.{StackIs}
 use Rattle.flat_runs.specs.Entering.{extents_from}
 use Rattle.flat_runs.proofs.Begins.{get-behind, sizes-are, extent-of, size-of, before-whole}
 use Rattle.flat_runs.specs.Items.{block_items, blocks_items, exit_items}
 use Rattle.flat_runs.proofs.Edges.{label-passed}
 use Rattle.flat_runs.specs.Builds.{Build, FunctionIsBuilt, BuildStands}
-use Rattle.flat_runs.specs.Matching.{items_from, FitsStack}
+use Rattle.flat_runs.specs.Matching.{items_from_point, FitsStack}
 use Rattle.flat_runs.proofs.Lists.{drop-some, stands-at, get-map}
 use Rattle.flat_runs.specs.Runs.{ComesTo}
 use Rattle.flat_globals.specs.Globals.{extents_of, owner_of}
@@ -98,7 +98,7 @@ module _ (b : Build) (main stack : ℕ) (globals : List DataObject) (ok : BuildS
   p = b.program
 
   abbrev s : State
-  s = behave.start b.program stack input
+  s = behave.start_state b.program stack input
 
   abbrev memory : Memory
   memory = start_memory globals
@@ -125,7 +125,7 @@ module _ (b : Build) (main stack : ℕ) (globals : List DataObject) (ok : BuildS
 
   -- ---- the start of the machine
 
-  data-count : length (data_of p) ≡ data_size p
+  data-count : length (data_of p) ≡ image_data_size p
   data-count =
       let sum = append-size p.bytes (replicate p.zeros 0) in
       let zeros = replicate-size {X = ℕ} p.zeros 0 in
@@ -311,10 +311,10 @@ module _ (b : Build) (main stack : ℕ) (globals : List DataObject) (ok : BuildS
         owns k n e y from to =
             let piece = (pieces_of shape 0 own).objects k n e in
             let within = piece.within in
-            let i = y - (sp + object_at shape k) in
-            let f : sp + (object_at shape k + i) ≡ y = omega (arith, from) in
+            let i = y - (sp + frame_object_at shape k) in
+            let f : sp + (frame_object_at shape k + i) ≡ y = omega (arith, from) in
             ap owner (sym f)
-            ∙ owner-in (object_at shape k + i) (omega (arith, from, to, within))
+            ∙ owner-in (frame_object_at shape k + i) (omega (arith, from, to, within))
             ∙ piece.owned i (omega (arith, from, to))
 
     memory-is : MemoryIs D.extents (begin_objects memory shape.sizes) owner (memory_bytes p x.to)
@@ -329,7 +329,7 @@ module _ (b : Build) (main stack : ℕ) (globals : List DataObject) (ok : BuildS
       owned = owner-in;
       objects = λ k n e.
           let count : length memory ≡ length b.globals = sym old-memory.count in
-          let place : sp + objects_at shape + bytes_before shape.sizes k ≡ sp + object_at shape k = omega arith in
+          let place : sp + objects_at shape + bytes_before shape.sizes k ≡ sp + frame_object_at shape k = omega arith in
           ap (λ z. slice_get D.extents (z + k)) count
           ∙ get-behind b.globals (extents_from (sp + objects_at shape) shape.sizes) k
           ∙ extent-of shape.sizes (sp + objects_at shape) k n e
@@ -348,7 +348,7 @@ module _ (b : Build) (main stack : ℕ) (globals : List DataObject) (ok : BuildS
         (cases_lt y b.start.top))
         (cases_lt y sp)
 
-    stands-entry : StandsFor p b.there (blocks_items a (b.setting main) 0 a.function.blocks (exit_items (b.setting main) (b.behind main))) b.end D (begin_objects memory shape.sizes) usable empty x.to
+    stands-entry : StandsFor p b.there (blocks_items a (b.setting main) 0 a.function.blocks (exit_items (b.setting main) (b.behind main))) b.end D (begin_objects memory shape.sizes) is_usable empty x.to
     stands-entry = record {
       word = x.come.next;
       is_at = x.come.is_at;
@@ -370,12 +370,12 @@ module _ (b : Build) (main stack : ℕ) (globals : List DataObject) (ok : BuildS
     sizes-same : shape.sizes ≡ sizes_in (slice_get (functions_of b.plans) main)
     sizes-same = ap (λ (z : FrameShape). z.sizes) built.shape ∙ ap sizes_in (sym (get-map (λ (z : Plan). z.function) b.plans main a is))
 
-    stands-first : (insns : List TempInsn) → slice_get a.function.blocks 0 ≡ Some insns → StandsFor p b.there (items_from b a (entry_point main) insns) b.end D (begin_objects memory shape.sizes) usable empty x.to
+    stands-first : (insns : List TempInsn) → slice_get a.function.blocks 0 ≡ Some insns → StandsFor p b.there (items_from_point b a (entry_point main) insns) b.end D (begin_objects memory shape.sizes) is_usable empty x.to
     stands-first insns first =
         let later = blocks_items a (b.setting main) 1 (drop 1 a.function.blocks) (exit_items (b.setting main) (b.behind main)) in
-        let begun = subst (λ l. StandsFor p b.there (blocks_items a (b.setting main) 0 l (exit_items (b.setting main) (b.behind main))) b.end D (begin_objects memory shape.sizes) usable empty x.to) (drop-some a.function.blocks 0 insns first) stands-entry in
+        let begun = subst (λ l. StandsFor p b.there (blocks_items a (b.setting main) 0 l (exit_items (b.setting main) (b.behind main))) b.end D (begin_objects memory shape.sizes) is_usable empty x.to) (drop-some a.function.blocks 0 insns first) stands-entry in
         let passed = label-passed p b.there (block_items a (b.setting main) 0 insns (blocks_items a (b.setting main) 1 (drop 1 a.function.blocks) (exit_items (b.setting main) (b.behind main)))) b.end D (begin_objects memory shape.sizes) empty x.to ((b.setting main).block_label 0) begun in
-        subst (λ l. StandsFor p b.there (items_of_transfers (b.setting main).shape l (items_from b a (entry_point main) insns)) b.end D (begin_objects memory shape.sizes) usable empty x.to) built.edges.first passed
+        subst (λ l. StandsFor p b.there (items_of_transfers (b.setting main).shape l (items_from_point b a (entry_point main) insns)) b.end D (begin_objects memory shape.sizes) is_usable empty x.to) built.edges.first passed
 
     matched : ComesTo b (first_config b main (start_world globals input turns)) s
     matched =
@@ -396,7 +396,7 @@ module _ (b : Build) (main stack : ℕ) (globals : List DataObject) (ok : BuildS
             own = refl;
             is_call = record { small = omega (arith, e, most); near = omega (arith, least) };
             globals = extents_grow b.globals (extents_from (sp + objects_at shape) shape.sizes);
-            stands = subst (λ l. StandsFor p b.there (items_from b a (entry_point main) first.one) b.end D (begin_objects memory l) usable empty x.to) sizes-same (stands-first first.one first.is);
+            stands = subst (λ l. StandsFor p b.there (items_from_point b a (entry_point main) first.one) b.end D (begin_objects memory l) is_usable empty x.to) sizes-same (stands-first first.one first.is);
             stack = stack-is;
             outer = record { input = x.come.input ∙ d.input_is; output = x.come.output ∙ d.output; bytes = are-bytes };
             waits = tt;
@@ -405,7 +405,7 @@ module _ (b : Build) (main stack : ℕ) (globals : List DataObject) (ok : BuildS
           };
         }
 
-pub starts_are_matched : (b : Build) (main stack : ℕ) (globals : List DataObject) → BuildStands b → IsBegun b main stack globals → (input : List ℕ) (turns : ℕ) → AreBytes input → FitsStack b (Goes (first_config b main (start_world globals input turns))) → ComesTo b (first_config b main (start_world globals input turns)) (behave.start b.program stack input)
+pub starts_are_matched : (b : Build) (main stack : ℕ) (globals : List DataObject) → BuildStands b → IsBegun b main stack globals → (input : List ℕ) (turns : ℕ) → AreBytes input → FitsStack b (Goes (first_config b main (start_world globals input turns))) → ComesTo b (first_config b main (start_world globals input turns)) (behave.start_state b.program stack input)
 starts_are_matched b main stack globals ok g input turns bytes fits =
     let z = stands-at b.plans main g.main_there in
     let d = branched b main stack globals ok g input turns bytes fits z.one z.is in

@@ -7,7 +7,7 @@ use Rattle.alpha_isa.specs.Behave.{IsStack}
 use Rattle.alpha_items.specs.declared.item.AsmItem.TheVariants.{Branch}
 use Rattle.item_steps.specs.Standing.{ItemsAt}
 use Rattle.mem_model.specs.World.{World}
-use Rattle.machine_model.specs.Machine.{Config, Goes, start}
+use Rattle.machine_model.specs.Machine.{Config, Goes, start_config}
 use Rattle.data_object.specs.declared.DataObject.{DataObject}
 use Rattle.alloc_model.specs.Contents.{Content}
 use Rattle.alloc_model.specs.Temporaries.{start_world}
@@ -34,11 +34,11 @@ pub record IsBegun (b : Build) (main stack : ℕ) (globals : List DataObject) : 
 
 -- the start of the run over registers and slots
 abbrev pub first_config : Build → (main : ℕ) → World → Config Places
-first_config b main w = start Content Places b.rooms (placed_code b.plans) main w
+first_config b main w = start_config Content Places b.rooms (placed_code b.plans) main w
 
 abbrev pub StartsAreMatched : Type 0
 StartsAreMatched =
     (b : Build) (main stack : ℕ) (globals : List DataObject) → BuildStands b → IsBegun b main stack globals →
     (input : List ℕ) (turns : ℕ) → AreBytes input →
     FitsStack b (Goes (first_config b main (start_world globals input turns))) →
-    ComesTo b (first_config b main (start_world globals input turns)) (behave.start b.program stack input)
+    ComesTo b (first_config b main (start_world globals input turns)) (behave.start_state b.program stack input)

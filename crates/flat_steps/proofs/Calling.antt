@@ -5,29 +5,29 @@ use Rattle.alpha_isa.specs.State.{State}
 use Rattle.mem_model.specs.World.{Outer, Meter, room_of, enter_call, leave_call}
 use Rattle.machine_model.specs.Code.{Site, entry_point}
 use Rattle.machine_model.specs.Machine as machine
-use Rattle.machine_model.specs.Machine.{Frame, Config, Goes, world_of, begin_locals, end_locals, frame_after, resume, status_ending, return_to, act_on}
+use Rattle.machine_model.specs.Machine.{Frame, Config, Goes, whole_world, begin_locals, end_locals, frame_after, resume, status_ending, return_to, act_on}
 use Rattle.temp_ir.specs.declared.insn.TempInsn.{TempInsn}
 use Rattle.temp_ir.specs.declared.insn.TempInsn.TheVariants as i
 use Rattle.alloc_model.specs.Contents.{Content}
 use Rattle.alloc_model.specs.Effect.{widest_call}
-use Rattle.alloc_model.specs.Temporaries.{sizes_in, status_of, is_left_at, site_or_next}
+use Rattle.alloc_model.specs.Temporaries.{sizes_in, result_status, is_left_at, site_or_next}
 use Rattle.alloc_model.specs.Places.{Places, Plan, transfers_at, registers_at, functions_of, do_all, placed_site, placed_code}
 use Rattle.flat_memory.proofs.Objects.{extents_grow}
 use Rattle.flat_frames.specs.Shapes.{FrameShape, frame_size, objects_at}
 use Rattle.frame_transfers.specs.Laws.{StandsFor}
 use Rattle.stack_rooms.specs.Items.{ItemSetting}
-use Rattle.stack_rooms.specs.Laws.{usable, HasOuter, store_behind}
+use Rattle.stack_rooms.specs.Laws.{is_usable, HasOuter, store_behind}
 use Rattle.stack_rooms.proofs.Runs.{no-registers}
 use Rattle.call_steps.specs.Stacks.{Waiting, StackIs}
-use Rattle.stack_rooms.specs.Entering.{extents_from, called_sp, called, waits, HasRoom, EntryIs}
-use Rattle.call_steps.specs.Leaving.{caller_of, resumed, ExitIs}
+use Rattle.stack_rooms.specs.Entering.{extents_from, called_sp, called_frame, waiting_call, HasRoom, EntryIs}
+use Rattle.call_steps.specs.Leaving.{caller_of, resumed_places, ExitIs}
 use Rattle.stack_rooms.specs.Rooms.{frames_size}
 use Rattle.stack_rooms.proofs.Rooms.{frames_fill_stack, room_is_there}
 use Rattle.call_steps.proofs.Calls.{calls_are_done, returns_are_done, last_returns_are_done}
 use Rattle.edge_shapes.specs.Shapes.{shape_of}
 use Rattle.edge_shapes.proofs.FunctionShapesFits.{plans_fit}
 use Rattle.flat_steps.specs.Builds.{Build, BuildStands}
-use Rattle.flat_steps.specs.Matching.{items_from, WaitsFor, AreWaiting, rooms_of, Matches, FitsStack, StepIsDone}
+use Rattle.flat_steps.specs.Matching.{items_from_point, WaitsFor, AreWaiting, total_rooms, Matches, FitsStack, StepIsDone}
 use Rattle.flat_steps.proofs.Lists.{get-below, stands-at, get-map, insn-is, width-fits}
 use Rattle.flat_steps.proofs.Points.{site-is}
 use Rattle.flat_steps.proofs.Meters.{IsMetered, rooms-hold, small-frame}
@@ -60,7 +60,7 @@ module _ (b : Build) (ok : BuildStands b) (k : Config Places) (s : State) (m : M
     inside = record {
       here = record { point = entry_point function; own = length k.world.outer.memory; store = (placed_code b.plans).entry function contents };
       callers = k.here ∷ k.callers;
-      world = world_of (begin_locals k.world.outer (sizes_in (slice_get (functions_of b.plans) function))) (enter_call b.rooms function t);
+      world = whole_world (begin_locals k.world.outer (sizes_in (slice_get (functions_of b.plans) function))) (enter_call b.rooms function t);
     }
 
     sizes-are : f.shape.sizes ≡ sizes_in (slice_get (functions_of b.plans) function)
@@ -85,13 +85,13 @@ module _ (b : Build) (ok : BuildStands b) (k : Config Places) (s : State) (m : M
         let fit = few b ok k s m in
         omega (arith, width, fit)
 
-    matched-inside : (insns : List TempInsn) → slice_get a.function.blocks 0 ≡ Some insns → (d : EntryIs b.program b.there b.start (items_from b a (entry_point function) insns) b.end m.call (called m.call f.shape (length k.world.outer.memory)) m.waiting k.world.outer held ((placed_code b.plans).entry function contents) (rest b ok k s m (i.Call function arguments) there) b.end s) → Matches b inside d.to
+    matched-inside : (insns : List TempInsn) → slice_get a.function.blocks 0 ≡ Some insns → (d : EntryIs b.program b.there b.start (items_from_point b a (entry_point function) insns) b.end m.call (called_frame m.call f.shape (length k.world.outer.memory)) m.waiting k.world.outer held ((placed_code b.plans).entry function contents) (rest b ok k s m (i.Call function arguments) there) b.end s) → Matches b inside d.to
     matched-inside insns first d =
         let turn = metered.room in
         let sum = m.room in
         record {
-          call = called m.call f.shape (length k.world.outer.memory);
-          waiting = waits m.call held (rest b ok k s m (i.Call function arguments) there) b.end ∷ m.waiting;
+          call = called_frame m.call f.shape (length k.world.outer.memory);
+          waiting = waiting_call m.call held (rest b ok k s m (i.Call function arguments) there) b.end ∷ m.waiting;
           plan = a;
           insns = insns;
           is_in = record { plan = is; block = first; within = omega arith };
@@ -99,7 +99,7 @@ module _ (b : Build) (ok : BuildStands b) (k : Config Places) (s : State) (m : M
           own = refl;
           is_call = d.is_call;
           globals = λ n e there-is. extents_grow m.call.extents (extents_from (called_sp m.call f.shape + objects_at f.shape) f.shape.sizes) n e (m.globals n e there-is);
-          stands = subst (λ l. StandsFor b.program b.there (items_from b a (entry_point function) insns) b.end (called m.call f.shape (length k.world.outer.memory)) (begin_locals k.world.outer l).memory usable ((placed_code b.plans).entry function contents) d.to) sizes-are d.stands;
+          stands = subst (λ l. StandsFor b.program b.there (items_from_point b a (entry_point function) insns) b.end (called_frame m.call f.shape (length k.world.outer.memory)) (begin_locals k.world.outer l).memory is_usable ((placed_code b.plans).entry function contents) d.to) sizes-are d.stands;
           stack = d.stack;
           outer = subst (λ l. HasOuter (begin_locals k.world.outer l) d.to) sizes-are d.outer;
           waits = (
@@ -118,7 +118,7 @@ module _ (b : Build) (ok : BuildStands b) (k : Config Places) (s : State) (m : M
             },
             m.waits,
           );
-          room = (let e : t.room + room_of b.rooms function ≡ room_of b.rooms function + rooms_of b.rooms (k.here ∷ k.callers) = omega (arith, turn, sum) in e);
+          room = (let e : t.room + room_of b.rooms function ≡ room_of b.rooms function + total_rooms b.rooms (k.here ∷ k.callers) = omega (arith, turn, sum) in e);
           peak = omega arith;
         }
 
@@ -159,7 +159,7 @@ module _ (b : Build) (ok : BuildStands b) (k : Config Places) (s : State) (m : M
     empty-registers : registers_at m.plan k.here.point.block k.here.point.at ≡ []
     empty-registers = no-registers (registers_at m.plan k.here.point.block k.here.point.at) (stated b ok k s m (i.Return with_value) there).count
 
-    last : m.waiting ≡ [] → (o : Option ℕ) → status_of returned ≡ o → StepIsDone b k s (machine.Over (status_ending Content Places b.rooms (placed_code b.plans) ((placed_code b.plans).number k.here.point) (world_of outer-behind meter-behind) o))
+    last : m.waiting ≡ [] → (o : Option ℕ) → result_status returned ≡ o → StepIsDone b k s (machine.Over (status_ending Content Places b.rooms (placed_code b.plans) ((placed_code b.plans).number k.here.point) (whole_world outer-behind meter-behind) o))
     last alone None e = tt
     last alone (Some status) e =
         let stack = subst (λ gs. StackIs b.program b.there b.start m.call gs k.here.store s) alone m.stack in
@@ -175,14 +175,14 @@ module _ (b : Build) (ok : BuildStands b) (k : Config Places) (s : State) (m : M
       outside = record {
         here = frame_after Content Places b.rooms (placed_code b.plans) caller-site returned fr;
         callers = fs;
-        world = world_of outer-behind meter-behind;
+        world = whole_world outer-behind meter-behind;
       }
 
       caller-registers : registers_at h.plan fr.point.block fr.point.at ≡ []
       caller-registers = no-registers (registers_at h.plan fr.point.block fr.point.at) ((plans_fit h.plan (ok.functions fr.point.function h.plan h.is_in.plan).faithful.lists).points fr.point.block fr.point.at (i.Call h.function h.arguments) (insn-is h.plan.function.blocks fr.point.block fr.point.at h.insns (i.Call h.function h.arguments) h.is_in.block h.stands)).stated.count
 
       -- what it holds then
-      same-store : resumed h.function h.arguments w returned ≡ caller-site.put returned fr.store
+      same-store : resumed_places h.function h.arguments w returned ≡ caller-site.put returned fr.store
       same-store =
           ap (λ z. store_behind [] (i.Call h.function h.arguments) z returned) h.held
           ∙ ap (λ rs. store_behind rs (i.Call h.function h.arguments) (do_all (transfers_at h.plan fr.point.block fr.point.at) fr.store) returned) (sym caller-registers)
@@ -190,17 +190,17 @@ module _ (b : Build) (ok : BuildStands b) (k : Config Places) (s : State) (m : M
       stack-here : StackIs b.program b.there b.start m.call (w ∷ gs) k.here.store s
       stack-here = subst (λ l. StackIs b.program b.there b.start m.call l k.here.store s) waiting m.stack
 
-      matched-outside : (d : ExitIs b.program b.there b.start w gs (caller_of m.call (length gs) w) (end_locals k.world.outer m.call.own (length m.call.shape.sizes)) (resumed h.function h.arguments w returned) s) → Matches b outside d.to
+      matched-outside : (d : ExitIs b.program b.there b.start w gs (caller_of m.call (length gs) w) (end_locals k.world.outer m.call.own (length m.call.shape.sizes)) (resumed_places h.function h.arguments w returned) s) → Matches b outside d.to
       matched-outside d =
           let below = get-below h.insns fr.point.at (i.Call h.function h.arguments) h.stands in
-          let fill = frames_fill_stack b.program b.there b.start (caller_of m.call (length gs) w) gs (resumed h.function h.arguments w returned) d.to d.stack in
+          let fill = frames_fill_stack b.program b.there b.start (caller_of m.call (length gs) w) gs (resumed_places h.function h.arguments w returned) d.to d.stack in
           let least = frames-hold w.shape gs in
           let small = small-frame b ok fr.point h.plan h.insns w.shape h.is_in h.shape in
           let top = ok.top in
           let turn = metered.room in
           let same = metered.peak in
           let peak = m.peak in
-          let sum = m.room ∙ ap (λ l. room_of b.rooms k.here.point.function + rooms_of b.rooms l) callers in
+          let sum = m.room ∙ ap (λ l. room_of b.rooms k.here.point.function + total_rooms b.rooms l) callers in
           record {
             call = caller_of m.call (length gs) w;
             waiting = gs;
@@ -211,14 +211,14 @@ module _ (b : Build) (ok : BuildStands b) (k : Config Places) (s : State) (m : M
             own = h.own;
             is_call = record { small = omega (arith, fill, least, top); near = omega (arith, small) };
             globals = m.globals;
-            stands = subst (λ o. StandsFor b.program b.there (items_from b h.plan (record fr.point { at = suc fr.point.at }) h.insns) b.end (caller_of m.call (length gs) w) o.memory usable (caller-site.put returned fr.store) d.to) same-outer
-                (subst (λ z. StandsFor b.program b.there (items_from b h.plan (record fr.point { at = suc fr.point.at }) h.insns) b.end (caller_of m.call (length gs) w) (end_locals k.world.outer m.call.own (length m.call.shape.sizes)).memory usable z d.to) same-store
-                (subst (λ n. StandsFor b.program b.there (items_from b h.plan (record fr.point { at = suc fr.point.at }) h.insns) n (caller_of m.call (length gs) w) (end_locals k.world.outer m.call.own (length m.call.shape.sizes)).memory usable (resumed h.function h.arguments w returned) d.to) h.end
-                (subst (λ l. StandsFor b.program b.there l w.end (caller_of m.call (length gs) w) (end_locals k.world.outer m.call.own (length m.call.shape.sizes)).memory usable (resumed h.function h.arguments w returned) d.to) h.behind d.stands)));
+            stands = subst (λ o. StandsFor b.program b.there (items_from_point b h.plan (record fr.point { at = suc fr.point.at }) h.insns) b.end (caller_of m.call (length gs) w) o.memory is_usable (caller-site.put returned fr.store) d.to) same-outer
+                (subst (λ z. StandsFor b.program b.there (items_from_point b h.plan (record fr.point { at = suc fr.point.at }) h.insns) b.end (caller_of m.call (length gs) w) (end_locals k.world.outer m.call.own (length m.call.shape.sizes)).memory is_usable z d.to) same-store
+                (subst (λ n. StandsFor b.program b.there (items_from_point b h.plan (record fr.point { at = suc fr.point.at }) h.insns) n (caller_of m.call (length gs) w) (end_locals k.world.outer m.call.own (length m.call.shape.sizes)).memory is_usable (resumed_places h.function h.arguments w returned) d.to) h.end
+                (subst (λ l. StandsFor b.program b.there l w.end (caller_of m.call (length gs) w) (end_locals k.world.outer m.call.own (length m.call.shape.sizes)).memory is_usable (resumed_places h.function h.arguments w returned) d.to) h.behind d.stands)));
             stack = subst (λ z. StackIs b.program b.there b.start (caller_of m.call (length gs) w) gs z d.to) same-store d.stack;
             outer = subst (λ o. HasOuter o d.to) same-outer d.outer;
             waits = above;
-            room = (let e : t.room - room_of b.rooms k.here.point.function ≡ rooms_of b.rooms (fr ∷ fs) = omega (arith, turn, sum) in e);
+            room = (let e : t.room - room_of b.rooms k.here.point.function ≡ total_rooms b.rooms (fr ∷ fs) = omega (arith, turn, sum) in e);
             peak = omega (arith, turn, same, peak);
           }
 
@@ -227,13 +227,13 @@ module _ (b : Build) (ok : BuildStands b) (k : Config Places) (s : State) (m : M
           let d = returns_are_done b.program b.there b.start (b.setting k.here.point.function) (rest b ok k s m (i.Return with_value) there) b.end m.call w gs k.world.outer k.here.store s m.is_call (same-shape b ok k s m) stack-here m.outer (transfers_at m.plan k.here.point.block k.here.point.at) (may b ok k s m (i.Return with_value) there) (widest_call m.plan.function.blocks) h.function h.arguments k.here.point.function with_value (registers_at m.plan k.here.point.block k.here.point.at) empty-registers m.plan (b.behind k.here.point.function) b.end (built b ok k s m).stands (stands-plain b ok k s m (i.Return with_value) there refl) in
           record { to = d.to; comes = d.comes; matches = matched-outside d; moves = inl d.some }
 
-      resuming : StepIsDone b k s (resume Content Places b.rooms (placed_code b.plans) fr fs (world_of outer-behind meter-behind) returned ((placed_code b.plans).site fr.point))
+      resuming : StepIsDone b k s (resume Content Places b.rooms (placed_code b.plans) fr fs (whole_world outer-behind meter-behind) returned ((placed_code b.plans).site fr.point))
       resuming =
           let is = site-is b fr.point h.plan h.insns h.is_in ∙ ap (site_or_next (placed_site (widest_call h.plan.function.blocks) (transfers_at h.plan fr.point.block fr.point.at) (registers_at h.plan fr.point.block fr.point.at)) fr.point.block (is_left_at h.insns fr.point.at)) h.stands in
-          subst (λ o. StepIsDone b k s (resume Content Places b.rooms (placed_code b.plans) fr fs (world_of outer-behind meter-behind) returned o)) (sym is) leaving
+          subst (λ o. StepIsDone b k s (resume Content Places b.rooms (placed_code b.plans) fr fs (whole_world outer-behind meter-behind) returned o)) (sym is) leaving
 
-    returning : (fs : List (Frame Places)) (gs : List Waiting) → k.callers ≡ fs → m.waiting ≡ gs → AreWaiting b fs gs → StepIsDone b k s (return_to Content Places b.rooms (placed_code b.plans) ((placed_code b.plans).number k.here.point) returned (world_of outer-behind meter-behind) fs)
-    returning [] [] callers waiting h = last waiting (status_of returned) refl
+    returning : (fs : List (Frame Places)) (gs : List Waiting) → k.callers ≡ fs → m.waiting ≡ gs → AreWaiting b fs gs → StepIsDone b k s (return_to Content Places b.rooms (placed_code b.plans) ((placed_code b.plans).number k.here.point) returned (whole_world outer-behind meter-behind) fs)
+    returning [] [] callers waiting h = last waiting (result_status returned) refl
     returning (fr ∷ fs) (w ∷ gs) callers waiting h = resuming fr fs w gs callers waiting h.0 h.1
     returning [] (w ∷ gs) callers waiting h = absurd h
     returning (fr ∷ fs) [] callers waiting h = absurd h

@@ -19,14 +19,14 @@ use Rattle.alloc_model.specs.Places.{Places, Plan, edge_transfers, edge_in, tran
 use Rattle.frame_transfers.specs.Items.{items_of_transfers}
 use Rattle.frame_transfers.specs.Laws.{StandsFor, CanTransferAll}
 use Rattle.stack_rooms.specs.Items.{ItemSetting, insn_items}
-use Rattle.stack_rooms.specs.Laws.{usable}
+use Rattle.stack_rooms.specs.Laws.{is_usable}
 use Rattle.stack_rooms.proofs.Runs.{no-registers}
 use Rattle.call_steps.proofs.Edges.{edges_are_done, ends_are_done, jumps_are_done_here}
 use Rattle.edge_shapes.specs.Items.{top_transfers, end_transfers, insns_items, block_items, blocks_items, exit_items}
 use Rattle.edge_shapes.proofs.Fits.{targets_fit, ends_fit}
 use Rattle.edge_shapes.proofs.Tops.{tops_fit}
 use Rattle.flat_steps.specs.Builds.{Build, BuildStands}
-use Rattle.flat_steps.specs.Matching.{items_from, Matches, StepIsDone}
+use Rattle.flat_steps.specs.Matching.{items_from_point, Matches, StepIsDone}
 use Rattle.flat_steps.proofs.Lists.{drop-some, drop-none, stands-at, count-behind}
 use Rattle.flat_steps.proofs.Points.{place-is}
 use Rattle.flat_steps.proofs.Meters.{IsMetered}
@@ -57,9 +57,9 @@ module _ (b : Build) (ok : BuildStands b) (k : Config Places) (s : State) (m : M
       let x : TempInsn = i.Jump block in
       let edge = edge_transfers m.plan k.here.point.block block in
       let is = is-insn b ok k s m (i.Jump block) there in
-      let can = subst (λ y. CanTransferAll y usable edge) (sym m.shape) (targets_fit m.plan (built b ok k s m).faithful k.here.point.block k.here.point.at (i.Jump block) is 0 block refl) in
+      let can = subst (λ y. CanTransferAll y is_usable edge) (sym m.shape) (targets_fit m.plan (built b ok k s m).faithful k.here.point.block k.here.point.at (i.Jump block) is 0 block refl) in
       let behind = rest b ok k s m (i.Jump block) there in
-      let at = subst (λ z. StandsFor b.program b.there (items_of_transfers z xs (items_of_transfers z edge (insn_items (b.setting k.here.point.function) (registers_at m.plan k.here.point.block k.here.point.at) (i.Jump block) ++ rest b ok k s m (i.Jump block) there))) b.end m.call k.world.outer.memory usable k.here.store s) (same-shape b ok k s m) (stands-point b ok k s m (i.Jump block) there) in
+      let at = subst (λ z. StandsFor b.program b.there (items_of_transfers z xs (items_of_transfers z edge (insn_items (b.setting k.here.point.function) (registers_at m.plan k.here.point.block k.here.point.at) (i.Jump block) ++ rest b ok k s m (i.Jump block) there))) b.end m.call k.world.outer.memory is_usable k.here.store s) (same-shape b ok k s m) (stands-point b ok k s m (i.Jump block) there) in
       let d = jumps_are_done_here b.program b.there b.start (rest b ok k s m (i.Jump block) there) b.end m.call m.waiting k.world.outer k.here.store s m.is_call m.stack m.outer xs edge (may b ok k s m (i.Jump block) there) can ((b.setting k.here.point.function).block_label block) (widest_call m.plan.function.blocks) block rs (no-registers rs (stated b ok k s m (i.Jump block) there).count) at in
       let store = (placed_site (widest_call m.plan.function.blocks) xs rs (i.Jump block)).put [] k.here.store in
       let none = (built b ok k s m).edges.jumps k.here.point.block k.here.point.at block is in
@@ -81,15 +81,15 @@ module _ (b : Build) (ok : BuildStands b) (k : Config Places) (s : State) (m : M
       let ends = end_transfers m.plan k.here.point.block m.insns in
       let tops = top_transfers m.plan (suc k.here.point.block) in
       let exit = exit_items (b.setting k.here.point.function) (b.behind k.here.point.function) in
-      let next = items_from b m.plan (record { function = k.here.point.function; block = suc k.here.point.block; at = 0 }) z.one in
-      let behind = subst (λ l. StandsFor b.program b.there (insns_items m.plan (b.setting k.here.point.function) k.here.point.block k.here.point.at l (items_behind b m.plan k.here.point.function k.here.point.block m.insns)) b.end m.call k.world.outer.memory usable k.here.store s) (drop-none m.insns k.here.point.at none) m.stands in
-      let shaped = subst (λ y. StandsFor b.program b.there (items_of_transfers y ends (blocks_items m.plan (b.setting k.here.point.function) (suc k.here.point.block) (drop (suc k.here.point.block) m.plan.function.blocks) exit)) b.end m.call k.world.outer.memory usable k.here.store s) (same-shape b ok k s m) behind in
-      let begun = subst (λ l. StandsFor b.program b.there (items_of_transfers m.call.shape ends l) b.end m.call k.world.outer.memory usable k.here.store s) (blocks-begin m.plan (b.setting k.here.point.function) (suc k.here.point.block) (suc k.here.point.block) z.one exit z.is) shaped in
-      let can-end = subst (λ y. CanTransferAll y usable ends) (sym m.shape) (ends_fit m.plan (built b ok k s m).faithful k.here.point.block m.insns m.is_in.block) in
-      let can-top = subst (λ y. CanTransferAll y usable tops) (sym m.shape) (tops_fit m.plan (built b ok k s m).faithful (suc k.here.point.block)) in
+      let next = items_from_point b m.plan (record { function = k.here.point.function; block = suc k.here.point.block; at = 0 }) z.one in
+      let behind = subst (λ l. StandsFor b.program b.there (insns_items m.plan (b.setting k.here.point.function) k.here.point.block k.here.point.at l (items_behind b m.plan k.here.point.function k.here.point.block m.insns)) b.end m.call k.world.outer.memory is_usable k.here.store s) (drop-none m.insns k.here.point.at none) m.stands in
+      let shaped = subst (λ y. StandsFor b.program b.there (items_of_transfers y ends (blocks_items m.plan (b.setting k.here.point.function) (suc k.here.point.block) (drop (suc k.here.point.block) m.plan.function.blocks) exit)) b.end m.call k.world.outer.memory is_usable k.here.store s) (same-shape b ok k s m) behind in
+      let begun = subst (λ l. StandsFor b.program b.there (items_of_transfers m.call.shape ends l) b.end m.call k.world.outer.memory is_usable k.here.store s) (blocks-begin m.plan (b.setting k.here.point.function) (suc k.here.point.block) (suc k.here.point.block) z.one exit z.is) shaped in
+      let can-end = subst (λ y. CanTransferAll y is_usable ends) (sym m.shape) (ends_fit m.plan (built b ok k s m).faithful k.here.point.block m.insns m.is_in.block) in
+      let can-top = subst (λ y. CanTransferAll y is_usable tops) (sym m.shape) (tops_fit m.plan (built b ok k s m).faithful (suc k.here.point.block)) in
       let d = ends_are_done b.program b.there b.start (items_of_transfers (b.setting k.here.point.function).shape tops next) b.end m.call m.waiting k.world.outer k.here.store s m.is_call m.stack m.outer ends ((b.setting k.here.point.function).block_label (suc k.here.point.block)) can-end begun in
       let e = edges_are_done b.program b.there b.start next b.end m.call m.waiting k.world.outer (do_all ends k.here.store) d.to m.is_call d.stack d.outer tops can-top
-      (subst (λ y. StandsFor b.program b.there (items_of_transfers y tops next) b.end m.call k.world.outer.memory usable (do_all ends k.here.store) d.to) (same-shape b ok k s m) d.stands) in
+      (subst (λ y. StandsFor b.program b.there (items_of_transfers y tops next) b.end m.call k.world.outer.memory is_usable (do_all ends k.here.store) d.to) (same-shape b ok k s m) d.stands) in
       let held : do_all tops (do_all ends k.here.store) ≡ do_all (edge_in (slice_get b.plans k.here.point.function) k.here.point.block (suc k.here.point.block)) k.here.store =
       sym (all-in-two ends tops k.here.store) ∙ ap (λ l. do_all l k.here.store) (edges.ends k.here.point.block m.insns m.is_in.block flows)
       ∙ ap (λ o. do_all (edge_in o k.here.point.block (suc k.here.point.block)) k.here.store) (sym m.is_in.plan) in

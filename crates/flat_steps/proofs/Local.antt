@@ -4,13 +4,13 @@ use Rattle.std.specs.Prelude.{slice_get}
 use Rattle.alpha_isa.specs.State.{State}
 use Rattle.mem_model.specs.World.{Outer, Meter}
 use Rattle.machine_model.specs.Code.{Exits, Traps, HasNoMeaning, Act, Writes, Jumps, Calls, Returns, Stops, Site}
-use Rattle.machine_model.specs.Machine.{Config, world_of, jump_to, act_on}
+use Rattle.machine_model.specs.Machine.{Config, whole_world, jump_to, act_on}
 use Rattle.temp_ir.specs.declared.insn.TempInsn.{TempInsn}
 use Rattle.temp_ir.specs.Insns.{targets_of}
 use Rattle.alloc_model.specs.Contents.{Content}
 use Rattle.alloc_model.specs.Effect.{widest_call}
 use Rattle.alloc_model.specs.Places.{Places, edge_transfers, edge_in, transfers_at, registers_at, do_all, placed_site, placed_code}
-use Rattle.edge_shapes.specs.Points.{is_local, PointIsLeft, PointIsDone}
+use Rattle.edge_shapes.specs.Points.{stays_in_call, PointIsLeft, PointIsDone}
 use Rattle.edge_shapes.proofs.Points.{points_are_done}
 use Rattle.stack_rooms.proofs.Rooms.{scratch_is_there}
 use Rattle.edge_shapes.specs.Items.{top_transfers, jump_transfers}
@@ -31,7 +31,7 @@ module _ (b : Build) (ok : BuildStands b) (k : Config Places) (s : State) (m : M
   abbrev HasTops : Type 0
   HasTops = (n to : ℕ) → slice_get (targets_of x) n ≡ Some to → top_transfers m.plan to ≡ edge_transfers m.plan k.here.point.block to
 
-  jumps : HasTops → (o : Outer) (t : Meter) → IsMetered k.world.meter t → (n : ℕ) (to : Option ℕ) → slice_get (targets_of x) n ≡ to → ((block : ℕ) → to ≡ Some block → PointIsLeft b.program b.there b.start ((b.setting k.here.point.function).block_label block) m.call m.waiting o (site.put [] k.here.store) s) → StepIsDone b k s (jump_to Content Places b.rooms (placed_code b.plans) k (world_of o t) site to)
+  jumps : HasTops → (o : Outer) (t : Meter) → IsMetered k.world.meter t → (n : ℕ) (to : Option ℕ) → slice_get (targets_of x) n ≡ to → ((block : ℕ) → to ≡ Some block → PointIsLeft b.program b.there b.start ((b.setting k.here.point.function).block_label block) m.call m.waiting o (site.put [] k.here.store) s) → StepIsDone b k s (jump_to Content Places b.rooms (placed_code b.plans) k (whole_world o t) site to)
   jumps tops o t metered n None is h = tt
   jumps tops o t metered n (Some block) is h =
       let leads = ap (λ z. edge_in z k.here.point.block block) m.is_in.plan ∙ sym (tops n block is) in
@@ -56,7 +56,7 @@ module _ (b : Build) (ok : BuildStands b) (k : Config Places) (s : State) (m : M
   acts tops t metered (Stops (Traps code) o) none d = d
   acts tops t metered (Stops HasNoMeaning o) none d = tt
 
-  pub local-step : is_local x ≡ true → jump_transfers m.plan k.here.point.block x ≡ [] → HasTops → FitsStack b (step_of b k) → (t : Meter) → IsMetered k.world.meter t → StepIsDone b k s (act_on Content Places b.rooms (placed_code b.plans) k t site (site.does k.here.own (site.fetch k.here.store) k.world.outer))
+  pub local-step : stays_in_call x ≡ true → jump_transfers m.plan k.here.point.block x ≡ [] → HasTops → FitsStack b (step_of b k) → (t : Meter) → IsMetered k.world.meter t → StepIsDone b k s (act_on Content Places b.rooms (placed_code b.plans) k t site (site.does k.here.own (site.fetch k.here.store) k.world.outer))
   local-step local none tops fits t metered =
       let W = widest_call m.plan.function.blocks in
       acts tops t metered (site.does k.here.own (site.fetch k.here.store) k.world.outer) (no-call (widest_call m.plan.function.blocks) x k.here.own (site.fetch k.here.store) k.world.outer local)

@@ -5,7 +5,7 @@ use Rattle.alpha_isa.specs.State.{State}
 use Rattle.alpha_items.specs.declared.item.AsmItem.{AsmItem}
 use Rattle.item_steps.proofs.Steps.{steps_add_up, first-some}
 use Rattle.mem_model.specs.World.{Outer, Meter}
-use Rattle.machine_model.specs.Machine.{Config, world_of}
+use Rattle.machine_model.specs.Machine.{Config, whole_world}
 use Rattle.suifvm_ir.specs.Functions.{insn_at}
 use Rattle.temp_ir.specs.declared.insn.TempInsn.{TempInsn}
 use Rattle.alloc_model.specs.Effect.{widest_call}
@@ -13,7 +13,7 @@ use Rattle.alloc_model.specs.Places.{Places, Plan, transfers_at, registers_at, d
 use Rattle.frame_transfers.specs.Items.{items_of_transfers}
 use Rattle.frame_transfers.specs.Laws.{StandsFor, CanTransferAll}
 use Rattle.stack_rooms.specs.Items.{insn_items}
-use Rattle.stack_rooms.specs.Laws.{usable, IsStated, HasOuter}
+use Rattle.stack_rooms.specs.Laws.{is_usable, IsStated, HasOuter}
 use Rattle.call_steps.specs.Stacks.{StackIs}
 use Rattle.edge_shapes.specs.Points.{AllMayTransfer, PointIsLeft}
 use Rattle.call_steps.proofs.Edges.{edges_are_done}
@@ -22,7 +22,7 @@ use Rattle.edge_shapes.specs.Shapes.{PlanFits}
 use Rattle.edge_shapes.proofs.FunctionShapesFits.{plans_fit}
 use Rattle.edge_shapes.proofs.Tops.{tops_fit}
 use Rattle.flat_steps.specs.Builds.{Build, FunctionIsBuilt, BuildStands}
-use Rattle.flat_steps.specs.Matching.{items_from, Matches, IsFollowed}
+use Rattle.flat_steps.specs.Matching.{items_from_point, Matches, IsFollowed}
 use Rattle.flat_steps.proofs.Lists.{drop-some, stands-at, insn-is}
 use Rattle.flat_steps.proofs.Meters.{IsMetered}
 
@@ -61,14 +61,14 @@ module _ (b : Build) (ok : BuildStands b) (k : Config Places) (s : State) (m : M
     abbrev pub rest : List AsmItem
     rest = insns_items m.plan (b.setting k.here.point.function) k.here.point.block (suc k.here.point.at) (drop (suc k.here.point.at) m.insns) (items_behind b m.plan k.here.point.function k.here.point.block m.insns)
 
-    pub stands-point : StandsFor b.program b.there (point_items m.plan (b.setting k.here.point.function) k.here.point.block k.here.point.at x rest) b.end m.call k.world.outer.memory usable k.here.store s
-    stands-point = subst (λ l. StandsFor b.program b.there (insns_items m.plan (b.setting k.here.point.function) k.here.point.block k.here.point.at l (items_behind b m.plan k.here.point.function k.here.point.block m.insns)) b.end m.call k.world.outer.memory usable k.here.store s) (drop-some m.insns k.here.point.at x there) m.stands
+    pub stands-point : StandsFor b.program b.there (point_items m.plan (b.setting k.here.point.function) k.here.point.block k.here.point.at x rest) b.end m.call k.world.outer.memory is_usable k.here.store s
+    stands-point = subst (λ l. StandsFor b.program b.there (insns_items m.plan (b.setting k.here.point.function) k.here.point.block k.here.point.at l (items_behind b m.plan k.here.point.function k.here.point.block m.insns)) b.end m.call k.world.outer.memory is_usable k.here.store s) (drop-some m.insns k.here.point.at x there) m.stands
 
     -- where no transfers of a jump stand before it
-    pub stands-plain : jump_transfers m.plan k.here.point.block x ≡ [] → StandsFor b.program b.there (items_of_transfers m.call.shape (transfers_at m.plan k.here.point.block k.here.point.at) (insn_items (b.setting k.here.point.function) (registers_at m.plan k.here.point.block k.here.point.at) x ++ rest)) b.end m.call k.world.outer.memory usable k.here.store s
+    pub stands-plain : jump_transfers m.plan k.here.point.block x ≡ [] → StandsFor b.program b.there (items_of_transfers m.call.shape (transfers_at m.plan k.here.point.block k.here.point.at) (insn_items (b.setting k.here.point.function) (registers_at m.plan k.here.point.block k.here.point.at) x ++ rest)) b.end m.call k.world.outer.memory is_usable k.here.store s
     stands-plain none =
-        subst (λ z. StandsFor b.program b.there (items_of_transfers z (transfers_at m.plan k.here.point.block k.here.point.at) (insn_items (b.setting k.here.point.function) (registers_at m.plan k.here.point.block k.here.point.at) x ++ rest)) b.end m.call k.world.outer.memory usable k.here.store s) same-shape
-        (subst (λ l. StandsFor b.program b.there (items_of_transfers (b.setting k.here.point.function).shape (transfers_at m.plan k.here.point.block k.here.point.at) (items_of_transfers (b.setting k.here.point.function).shape l (insn_items (b.setting k.here.point.function) (registers_at m.plan k.here.point.block k.here.point.at) x ++ rest))) b.end m.call k.world.outer.memory usable k.here.store s) none stands-point)
+        subst (λ z. StandsFor b.program b.there (items_of_transfers z (transfers_at m.plan k.here.point.block k.here.point.at) (insn_items (b.setting k.here.point.function) (registers_at m.plan k.here.point.block k.here.point.at) x ++ rest)) b.end m.call k.world.outer.memory is_usable k.here.store s) same-shape
+        (subst (λ l. StandsFor b.program b.there (items_of_transfers (b.setting k.here.point.function).shape (transfers_at m.plan k.here.point.block k.here.point.at) (items_of_transfers (b.setting k.here.point.function).shape l (insn_items (b.setting k.here.point.function) (registers_at m.plan k.here.point.block k.here.point.at) x ++ rest))) b.end m.call k.world.outer.memory is_usable k.here.store s) none stands-point)
 
   -- ---- the next place
 
@@ -76,10 +76,10 @@ module _ (b : Build) (ok : BuildStands b) (k : Config Places) (s : State) (m : M
   config_at block at held o t = record {
     here = record { point = record { function = k.here.point.function; block = block; at = at }; own = k.here.own; store = held };
     callers = k.callers;
-    world = world_of o t;
+    world = whole_world o t;
   }
 
-  pub match-at : (block at : ℕ) (insns : List TempInsn) → slice_get m.plan.function.blocks block ≡ Some insns → at ≤ length insns → (o : Outer) (t : Meter) → IsMetered k.world.meter t → (held : Places) (to : State) → StandsFor b.program b.there (items_from b m.plan (record { function = k.here.point.function; block = block; at = at }) insns) b.end m.call o.memory usable held to → StackIs b.program b.there b.start m.call m.waiting held to → HasOuter o to → Matches b (config_at block at held o t) to
+  pub match-at : (block at : ℕ) (insns : List TempInsn) → slice_get m.plan.function.blocks block ≡ Some insns → at ≤ length insns → (o : Outer) (t : Meter) → IsMetered k.world.meter t → (held : Places) (to : State) → StandsFor b.program b.there (items_from_point b m.plan (record { function = k.here.point.function; block = block; at = at }) insns) b.end m.call o.memory is_usable held to → StackIs b.program b.there b.start m.call m.waiting held to → HasOuter o to → Matches b (config_at block at held o t) to
   match-at block at insns there within o t metered held to stands stack outer = record {
     call = m.call;
     waiting = m.waiting;
@@ -102,11 +102,11 @@ module _ (b : Build) (ok : BuildStands b) (k : Config Places) (s : State) (m : M
   pub entered : (block : ℕ) → block < length m.plan.function.blocks → (o : Outer) (t : Meter) → IsMetered k.world.meter t → (held new : Places) → do_all (top_transfers m.plan block) held ≡ new → PointIsLeft b.program b.there b.start ((b.setting k.here.point.function).block_label block) m.call m.waiting o held s → IsFollowed b k (config_at block 0 new o t) s
   entered block below o t metered held new is h =
       let z = stands-at m.plan.function.blocks block below in
-      let can = subst (λ y. CanTransferAll y usable (top_transfers m.plan block)) (sym m.shape) (tops_fit m.plan built.faithful block) in
-      let items = items_from b m.plan (record { function = k.here.point.function; block = block; at = 0 }) z.one in
+      let can = subst (λ y. CanTransferAll y is_usable (top_transfers m.plan block)) (sym m.shape) (tops_fit m.plan built.faithful block) in
+      let items = items_from_point b m.plan (record { function = k.here.point.function; block = block; at = 0 }) z.one in
       let at = h.stands (block_items m.plan (b.setting k.here.point.function) block z.one (blocks_items m.plan (b.setting k.here.point.function) (suc block) (drop (suc block) m.plan.function.blocks) (exit_items (b.setting k.here.point.function) (b.behind k.here.point.function)))) b.end (built.stands.blocks block z.one z.is) in
-      let d = edges_are_done b.program b.there b.start (items_from b m.plan (record { function = k.here.point.function; block = block; at = 0 }) z.one) b.end m.call m.waiting o held h.to m.is_call h.stack h.outer (top_transfers m.plan block) can
-      (subst (λ y. StandsFor b.program b.there (items_of_transfers y (top_transfers m.plan block) (items_from b m.plan (record { function = k.here.point.function; block = block; at = 0 }) z.one)) b.end m.call o.memory usable held h.to) same-shape at) in
+      let d = edges_are_done b.program b.there b.start (items_from_point b m.plan (record { function = k.here.point.function; block = block; at = 0 }) z.one) b.end m.call m.waiting o held h.to m.is_call h.stack h.outer (top_transfers m.plan block) can
+      (subst (λ y. StandsFor b.program b.there (items_of_transfers y (top_transfers m.plan block) (items_from_point b m.plan (record { function = k.here.point.function; block = block; at = 0 }) z.one)) b.end m.call o.memory is_usable held h.to) same-shape at) in
       subst (λ n. IsFollowed b k (config_at block 0 n o t) s) is
       (record {
         to = d.to;

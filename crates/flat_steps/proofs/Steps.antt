@@ -12,7 +12,7 @@ use Rattle.alloc_model.specs.Contents.{Content}
 use Rattle.alloc_model.specs.Effect.{widest_call, takes_turn}
 use Rattle.alloc_model.specs.Temporaries.{is_left_at, site_or_next}
 use Rattle.alloc_model.specs.Places.{Places, edge_transfers, transfers_at, registers_at, placed_site, placed_code}
-use Rattle.edge_shapes.specs.Points.{is_local}
+use Rattle.edge_shapes.specs.Points.{stays_in_call}
 use Rattle.edge_shapes.specs.Items.{top_transfers, jump_transfers}
 use Rattle.flat_steps.specs.Builds.{Build, BuildStands}
 use Rattle.flat_steps.specs.Matching.{Matches, FitsStack, StepIsDone, step_of}
@@ -29,7 +29,7 @@ module _ (b : Build) (ok : BuildStands b) (k : Config Places) (s : State) (m : M
   site x = placed_site (widest_call m.plan.function.blocks) (transfers_at m.plan k.here.point.block k.here.point.at) (registers_at m.plan k.here.point.block k.here.point.at) x
 
   -- an instruction without targets
-  straight : (x : TempInsn) (there : slice_get m.insns k.here.point.at ≡ Some x) → is_local x ≡ true → jump_transfers m.plan k.here.point.block x ≡ [] → targets_of x ≡ [] → (t : Meter) → IsMetered k.world.meter t → StepIsDone b k s (act_on Content Places b.rooms (placed_code b.plans) k t (site x) ((site x).does k.here.own ((site x).fetch k.here.store) k.world.outer))
+  straight : (x : TempInsn) (there : slice_get m.insns k.here.point.at ≡ Some x) → stays_in_call x ≡ true → jump_transfers m.plan k.here.point.block x ≡ [] → targets_of x ≡ [] → (t : Meter) → IsMetered k.world.meter t → StepIsDone b k s (act_on Content Places b.rooms (placed_code b.plans) k t (site x) ((site x).does k.here.own ((site x).fetch k.here.store) k.world.outer))
   straight x there local none no-targets t metered = local-step b ok k s m x there local none (λ n to e. absurd (none-stands n to (subst (λ l. slice_get l n ≡ Some to) no-targets e))) fits t metered
 
   branch-tops : (x : TempInsn) (there : slice_get m.insns k.here.point.at ≡ Some x) (block : ℕ) → targets_of x ≡ block ∷ [] → top_transfers m.plan block ≡ edge_transfers m.plan k.here.point.block block → (n to : ℕ) → slice_get (targets_of x) n ≡ Some to → top_transfers m.plan to ≡ edge_transfers m.plan k.here.point.block to

@@ -18,7 +18,7 @@ use Rattle.alloc_model.specs.Places.{Places, Plan, linear_number, transfers_at, 
 use Rattle.flat_memory.specs.Laws.{MoreExtents}
 use Rattle.frame_transfers.specs.Items.{items_of_transfers}
 use Rattle.frame_transfers.specs.Laws.{CallAt, FitsTheStack, StandsFor}
-use Rattle.stack_rooms.specs.Laws.{usable, HasOuter, RunIsOver}
+use Rattle.stack_rooms.specs.Laws.{is_usable, HasOuter, RunIsOver}
 use Rattle.call_steps.specs.Stacks.{Waiting, StackIs}
 use Rattle.edge_shapes.specs.Items.{insns_items, end_transfers, blocks_items, exit_items}
 use Rattle.edge_shapes.specs.Shapes.{shape_of}
@@ -33,8 +33,8 @@ pub record StandsInPlan (b : Build) (p : Point) (a : Plan) (insns : List TempIns
   pub within : p.at ≤ length insns
 
 -- the items of its function from it on
-abbrev pub items_from : Build → Plan → Point → List TempInsn → List AsmItem
-items_from b a p insns =
+abbrev pub items_from_point : Build → Plan → Point → List TempInsn → List AsmItem
+items_from_point b a p insns =
     insns_items a (b.setting p.function) p.block p.at (drop p.at insns)
     (items_of_transfers (b.setting p.function).shape (end_transfers a p.block insns)
     (blocks_items a (b.setting p.function) (suc p.block) (drop (suc p.block) a.function.blocks)
@@ -53,7 +53,7 @@ pub record WaitsFor (b : Build) (f : Frame Places) (g : Waiting) : Type 0 where
   pub shape : g.shape ≡ shape_of plan
   pub own : g.own ≡ f.own
   pub held : g.held ≡ do_all (transfers_at plan f.point.block f.point.at) f.store
-  pub behind : g.behind ≡ items_from b plan (record f.point { at = suc f.point.at }) insns
+  pub behind : g.behind ≡ items_from_point b plan (record f.point { at = suc f.point.at }) insns
   pub end : g.end ≡ b.end
 
 abbrev pub AreWaiting : Build → List (Frame Places) → List Waiting → Type 0
@@ -62,9 +62,9 @@ AreWaiting b (f ∷ fs) (g ∷ gs) = WaitsFor b f g × AreWaiting b fs gs
 AreWaiting b _ _ = ⊥
 
 -- the sum of the rooms of calls
-abbrev pub rooms_of : Rooms → List (Frame Places) → ℕ
-rooms_of rooms [] = 0
-rooms_of rooms (f ∷ fs) = room_of rooms f.point.function + rooms_of rooms fs
+abbrev pub total_rooms : Rooms → List (Frame Places) → ℕ
+total_rooms rooms [] = 0
+total_rooms rooms (f ∷ fs) = room_of rooms f.point.function + total_rooms rooms fs
 
 -- ---- the machine stands for a run
 
@@ -78,12 +78,13 @@ pub record Matches (b : Build) (k : Config Places) (s : State) : Type 0 where
   pub own : call.own ≡ k.here.own
   pub is_call : FitsTheStack call
   pub globals : MoreExtents b.globals call.extents
-  pub stands : StandsFor b.program b.there (items_from b plan k.here.point insns) b.end call k.world.outer.memory usable
+  pub stands : StandsFor b.program b.there (items_from_point b plan k.here.point insns) b.end call
+      k.world.outer.memory is_usable
       k.here.store s
   pub stack : StackIs b.program b.there b.start call waiting k.here.store s
   pub outer : HasOuter k.world.outer s
   pub waits : AreWaiting b k.callers waiting
-  pub room : k.world.meter.room ≡ rooms_of b.rooms (k.here ∷ k.callers)
+  pub room : k.world.meter.room ≡ total_rooms b.rooms (k.here ∷ k.callers)
   pub peak : k.world.meter.room ≤ k.world.meter.peak
 
 -- ---- steps
@@ -93,8 +94,8 @@ abbrev pub place_in : Option Plan → Point → ℕ
 place_in None p = 0
 place_in (Some a) p = linear_number a.function.blocks p.block p.at + p.block
 
-abbrev pub place_of : Build → Point → ℕ
-place_of b p = place_in (slice_get b.plans p.function) p
+abbrev pub point_place : Build → Point → ℕ
+point_place b p = place_in (slice_get b.plans p.function) p
 
 -- the machine comes to where it stands for what a step leads to; where it takes no step itself, the run goes on by one
 -- place
@@ -102,7 +103,7 @@ pub record IsFollowed (b : Build) (k d : Config Places) (s : State) : Type 0 whe
   pub to : State
   pub comes : Comes b.program s to
   pub matches : Matches b d to
-  pub moves : (1 ≤ comes.steps) ⊎ (place_of b d.here.point ≡ suc (place_of b k.here.point))
+  pub moves : (1 ≤ comes.steps) ⊎ (point_place b d.here.point ≡ suc (point_place b k.here.point))
 
 -- so much of the stack is used as there is
 abbrev pub FitsStack : Build → Next Places → Type 0

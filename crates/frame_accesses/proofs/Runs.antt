@@ -13,7 +13,7 @@ use Rattle.alpha_isa.specs.declared.insn.OperateOp.TheVariants.{Bis}
 use Rattle.alpha_isa.specs.Arithmetic.{word_at, word_from}
 use Rattle.alpha_isa.specs.Program.{Program, data_start, stack_start}
 use Rattle.alpha_isa.specs.State.{State, register, with_register, bytes_at, with_bytes}
-use Rattle.alpha_isa.specs.Step.{exec, Goes, address, insn_step, load_into, go_on_stored, next_instruction}
+use Rattle.alpha_isa.specs.Step.{exec, Goes, memory_address, insn_step, load_into, go_on_stored, next_instruction}
 use Rattle.alpha_items.specs.declared.item.AsmItem.{AsmItem}
 use Rattle.alpha_items.specs.declared.item.AsmItem.TheVariants.{Plain}
 use Rattle.alpha_items.specs.Words.{high_of}
@@ -116,7 +116,7 @@ near-sum sp offset small = let g : word_at (sp + offset) ≡ sp + offset = omega
 -- register 29 has the most of the sum
 record WayMade (p : Program) (there : Labels) (rest : List AsmItem) (end offset : ℕ) (s : State) : Type 0 where
   made : WritesWord p there rest end 29 (word_at (register s 30 + high_of offset * 65536)) s
-  sum : address made.to 29 (pos offset -ℤ pos (high_of offset * 65536)) ≡ register s 30 + offset
+  sum : memory_address made.to 29 (pos offset -ℤ pos (high_of offset * 65536)) ≡ register s 30 + offset
 
 way-made : (p : Program) (there : Labels) (w : ℕ) (rest : List AsmItem) (end offset : ℕ) (s : State) → IsAt p there w (Plain (Memory Ldah 29 30 (pos (high_of offset))) ∷ rest) end s → IsOffset s offset → WayMade p there rest end offset s
 way-made p there w rest end offset s h o =
@@ -144,7 +144,7 @@ come-through p there mid rest end s t u a b = record {
 
 -- ---- loads
 
-loaded-step : (p : Program) (r rb : ℕ) (disp : ℤ) (a : ℕ) (s : State) → HasParts p s → address s rb disp ≡ a → IsReached p s a 8 → insn_step p (Memory Ldq r rb disp) s ≡ next_instruction (with_register r (number_from (bytes_from (memory_bytes p s) a 8)) s)
+loaded-step : (p : Program) (r rb : ℕ) (disp : ℤ) (a : ℕ) (s : State) → HasParts p s → memory_address s rb disp ≡ a → IsReached p s a 8 → insn_step p (Memory Ldq r rb disp) s ≡ next_instruction (with_register r (number_from (bytes_from (memory_bytes p s) a 8)) s)
 loaded-step p r rb disp a s parts e reach =
     ap (λ k. load_into (from_le_bytes w64) r (bytes_at p s k 8) s) e
     ∙ ap (λ o. load_into (from_le_bytes w64) r o s) (loads_read_bytes p s parts a 8 (inr (inr (inr refl))) reach)
@@ -234,7 +234,7 @@ record PutsWord (p : Program) (there : Labels) (rest : List AsmItem) (end a v : 
   others : (q : ℕ) → register to q ≡ register s q
   bytes : memory_bytes p to ≡ put_bytes (memory_bytes p s) a (low_bytes 8 v)
 
-word-put : (p : Program) (there : Labels) (w r rb : ℕ) (disp : ℤ) (a : ℕ) (rest : List AsmItem) (end : ℕ) (s : State) → IsAt p there w (Plain (Memory Stq r rb disp) ∷ rest) end s → address s rb disp ≡ a → IsReached p s a 8 → PutsWord p there rest end a (register s r) s
+word-put : (p : Program) (there : Labels) (w r rb : ℕ) (disp : ℤ) (a : ℕ) (rest : List AsmItem) (end : ℕ) (s : State) → IsAt p there w (Plain (Memory Stq r rb disp) ∷ rest) end s → memory_address s rb disp ≡ a → IsReached p s a 8 → PutsWord p there rest end a (register s r) s
 unfolding memory_bytes
 word-put p there w r rb disp a rest end s h e reach =
     let len : length (low_bytes 8 (register s r)) ≡ 8 = low_bytes-length 8 (register s r) in

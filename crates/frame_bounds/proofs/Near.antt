@@ -8,7 +8,7 @@ use Rattle.temp_ir.specs.declared.insn.TempInsn.TheVariants as i
 use Rattle.alloc_model.specs.Effect.{width_of, widest_in, widest_call}
 use Rattle.alloc_model.specs.Places.{Plan}
 use Rattle.flat_frames.specs.Shapes.{FrameShape}
-use Rattle.frame_emitter.specs.Shapes.{is_named, shape_of}
+use Rattle.frame_emitter.specs.Shapes.{plan_names, shape_of}
 use Rattle.frame_emitter.specs.Settings.{most_arguments, near_insn, near_blocks, with_blocks, near_plan}
 use Rattle.frame_bounds.specs.Near.{IsNear}
 
@@ -73,7 +73,7 @@ near_widest [] = refl
 near_widest (b ∷ bs) = ap (λ n. max n (widest_call (near_blocks bs))) (near-widest b) ∙ ap (λ n. max (widest_in b) n) (near_widest bs)
 
 shape-with : Plan → (widest : ℕ) → FrameShape
-shape-with a widest = record { outgoing = widest - 6; temps = a.temps; sizes = a.function.sizes; saves = is_named a }
+shape-with a widest = record { outgoing = widest - 6; temps = a.temps; sizes = a.function.sizes; saves = plan_names a }
 
 pub shape_same : (a : Plan) → shape_of (near_plan a) ≡ shape_of a
 unfolding shape-with

@@ -2,7 +2,7 @@
 use Rattle.std.proofs.Common.{◌≡◌, ℕ, zero, suc, ◌+◌, ◌*◌, ◌/◌, ◌%◌, ◌≤◌, List, [], ◌∷◌, refl, arith}
 use Rattle.alloc_model.specs.Effect.{widest_call}
 use Rattle.alloc_model.specs.Places.{Plan}
-use Rattle.flat_frames.specs.Shapes.{frame_size, bytes_before, object_at, objects_size}
+use Rattle.flat_frames.specs.Shapes.{frame_size, bytes_before, frame_object_at, objects_size}
 use Rattle.frame_emitter.specs.Shapes.{shape_of}
 
 pub fits_room : (a : Plan) (weight bytes : ℕ) → a.temps ≤ 7 * weight + 16 → widest_call a.function.blocks ≤ weight →
@@ -20,5 +20,5 @@ bytes-aligned sizes zero = refl
 bytes-aligned [] (suc k) = refl
 bytes-aligned (n ∷ sizes) (suc k) = let h = bytes-aligned sizes k in omega (arith, h)
 
-pub is_aligned : (a : Plan) (k : ℕ) → object_at (shape_of a) k % 8 ≡ 0
+pub is_aligned : (a : Plan) (k : ℕ) → frame_object_at (shape_of a) k % 8 ≡ 0
 is_aligned a k = let h = bytes-aligned a.function.sizes k in omega (arith, h)

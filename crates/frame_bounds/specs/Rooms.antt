@@ -2,7 +2,7 @@
 use Rattle.std.specs.Prelude.{◌≡◌, ℕ, ◌+◌, ◌*◌, ◌/◌, ◌%◌, ◌≤◌}
 use Rattle.alloc_model.specs.Effect.{widest_call}
 use Rattle.alloc_model.specs.Places.{Plan}
-use Rattle.flat_frames.specs.Shapes.{frame_size, object_at, objects_size}
+use Rattle.flat_frames.specs.Shapes.{frame_size, frame_object_at, objects_size}
 use Rattle.frame_emitter.specs.Shapes.{shape_of}
 
 -- a room is 256 bytes, 64 for each unit of the weight of its function, and those of its memory locals, each up to a
@@ -21,4 +21,4 @@ abbrev pub FramesAreWhole : Type 0
 FramesAreWhole = (a : Plan) → frame_size (shape_of a) % 16 ≡ 0
 
 abbrev pub ObjectsAreAligned : Type 0
-ObjectsAreAligned = (a : Plan) (k : ℕ) → object_at (shape_of a) k % 8 ≡ 0
+ObjectsAreAligned = (a : Plan) (k : ℕ) → frame_object_at (shape_of a) k % 8 ≡ 0

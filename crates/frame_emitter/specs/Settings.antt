@@ -6,7 +6,7 @@ use Rattle.suifvm_ir.specs.declared.insn.VmObject.TheVariants.{Global, Local}
 use Rattle.temp_ir.specs.declared.insn.TempInsn.{TempInsn}
 use Rattle.temp_ir.specs.declared.insn.TempInsn.TheVariants as i
 use Rattle.alloc_model.specs.Places.{Plan}
-use Rattle.flat_frames.specs.Shapes.{object_at}
+use Rattle.flat_frames.specs.Shapes.{frame_object_at}
 use Rattle.function_items.specs.InstructionItems.{ItemSetting, function_label}
 use Rattle.function_shapes.specs.Shapes.{shape_of}
 
@@ -44,9 +44,9 @@ near_plan a = with_blocks a (near_blocks a.function.blocks)
 -- ---- the setting
 
 -- where an object of static storage begins in the data
-abbrev pub place_in : Option DataObject → ℕ
-place_in None = 0
-place_in (Some o) = o.offset
+abbrev pub global_offset : Option DataObject → ℕ
+global_offset None = 0
+global_offset (Some o) = o.offset
 
 -- blocks have labels from one on, and the exit part has the one behind them
 abbrev pub setting_of : Plan → (globals : List DataObject) → (first_label : ℕ) → ItemSetting
@@ -54,13 +54,13 @@ setting_of a globals first = record {
   shape = shape_of a;
   block_label = λ block. first + block;
   exit_label = first + length a.function.blocks;
-  global_at = λ k. place_in (slice_get globals k);
+  global_at = λ k. global_offset (slice_get globals k);
 }
 
 -- the numbers of an instruction fit its items
 abbrev pub IsFit : ItemSetting → TempInsn → Type 0
 IsFit g (i.ObjectAddress destination (Global k) plus) = g.global_at k + plus < 2 ^ 32
-IsFit g (i.ObjectAddress destination (Local k) plus) = object_at g.shape k + plus < 2147450880
+IsFit g (i.ObjectAddress destination (Local k) plus) = frame_object_at g.shape k + plus < 2147450880
 IsFit g (i.WriteArgument number source) = number ≤ most_arguments
 IsFit g (i.ReadArgument destination number) = number ≤ most_arguments
 IsFit g (i.Branch op source block) = g.block_label block < 2 ^ 32

@@ -7,7 +7,7 @@ ghost use Rattle.alpha_isa.specs.declared.insn.MemoryOp.TheVariants as m;
 ghost use Rattle.temp_ir.specs.Fixed.{register_number};
 ghost use Rattle.temp_ir.specs.declared.insn.TempInsn.TheVariants as insn;
 ghost use Rattle.temp_ir.specs.Insns.{source_reads, operand_reads};
-ghost use Rattle.alloc_model.specs.Effect.{behind};
+ghost use Rattle.alloc_model.specs.Effect.{right_index};
 ghost use Rattle.function_items.specs.InstructionItems as spec;
 ghost use Rattle.function_items.specs.InstructionItems.{insn_items, source_register};
 ghost use Rattle.frame_emitter.specs.Settings.{IsFit};
@@ -48,7 +48,7 @@ fn register(registers: &[u8], place: usize) -> u8
 
 /// How many temporaries a first operand reads.
 fn behind(source: FirstOperand) -> usize
-    ensures is { result ≡ behind source }
+    ensures is { result ≡ right_index source }
     ensures count { result ≡ length (source_reads source) }
 {
     match source {
@@ -82,7 +82,7 @@ fn source_register(source: FirstOperand, registers: &[u8]) -> u8
 /// A second operand.
 fn operand_at(operand: SecondOperand, registers: &[u8], place: usize) -> MachineOperand
     requires { All (λ r. r < 32) registers.now }
-    ensures is { result ≡ spec.operand_at operand registers.now place }
+    ensures is { result ≡ spec.machine_operand operand registers.now place }
     ensures small { IsOperand result }
 {
     match operand {
@@ -239,7 +239,7 @@ fn serve(
 /// Moves between temporaries, fixed registers and argument places.
 fn set_fixed(items: &mut FrameItems, register: FixedRegister, number: i16) -> Result<(), AllocError>
     ensures { OnOk result (items.new ≡
-        spec.plain (fields.Memory m.Lda (register_number register) 31 number) ++ items.old) }
+        spec.plain_item (fields.Memory m.Lda (register_number register) 31 number) ++ items.old) }
 {
     items.memory(MemoryOp::Lda, register_number(register), ZERO, number)
 }

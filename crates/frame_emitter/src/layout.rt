@@ -2,8 +2,8 @@
 
 ghost use Rattle.std.specs.Prelude.{◌≡◌, ℕ, ◌+◌, ◌≤◌, ◌<◌, ◌^◌, false, get_or, length};
 ghost use Rattle.alloc_model.specs.Places.{plan_of};
-ghost use Rattle.flat_frames.specs.Shapes.{object_at, frame_size};
-ghost use Rattle.function_shapes.specs.Shapes.{shape_of, is_named};
+ghost use Rattle.flat_frames.specs.Shapes.{frame_object_at, frame_size};
+ghost use Rattle.function_shapes.specs.Shapes.{shape_of, plan_names};
 ghost use Rattle.frame_emitter.specs.Settings.{with_blocks};
 
 use alloc_model::allocation::Allocation;
@@ -36,9 +36,9 @@ pub struct FrameLayout<'a> {
     pub ghost outgoing_is: { outgoing ≡ (shape_of (with_blocks (plan_of allocation.now) blocks.now)).outgoing },
     pub ghost size_is: { size ≡ frame_size (shape_of (with_blocks (plan_of allocation.now) blocks.now)) },
     pub ghost objects_are: { (k : ℕ) →
-        get_or objects.items k end ≡ object_at (shape_of (with_blocks (plan_of allocation.now) blocks.now)) k },
+        get_or objects.items k end ≡ frame_object_at (shape_of (with_blocks (plan_of allocation.now) blocks.now)) k },
     pub ghost saves_are: { (k : ℕ) → k < 7 →
-        get_or saves.items k false ≡ is_named (with_blocks (plan_of allocation.now) blocks.now) (9 + k) },
+        get_or saves.items k false ≡ plan_names (with_blocks (plan_of allocation.now) blocks.now) (9 + k) },
     pub ghost exit_is: { exit_label ≡ first_label + length blocks.now },
     pub ghost size_small: { size ≤ 2 ^ 29 },
 }

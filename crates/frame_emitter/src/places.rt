@@ -1,8 +1,8 @@
 //! The places that a layout gives.
 
 ghost use Rattle.std.specs.Prelude.{◌≡◌, ◌+◌, ◌≤◌, ◌<◌, ◌^◌};
-ghost use Rattle.flat_frames.specs.Shapes.{return_at, saved_at, slot_at, object_at};
-ghost use Rattle.function_shapes.specs.Shapes.{is_named};
+ghost use Rattle.flat_frames.specs.Shapes.{return_at, saved_at, slot_at, frame_object_at};
+ghost use Rattle.function_shapes.specs.Shapes.{plan_names};
 ghost use Rattle.frame_emitter.specs.Layouts.{plan_in, setting_in, shape_in};
 
 use crate::layout::FrameLayout;
@@ -39,7 +39,7 @@ impl<'a> FrameLayout<'a> {
 
     /// Where a memory local begins.
     pub(crate) fn object_at(&self, number: u32) -> u64
-        ensures { result ≡ object_at (shape_in self.now) number }
+        ensures { result ≡ frame_object_at (shape_in self.now) number }
     {
         match self.objects.get(number as usize) {
             Some(at) => *at,
@@ -61,7 +61,7 @@ impl<'a> FrameLayout<'a> {
     pub(crate) fn is_saved(&self, register: u8) -> bool
         requires low { 9 ≤ register }
         requires high { register < 16 }
-        ensures { result ≡ is_named (plan_in self.now) register }
+        ensures { result ≡ plan_names (plan_in self.now) register }
     {
         match self.saves.get((register - 9) as usize) {
             Some(saved) => *saved,

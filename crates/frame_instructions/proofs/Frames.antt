@@ -15,7 +15,7 @@ use Rattle.flat_memory.specs.Bytes.{Bytes}
 use Rattle.flat_memory.specs.Relation.{Extent, IsExtent, OfFrame, Nobody, ArgumentPiece}
 use Rattle.flat_memory.specs.Machine.{memory_bytes, IsReached}
 use Rattle.flat_operations.specs.Contents.{ContentIs}
-use Rattle.flat_frames.specs.Shapes.{frame_size, argument_at, object_at, bytes_before}
+use Rattle.flat_frames.specs.Shapes.{frame_size, argument_at, frame_object_at, bytes_before}
 use Rattle.flat_frames.specs.Frames.{put_word, word_in, FrameAndMemory, KeepsUnwritten}
 use Rattle.flat_frames.proofs.Shapes.{pieces_of}
 use Rattle.flat_frames.proofs.Frames.{unwritten-put, own-written, argument-word, arguments_are_put}
@@ -96,7 +96,7 @@ module _ (p : Program) (there : Labels) (rest : List AsmItem) (end : ℕ) (c : C
 
   -- ---- addresses
 
-  pub locals_have_addresses : (r k n plus : ℕ) → StandsFor p there (frame_address r (object_at c.shape k + plus) ++ rest) end c m known store s → IsWritable c.shape r → slice_get c.shape.sizes k ≡ Some n → plus ≤ n → GivesRegister p there rest end c m known store s r (address_content (c.own + k) plus)
+  pub locals_have_addresses : (r k n plus : ℕ) → StandsFor p there (frame_address r (frame_object_at c.shape k + plus) ++ rest) end c m known store s → IsWritable c.shape r → slice_get c.shape.sizes k ≡ Some n → plus ≤ n → GivesRegister p there rest end c m known store s r (address_content (c.own + k) plus)
   locals_have_addresses r k n plus h value is le =
       let piece = (pieces_of c.shape c.depth c.own).objects k n is in
       let within = piece.within in
@@ -104,13 +104,13 @@ module _ (p : Program) (there : Labels) (rest : List AsmItem) (end : ℕ) (c : C
       let near = call.near in
       let even = h.frame.frame.aligned in
       let whole = before-whole c.shape.sizes k in
-      let offset = object_at c.shape k + plus in
-      let place : register s 30 + (object_at c.shape k + plus) ≡ c.sp + (object_at c.shape k + plus) = ap (λ z. z + (object_at c.shape k + plus)) h.stack in
-      let d = frame_addresses p there h.word r (object_at c.shape k + plus) rest end s h.is_at value.value (record { near = omega (arith, within, near, le); small = omega (arith, place, within, small, le) }) in
-      let base : register d.to r ≡ c.sp + object_at c.shape k + plus = d.here ∙ place ∙ (let e : c.sp + (object_at c.shape k + plus) ≡ c.sp + object_at c.shape k + plus = omega arith in e) in
-      gives p there rest end c m known store s knows (frame_address r (object_at c.shape k + plus) ++ rest) h r (address_content (c.own + k) plus) value d.to d.come
+      let offset = frame_object_at c.shape k + plus in
+      let place : register s 30 + (frame_object_at c.shape k + plus) ≡ c.sp + (frame_object_at c.shape k + plus) = ap (λ z. z + (frame_object_at c.shape k + plus)) h.stack in
+      let d = frame_addresses p there h.word r (frame_object_at c.shape k + plus) rest end s h.is_at value.value (record { near = omega (arith, within, near, le); small = omega (arith, place, within, small, le) }) in
+      let base : register d.to r ≡ c.sp + frame_object_at c.shape k + plus = d.here ∙ place ∙ (let e : c.sp + (frame_object_at c.shape k + plus) ≡ c.sp + frame_object_at c.shape k + plus = omega arith in e) in
+      gives p there rest end c m known store s knows (frame_address r (frame_object_at c.shape k + plus) ++ rest) h r (address_content (c.own + k) plus) value d.to d.come
       (record {
-        extent = record { base = c.sp + object_at c.shape k; size = n };
+        extent = record { base = c.sp + frame_object_at c.shape k; size = n };
         made = h.frame.frame.objects k n is;
         sound = record { above = omega arith; aligned = omega (arith, even, whole); small = omega (arith, within, small) };
         at = plus;

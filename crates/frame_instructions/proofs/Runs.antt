@@ -8,7 +8,7 @@ use Rattle.alpha_isa.specs.Arithmetic.{word_at, word_from}
 use Rattle.alpha_isa.specs.Lawful.{IsDisplacement}
 use Rattle.alpha_isa.specs.Program.{Program, word_address}
 use Rattle.alpha_isa.specs.State.{State, register, with_register}
-use Rattle.alpha_isa.specs.Step.{insn_step, next_instruction, links, is_taken}
+use Rattle.alpha_isa.specs.Step.{insn_step, next_instruction, links, is_branch_taken}
 use Rattle.alpha_items.specs.declared.item.AsmItem.{AsmItem}
 use Rattle.alpha_items.specs.declared.item.AsmItem.TheVariants.{Plain, Branch}
 use Rattle.item_steps.specs.Standing.{Labels}
@@ -21,7 +21,7 @@ use Rattle.temp_ir.specs.declared.operation.StoreOp.{StoreOp}
 use Rattle.temp_ir.specs.declared.operation.TempBranchOp.{TempBranchOp}
 use Rattle.temp_ir.specs.declared.operation.TempBranchOp.TheVariants.{Blbc, Beq, Blt, Ble, Blbs, Bne, Bge, Bgt}
 use Rattle.temp_ir.specs.Operations.{address_op, load_op, store_op, branch_op}
-use Rattle.alloc_model.specs.Contents.{Content, word, moved_by, moved_content, loaded_content, stored_memory, test_of}
+use Rattle.alloc_model.specs.Contents.{Content, word_content, moved_bytes, moved_content, loaded_content, stored_memory, branch_test}
 use Rattle.alloc_model.specs.Places.{Places, Reg}
 use Rattle.flat_memory.specs.Bytes.{Bytes}
 use Rattle.flat_memory.specs.Machine.{memory_bytes}
@@ -118,7 +118,7 @@ module _ (p : Program) (there : Labels) (rest : List AsmItem) (end : ℕ) (c : C
   sum-below : (n : ℕ) → word_at n < 2 ^ 64
   sum-below n = omega arith
 
-  pub moves_are_done : (op : AddressOp) (r base : ℕ) (plus : ℤ) (value content : Content) → StandsFor p there (Plain (Memory (address_op op) r base plus) ∷ rest) end c m known store s → StandsIn known store base value → IsWritable c.shape r → moved_content m value (moved_by op plus) ≡ Some content → GivesRegister p there rest end c m known store s r content
+  pub moves_are_done : (op : AddressOp) (r base : ℕ) (plus : ℤ) (value content : Content) → StandsFor p there (Plain (Memory (address_op op) r base plus) ∷ rest) end c m known store s → StandsIn known store base value → IsWritable c.shape r → moved_content m value (moved_bytes op plus) ≡ Some content → GivesRegister p there rest end c m known store s r content
   moves_are_done address.Lda r base plus value content h from to e =
       written-gives (Memory (address_op address.Lda) r base plus) h r (word_at (register s base + word_from plus)) content to (sum-below (register s base + word_from plus)) refl
       (moves_correspond c.extents m c.owner (memory_bytes p s) h.frame.memory_is value content (register s base) plus (stands-in (Plain (Memory (address_op address.Lda) r base plus) ∷ rest) base value h from) e)
@@ -130,9 +130,9 @@ module _ (p : Program) (there : Labels) (rest : List AsmItem) (end : ℕ) (c : C
   number-word (pos n) d = let e : word_at (0 + n) ≡ n = omega (arith, d) in e
   number-word (negsuc n) d = let e : word_at (0 + (2 ^ 64 - suc n)) ≡ 2 ^ 64 - suc n = omega (arith, d) in e
 
-  pub sets_are_done : (r : ℕ) (number : ℤ) → StandsFor p there (Plain (Memory Lda r 31 number) ∷ rest) end c m known store s → IsWritable c.shape r → IsDisplacement number → GivesRegister p there rest end c m known store s r (word (word_from number))
+  pub sets_are_done : (r : ℕ) (number : ℤ) → StandsFor p there (Plain (Memory Lda r 31 number) ∷ rest) end c m known store s → IsWritable c.shape r → IsDisplacement number → GivesRegister p there rest end c m known store s r (word_content (word_from number))
   sets_are_done r number h value d =
-      written-gives (Memory Lda r 31 number) h r (word_at (0 + word_from number)) (word (word_from number)) value (sum-below (0 + word_from number)) refl (number-word number d)
+      written-gives (Memory Lda r 31 number) h r (word_at (0 + word_from number)) (word_content (word_from number)) value (sum-below (0 + word_from number)) refl (number-word number d)
 
   -- ---- branches
 
@@ -146,11 +146,11 @@ module _ (p : Program) (there : Labels) (rest : List AsmItem) (end : ℕ) (c : C
   no-link Bge = refl
   no-link Bgt = refl
 
-  pub branches_are_done : ((r : ℕ) → known r ≡ true → r < 28) → (op : TempBranchOp) (r l : ℕ) (taken : Bool) → StandsFor p there (Branch (branch_op op) r l ∷ rest) end c m known store s → known r ≡ true → test_of op m (store (Reg r)) ≡ Some taken → BranchIsDone p there rest end c m known store l taken s
+  pub branches_are_done : ((r : ℕ) → known r ≡ true → r < 28) → (op : TempBranchOp) (r l : ℕ) (taken : Bool) → StandsFor p there (Branch (branch_op op) r l ∷ rest) end c m known store s → known r ≡ true → branch_test op m (store (Reg r)) ≡ Some taken → BranchIsDone p there rest end c m known store l taken s
   branches_are_done low op r l taken h k e =
       let value = low r k in
       let d = branches_step p there h.word (branch_op op) r l rest end s (stands p there h.word (Branch (branch_op op) r l) rest end s h.is_at) (omega (arith, value)) in
-      let test : is_taken (branch_op op) (register s r) ≡ taken = tests_correspond c.extents m c.owner (memory_bytes p s) h.frame.memory_is op (store (Reg r)) (register s r) taken (h.registers r k) e in
+      let test : is_branch_taken (branch_op op) (register s r) ≡ taken = tests_correspond c.extents m c.owner (memory_bytes p s) h.frame.memory_is op (store (Reg r)) (register s r) taken (h.registers r k) e in
       let same = λ (q : ℕ) (ne : q ≢ 28). d.registers q ne ∙ ap (λ b. register (if b then with_register r (word_address d.next) s else s) q) (no-link op) in
       record {
         to = d.to;

@@ -8,7 +8,7 @@ use Rattle.std.proofs.lemmas.Bool.{ltb-true}
 use Rattle.std.proofs.lemmas.Nat.{and_le_l, or_lt, xor_lt, shr_le}
 use Rattle.alpha_isa.specs.declared.insn.OperateOp.{OperateOp}
 use Rattle.alpha_isa.specs.declared.insn.OperateOp.TheVariants.{Addl, Subl, Cmpult, Addq, S4addq, Subq, Cmpeq, S8addq, Cmpule, AddlV, SublV, Cmplt, AddqV, SubqV, Cmple, And, Bic, Bis, Cmoveq, Cmovne, Ornot, Xor, Eqv, Zapnot, Srl, Sll, Sra, Mull, Mulq, Umulh, MullV, MulqV, Sextb, Sextw}
-use Rattle.alpha_isa.specs.Arithmetic.{fits, OperationEffect, Gives, Keeps, Overflows, word_from, signed_value, complement, difference, kept_bytes, truth, long, quad, checked_effect, operation_effect}
+use Rattle.alpha_isa.specs.Arithmetic.{fits_signed, OperationEffect, Gives, Keeps, Overflows, word_from, signed_value, word_complement, word_difference, kept_bytes, truth_result, long_result, quad_result, checked_effect, operation_effect}
 use Rattle.alpha_isa.proofs.Arithmetic.{sign_extended-below}
 
 -- what is given is below a bound
@@ -17,13 +17,13 @@ IsBelow (Gives n) = n < 2 ^ 64
 IsBelow Keeps = Unit {0}
 IsBelow Overflows = Unit {0}
 
-quad-below : (n : ℕ) → IsBelow (quad n)
+quad-below : (n : ℕ) → IsBelow (quad_result n)
 quad-below n = omega arith
 
-long-below : (n : ℕ) → IsBelow (long n)
+long-below : (n : ℕ) → IsBelow (long_result n)
 long-below n = sign_extended-below w32 n (omega arith)
 
-truth-below : (b : Bool) → IsBelow (truth b)
+truth-below : (b : Bool) → IsBelow (truth_result b)
 truth-below true = omega arith
 truth-below false = omega arith
 
@@ -41,10 +41,10 @@ checked-below (negsuc n) most le true test e h = let g : 2 ^ 64 - suc n < 2 ^ 64
 checked-below z most le false test e h = tt
 
 long-checked : (z : ℤ) → IsBelow (checked_effect w32 z)
-long-checked z = checked-below z (2 ^ 31) (omega arith) (fits w32 z) (fits w32) refl (λ n t. ltb-true n (2 ^ 31) t)
+long-checked z = checked-below z (2 ^ 31) (omega arith) (fits_signed w32 z) (fits_signed w32) refl (λ n t. ltb-true n (2 ^ 31) t)
 
 quad-checked : (z : ℤ) → IsBelow (checked_effect w64 z)
-quad-checked z = checked-below z (2 ^ 63) (omega arith) (fits w64 z) (fits w64) refl (λ n t. ltb-true n (2 ^ 63) t)
+quad-checked z = checked-below z (2 ^ 63) (omega arith) (fits_signed w64 z) (fits_signed w64) refl (λ n t. ltb-true n (2 ^ 63) t)
 
 shifted-below : (z : ℤ) (m : ℕ) → FitsSigned w64 z → word_from (int_shr z m) < 2 ^ 64
 shifted-below (pos a) m fits = let f : a < 2 ^ 63 = fits.sfits in let l = shr_le a m in let g : a / 2 ^ m < 2 ^ 64 = omega (arith, f, l) in g
@@ -64,11 +64,11 @@ product-below x y h k =
 
 pub effect-below : (op : OperateOp) (x y : ℕ) → x < 2 ^ 64 → y < 2 ^ 64 → IsBelow (operation_effect op x y)
 effect-below Addl x y h k = long-below (x + y)
-effect-below Subl x y h k = long-below (difference x y)
+effect-below Subl x y h k = long-below (word_difference x y)
 effect-below Cmpult x y h k = truth-below (nat_lt x y)
 effect-below Addq x y h k = quad-below (x + y)
 effect-below S4addq x y h k = quad-below (4 * x + y)
-effect-below Subq x y h k = quad-below (difference x y)
+effect-below Subq x y h k = quad-below (word_difference x y)
 effect-below Cmpeq x y h k = truth-below (x == y)
 effect-below S8addq x y h k = quad-below (8 * x + y)
 effect-below Cmpule x y h k = truth-below (nat_le x y)
@@ -79,7 +79,7 @@ effect-below AddqV x y h k = quad-checked (signed_value w64 x +ℤ signed_value 
 effect-below SubqV x y h k = quad-checked (signed_value w64 x -ℤ signed_value w64 y)
 effect-below Cmple x y h k = truth-below (int_le (signed_value w64 x) (signed_value w64 y))
 effect-below And x y h k = let l = and_le_l x y in omega (arith, l, h)
-effect-below Bic x y h k = let l = and_le_l x (complement y) in omega (arith, l, h)
+effect-below Bic x y h k = let l = and_le_l x (word_complement y) in omega (arith, l, h)
 effect-below Bis x y h k = or_lt 64 x y h k
 effect-below Cmoveq x y h k = either (x == 0)
   where
@@ -91,9 +91,9 @@ effect-below Cmovne x y h k = either (x == 0)
     either : (b : Bool) → IsBelow (if b then Keeps else Gives y)
     either true = tt
     either false = k
-effect-below Ornot x y h k = or_lt 64 x (complement y) h (omega arith)
+effect-below Ornot x y h k = or_lt 64 x (word_complement y) h (omega arith)
 effect-below Xor x y h k = xor_lt 64 x y h k
-effect-below Eqv x y h k = xor_lt 64 x (complement y) h (omega arith)
+effect-below Eqv x y h k = xor_lt 64 x (word_complement y) h (omega arith)
 effect-below Zapnot x y h k = let l : kept_bytes 8 x y < 256 ^ 8 = kept-below 8 x y in l
 effect-below Srl x y h k = let l = shr_le x (y % 64) in omega (arith, l, h)
 effect-below Sll x y h k = quad-below (x * 2 ^ (y % 64))

@@ -13,7 +13,7 @@ use Rattle.alloc_model.specs.Places.{Places, Reg, In, Out, place_eq}
 use Rattle.flat_memory.specs.Relation.{Extent, IsExtent, OfFrame, ArgumentPiece}
 use Rattle.flat_memory.specs.Machine.{memory_bytes}
 use Rattle.flat_operations.specs.Contents.{ContentIs}
-use Rattle.flat_frames.specs.Shapes.{frame_size, argument_at, object_at}
+use Rattle.flat_frames.specs.Shapes.{frame_size, argument_at, frame_object_at}
 use Rattle.flat_frames.specs.Frames.{word_in}
 use Rattle.frame_accesses.specs.Items.{frame_load, frame_store, frame_address}
 use Rattle.frame_transfers.specs.Laws.{CallAt, FitsTheStack, StandsFor, KnowsValues, IsWritable, HasDone}
@@ -53,7 +53,8 @@ abbrev pub LocalsHaveAddresses : Type 0
 LocalsHaveAddresses =
     (p : Program) (there : Labels) (rest : List AsmItem) (end : ℕ) (c : CallAt) (m : memory.Memory) (known : ℕ → Bool)
     (store : Places) (s : State) → FitsTheStack c → KnowsValues known →
-    (r k n plus : ℕ) → StandsFor p there (frame_address r (object_at c.shape k + plus) ++ rest) end c m known store s →
+    (r k n plus : ℕ) → StandsFor p there (frame_address r (frame_object_at c.shape k + plus) ++ rest) end c m known
+    store s →
     IsWritable c.shape r → slice_get c.shape.sizes k ≡ Some n → plus ≤ n →
     GivesRegister p there rest end c m known store s r (address_content (c.own + k) plus)
 

@@ -16,7 +16,7 @@ use Rattle.temp_ir.specs.declared.operation.LoadOp.{LoadOp}
 use Rattle.temp_ir.specs.declared.operation.StoreOp.{StoreOp}
 use Rattle.temp_ir.specs.declared.operation.TempBranchOp.{TempBranchOp}
 use Rattle.temp_ir.specs.Operations.{address_op, load_op, store_op, branch_op}
-use Rattle.alloc_model.specs.Contents.{Content, word, moved_by, moved_content, loaded_content, stored_memory, test_of}
+use Rattle.alloc_model.specs.Contents.{Content, word_content, moved_bytes, moved_content, loaded_content, stored_memory, branch_test}
 use Rattle.alloc_model.specs.Stores.{put}
 use Rattle.alloc_model.specs.Places.{Places, Reg, place_eq}
 use Rattle.flat_frames.specs.Frames.{with_known}
@@ -24,7 +24,7 @@ use Rattle.frame_transfers.specs.Laws.{CallAt, FitsTheStack, StandsFor, KnowsVal
 
 -- a content stands in a register: that of a known one, or zero in register 31
 abbrev pub StandsIn : (known : ℕ → Bool) → Places → (register : ℕ) → Content → Type 0
-StandsIn known store r c = ((known r ≡ true) × (c ≡ store (Reg r))) ⊎ ((r ≡ 31) × (c ≡ word 0))
+StandsIn known store r c = ((known r ≡ true) × (c ≡ store (Reg r))) ⊎ ((r ≡ 31) × (c ≡ word_content 0))
 
 -- a register holds another content behind some items
 abbrev pub GivesRegister : Program → Labels → List AsmItem → ℕ → CallAt → memory.Memory → (ℕ → Bool) → Places → State →
@@ -59,7 +59,8 @@ MovesAreDone =
     (store : Places) (s : State) → FitsTheStack c → KnowsValues known →
     (op : AddressOp) (r base : ℕ) (plus : ℤ) (value content : Content) →
     StandsFor p there (Plain (Memory (address_op op) r base plus) ∷ rest) end c m known store s →
-    StandsIn known store base value → IsWritable c.shape r → moved_content m value (moved_by op plus) ≡ Some content →
+    StandsIn known store base value → IsWritable c.shape r →
+    moved_content m value (moved_bytes op plus) ≡ Some content →
     GivesRegister p there rest end c m known store s r content
 
 -- a register that is set to a number
@@ -69,7 +70,7 @@ SetsAreDone =
     (store : Places) (s : State) → FitsTheStack c → KnowsValues known →
     (r : ℕ) (number : ℤ) → StandsFor p there (Plain (Memory Lda r 31 number) ∷ rest) end c m known store s →
     IsWritable c.shape r → IsDisplacement number →
-    GivesRegister p there rest end c m known store s r (word (word_from number))
+    GivesRegister p there rest end c m known store s r (word_content (word_from number))
 
 -- a branch is taken or passed, and what the call holds is as before, but for register 28
 pub record BranchIsDone (p : Program) (there : Labels) (rest : List AsmItem) (end : ℕ) (c : CallAt) (m : memory.Memory)
@@ -91,5 +92,5 @@ BranchesAreDone =
     (store : Places) (s : State) → FitsTheStack c → KnowsValues known → ((r : ℕ) → known r ≡ true → r < 28) →
     (op : TempBranchOp) (r l : ℕ) (taken : Bool) →
     StandsFor p there (Branch (branch_op op) r l ∷ rest) end c m known store s →
-    known r ≡ true → test_of op m (store (Reg r)) ≡ Some taken →
+    known r ≡ true → branch_test op m (store (Reg r)) ≡ Some taken →
     BranchIsDone p there rest end c m known store l taken s

@@ -13,7 +13,7 @@ use Rattle.mem_model.specs.Memory as memory
 use Rattle.temp_ir.specs.declared.operation.Operation.{Operation}
 use Rattle.temp_ir.specs.declared.operation.ExtendOp.{ExtendOp}
 use Rattle.temp_ir.specs.Operations.{operate_op, extend_op}
-use Rattle.alloc_model.specs.Contents.{Content, word, ContentAnswer, Gives, TrapsWith, Fails, operate_answer, extend_answer}
+use Rattle.alloc_model.specs.Contents.{Content, word_content, ContentAnswer, Gives, TrapsWith, Fails, operate_answer, extend_answer}
 use Rattle.alloc_model.specs.Places.{Places}
 use Rattle.frame_transfers.specs.Laws.{CallAt, FitsTheStack, StandsFor, KnowsValues, IsWritable}
 use Rattle.frame_instructions.specs.Laws.{StandsIn, GivesRegister}
@@ -21,7 +21,7 @@ use Rattle.frame_instructions.specs.Laws.{StandsIn, GivesRegister}
 -- a second operand is a number below 256, or a register
 abbrev pub IsSecond : (known : ℕ → Bool) → Places → Operand → Content → Type 0
 IsSecond known store (isa.Reg r) c = StandsIn known store r c
-IsSecond known store (isa.Literal n) c = (n < 256) × (c ≡ word n)
+IsSecond known store (isa.Literal n) c = (n < 256) × (c ≡ word_content n)
 
 -- an operation gives its answer, or traps as that does
 abbrev pub DoesAnswer : Program → Labels → List AsmItem → ℕ → CallAt → memory.Memory → (ℕ → Bool) → Places → State →

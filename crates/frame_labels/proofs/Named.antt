@@ -19,7 +19,7 @@ use Rattle.temp_ir.specs.Fixed.{register_number}
 use Rattle.alloc_model.specs.declared.allocation.Transfer.{Transfer}
 use Rattle.alloc_model.specs.declared.allocation.Transfer.TheVariants.{Store, Load, Shift}
 use Rattle.alloc_model.specs.Places.{Plan, transfers_at, registers_at}
-use Rattle.flat_frames.specs.Shapes.{FrameShape, frame_size, return_at, saved_at, slot_at, argument_at, object_at}
+use Rattle.flat_frames.specs.Shapes.{FrameShape, frame_size, return_at, saved_at, slot_at, argument_at, frame_object_at}
 use Rattle.frame_accesses.specs.Items.{near_size, frame_item, frame_load, frame_store, register_move}
 use Rattle.frame_transfers.specs.Items.{transfer_items, items_of_transfers}
 use Rattle.call_parts.specs.Items.{lower_stack, raise_stack, save_if, save_registers, restore_if, restore_registers, entry_part, exit_part}
@@ -56,7 +56,7 @@ transfers-named s (x ∷ xs) rest = transfer-named s x (items_of_transfers s xs 
 insn-named : (g : ItemSetting) (rs : List ℕ) (x : TempInsn) (rest : List AsmItem) → labels (insn_items g rs x ++ rest) ≡ labels rest
 insn-named g rs (i.Address op d base plus) rest = refl
 insn-named g rs (i.ObjectAddress d (Global k) plus) rest = refl
-insn-named g rs (i.ObjectAddress d (Local k) plus) rest = frame-named Lda 29 (slice_index rs 0) (object_at g.shape k + plus) rest
+insn-named g rs (i.ObjectAddress d (Local k) plus) rest = frame-named Lda 29 (slice_index rs 0) (frame_object_at g.shape k + plus) rest
 insn-named g rs (i.Load op d p plus) rest = refl
 insn-named g rs (i.Store op v p plus) rest = refl
 insn-named g rs (i.Operate op d l r) rest = refl

@@ -24,7 +24,7 @@ use Rattle.alloc_model.specs.declared.allocation.Transfer.{Transfer}
 use Rattle.alloc_model.specs.declared.allocation.Transfer.TheVariants.{Store, Load, Shift}
 use Rattle.alloc_model.specs.Effect.{routine_of}
 use Rattle.alloc_model.specs.Places.{Plan, transfers_at, registers_at}
-use Rattle.flat_frames.specs.Shapes.{FrameShape, frame_size, return_at, saved_at, slot_at, argument_at, object_at}
+use Rattle.flat_frames.specs.Shapes.{FrameShape, frame_size, return_at, saved_at, slot_at, argument_at, frame_object_at}
 use Rattle.frame_accesses.specs.Items.{near_size, frame_item, frame_load, frame_store, register_move}
 use Rattle.frame_transfers.specs.Items.{transfer_items, items_of_transfers}
 use Rattle.call_parts.specs.Items.{lower_stack, raise_stack, save_if, save_registers, restore_if, restore_registers, entry_part, exit_part}
@@ -97,7 +97,7 @@ module _ (a : Plan) (globals : List DataObject) (first : ℕ) where
   insn-uses : (rs : List ℕ) (x : TempInsn) (rest : List AsmItem) → IsKnown x → All P rest → All P (insn_items g rs x ++ rest)
   insn-uses rs (i.Address op d base plus) rest k h = put _ rest tt h
   insn-uses rs (i.ObjectAddress d (Global o) plus) rest k h = put _ rest tt h
-  insn-uses rs (i.ObjectAddress d (Local o) plus) rest k h = frame-uses Lda 29 (slice_index rs 0) (object_at g.shape o + plus) rest h
+  insn-uses rs (i.ObjectAddress d (Local o) plus) rest k h = frame-uses Lda 29 (slice_index rs 0) (frame_object_at g.shape o + plus) rest h
   insn-uses rs (i.Load op d p plus) rest k h = put _ rest tt h
   insn-uses rs (i.Store op v p plus) rest k h = put _ rest tt h
   insn-uses rs (i.Operate op d l r) rest k h = put _ rest tt h

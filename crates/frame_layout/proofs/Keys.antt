@@ -13,7 +13,7 @@ use Rattle.temp_ir.specs.declared.insn.TempInsn.TheVariants as i
 use Rattle.alloc_model.specs.declared.allocation.EdgeCode.{EdgeCode}
 use Rattle.alloc_model.specs.Temporaries.{flows_out, goes_on}
 use Rattle.alloc_model.specs.Places.{Plan, code_in, edge_transfers}
-use Rattle.frame_emitter.specs.Items.{is_branch, ends_with_branch, top_transfers}
+use Rattle.frame_emitter.specs.Items.{is_temp_branch, ends_with_branch, top_transfers}
 use Rattle.frame_layout.specs.model.Edges.{no_block, next_after, next_behind, next_in, top_key, end_key}
 
 -- ---- tests of numbers
@@ -139,7 +139,7 @@ end_is a block t lt is = found-by (end_key a.function.blocks) block
 
 -- ---- what follows a block
 
-flows-next : (block : ℕ) (insns : List TempInsn) (o : Option TempInsn) → goes_on o ≡ true → is_branch o ≡ false → next_after block o ≡ suc block
+flows-next : (block : ℕ) (insns : List TempInsn) (o : Option TempInsn) → goes_on o ≡ true → is_temp_branch o ≡ false → next_after block o ≡ suc block
 flows-next block insns None f b = refl
 flows-next block insns (Some (i.Address op d base plus)) f b = refl
 flows-next block insns (Some (i.ObjectAddress d place plus)) f b = refl

@@ -22,12 +22,12 @@ use Rattle.alloc_model.specs.declared.allocation.Transfer.TheVariants.{Store, Lo
 use Rattle.alloc_model.specs.Effect.{width_of, widest_in, widest_call}
 use Rattle.alloc_model.specs.Places.{Plan, plan_of}
 use Rattle.alloc_model.specs.Faithful.{given_registers, IsGivenRegister, IsGivenOrScratch, IsTransfer, HasLists}
-use Rattle.flat_frames.specs.Shapes.{frame_size, object_at, objects_size}
+use Rattle.flat_frames.specs.Shapes.{frame_size, frame_object_at, objects_size}
 use Rattle.flat_frames.proofs.Shapes.{pieces_of}
 use Rattle.instruction_items.specs.Items.{ItemSetting}
 use Rattle.frame_emitter.specs.Shapes.{shape_of}
 use Rattle.frame_emitter.specs.declared.layout.FrameLayout.{FrameLayout}
-use Rattle.frame_emitter.specs.Settings.{place_in, near_insn, near_blocks, with_blocks, setting_of, IsFit}
+use Rattle.frame_emitter.specs.Settings.{global_offset, near_insn, near_blocks, with_blocks, setting_of, IsFit}
 use Rattle.frame_emitter.specs.Layouts.{setting_in}
 use Rattle.frame_emitter.specs.Moves.{IsMove}
 use Rattle.frame_layout.specs.Names.{NamesObjects, CallsBelow}
@@ -157,10 +157,10 @@ module _ (p : Plan) (globals : List DataObject) (objects : List MemoryLocal) (fi
   global-fit (Some o) k plus e h =
       let fits = true-le plus o.size h in
       let low = global-within 0 globals k o laid e in
-      let at : g.global_at k ≡ o.offset = ap place_in e in
+      let at : g.global_at k ≡ o.offset = ap global_offset e in
       omega (arith, fits, low, at, data_small)
 
-  local-fit : (o : Option MemoryLocal) (k plus : ℕ) → slice_get objects k ≡ o → IsTrue (local_reaches plus o) → object_at g.shape k + plus < 2147450880
+  local-fit : (o : Option MemoryLocal) (k plus : ℕ) → slice_get objects k ≡ o → IsTrue (local_reaches plus o) → frame_object_at g.shape k + plus < 2147450880
   local-fit None k plus e h = let clash : ⊥ = cc in absurd clash
   local-fit (Some o) k plus e h =
       let fits = true-le plus o.size h in

@@ -5,7 +5,7 @@ ghost use Rattle.std.specs.List.{list_any};
 ghost use Rattle.temp_ir.specs.Fixed.{has_number};
 ghost use Rattle.alloc_model.specs.Faithful.{named_registers};
 ghost use Rattle.alloc_model.specs.Places.{plan_of};
-ghost use Rattle.frame_emitter.specs.Shapes.{names_in, is_named};
+ghost use Rattle.frame_emitter.specs.Shapes.{names_in, plan_names};
 
 use alloc_model::allocation::{Allocation, EdgeCode, Transfer};
 use c_tree::Seq;
@@ -88,7 +88,7 @@ fn is_in_edges(edges: &[EdgeCode], register: u8) -> bool
 
 /// Whether an allocation names a register.
 pub(crate) fn is_named(a: &Allocation, register: u8) -> bool
-    ensures { result ≡ is_named (plan_of a.now) register }
+    ensures { result ≡ plan_names (plan_of a.now) register }
 {
     if is_in_all_transfers(a.at.as_slice(), register) {
         return true;

@@ -5,7 +5,7 @@ ghost use Rattle.data_object.specs.Layout.{place_after};
 ghost use Rattle.alloc_model.specs.Effect.{width_of, widest_in, widest_call};
 ghost use Rattle.alloc_model.specs.Places.{plan_of};
 ghost use Rattle.flat_frames.specs.Shapes.{bytes_before, objects_size};
-ghost use Rattle.frame_emitter.specs.Shapes.{is_named};
+ghost use Rattle.frame_emitter.specs.Shapes.{plan_names};
 
 use crate::names::is_named;
 use alloc_model::allocation::Allocation;
@@ -81,7 +81,7 @@ pub(crate) fn object_places(
 /// Which of the registers 9 to 15 an allocation names.
 pub(crate) fn saved_registers(alloc: Global, a: &Allocation) -> Result<Vec<bool>, AllocError>
     ensures { IfOk result (λ saves.
-        (k : ℕ) → k < 7 → get_or saves.items k false ≡ is_named (plan_of a.now) (9 + k)) }
+        (k : ℕ) → k < 7 → get_or saves.items k false ≡ plan_names (plan_of a.now) (9 + k)) }
 {
     let mut saves = Vec::new(alloc);
     for register in 9u8..16 {

@@ -17,7 +17,7 @@ use Rattle.temp_ir.specs.declared.insn.SecondOperand.TheVariants as operand
 use Rattle.temp_ir.specs.Fixed.{register_number}
 use Rattle.temp_ir.specs.Operations.{operate_op, extend_op}
 use Rattle.alloc_model.specs.Faithful.{given_registers, IsGivenRegister, IsGivenOrScratch}
-use Rattle.instruction_items.specs.Items.{source_register, operand_at}
+use Rattle.instruction_items.specs.Items.{source_register, machine_operand}
 use Rattle.instruction_items.specs.Laws.{IsSmallOperand}
 
 -- ---- registers
@@ -40,7 +40,7 @@ pub source_small : (s : FirstOperand) (rs : List ℕ) → All IsGivenRegister rs
 source_small source.Zero rs h = omega arith
 source_small (source.Temp t) rs h = stated_small rs 0 h
 
-pub operand_small : (x : SecondOperand) (rs : List ℕ) (k : ℕ) → All IsGivenRegister rs → IsSmallOperand x → IsOperand (operand_at x rs k)
+pub operand_small : (x : SecondOperand) (rs : List ℕ) (k : ℕ) → All IsGivenRegister rs → IsSmallOperand x → IsOperand (machine_operand x rs k)
 operand_small (operand.Temp t) rs k h small = stated_small rs k h
 operand_small (operand.Literal n) rs k h small = small
 

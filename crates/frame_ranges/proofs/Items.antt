@@ -25,11 +25,11 @@ use Rattle.temp_ir.specs.Fixed.{register_number}
 use Rattle.alloc_model.specs.declared.allocation.Transfer.{Transfer}
 use Rattle.alloc_model.specs.declared.allocation.Transfer.TheVariants.{Store, Load, Shift}
 use Rattle.alloc_model.specs.declared.allocation.EdgeCode.{EdgeCode}
-use Rattle.alloc_model.specs.Effect.{behind}
+use Rattle.alloc_model.specs.Effect.{right_index}
 use Rattle.alloc_model.specs.Places.{Plan, code_in, edge_transfers, transfers_at, registers_at, linear_number}
 use Rattle.alloc_model.specs.Temporaries.{flows_out}
 use Rattle.alloc_model.specs.Faithful.{IsGivenRegister, IsGivenOrScratch, IsTransfer}
-use Rattle.flat_frames.specs.Shapes.{FrameShape, frame_size, return_at, saved_at, slot_at, argument_at, object_at}
+use Rattle.flat_frames.specs.Shapes.{FrameShape, frame_size, return_at, saved_at, slot_at, argument_at, frame_object_at}
 use Rattle.frame_accesses.specs.Items.{near_size, frame_item, frame_load, frame_store, register_move}
 use Rattle.frame_transfers.specs.Items.{transfer_items, items_of_transfers}
 use Rattle.call_parts.specs.Items.{high_below, lower_stack, raise_stack, save_if, save_registers, restore_if, restore_registers, entry_part, exit_part}
@@ -114,10 +114,10 @@ module _ (a : Plan) (g : ItemSetting) (size : ℕ) (registers : HasRegisters a) 
   insn-in : (rs : List ℕ) (x : TempInsn) (rest : List AsmItem) → All IsGivenRegister rs → IsInRange g size x → All P rest → All P (insn_items g rs x ++ rest)
   insn-in rs (i.Address op d base plus) rest m k h = memory _ _ _ _ rest (stated_small rs _ m) (source_small base rs m) k h
   insn-in rs (i.ObjectAddress d (Global o) plus) rest m k h = put _ rest (stated_small rs 0 m, k) h
-  insn-in rs (i.ObjectAddress d (Local o) plus) rest m k h = frame-in Lda (slice_index rs 0) (object_at g.shape o + plus) rest (stated_small rs 0 m) k h
+  insn-in rs (i.ObjectAddress d (Local o) plus) rest m k h = frame-in Lda (slice_index rs 0) (frame_object_at g.shape o + plus) rest (stated_small rs 0 m) k h
   insn-in rs (i.Load op d p plus) rest m k h = memory _ _ _ _ rest (stated_small rs 1 m) (stated_small rs 0 m) k h
   insn-in rs (i.Store op v p plus) rest m k h = memory _ _ _ _ rest (source_small v rs m) (stated_small rs _ m) k h
-  insn-in rs (i.Operate op d l r) rest m k h = put _ rest ((first_any op (source_register l rs) (source_small l rs m), operand_small r rs (behind l) m k, stated_small rs _ m), refl) h
+  insn-in rs (i.Operate op d l r) rest m k h = put _ rest ((first_any op (source_register l rs) (source_small l rs m), operand_small r rs (right_index l) m k, stated_small rs _ m), refl) h
   insn-in rs (i.Extend op d s) rest m k h = put _ rest ((first_extend op, operand_small s rs 0 m k, stated_small rs _ m), refl) h
   insn-in rs (i.ToFixed r s) rest m k h = move-in (slice_index rs 0) (register_number r) rest (stated_small rs 0 m) (fixed_small r) h
   insn-in rs (i.FromFixed d r) rest m k h = move-in (register_number r) (slice_index rs 0) rest (fixed_small r) (stated_small rs 0 m) h

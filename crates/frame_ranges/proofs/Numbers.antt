@@ -16,11 +16,11 @@ use Rattle.temp_ir.specs.declared.insn.TempInsn.{TempInsn}
 use Rattle.temp_ir.specs.declared.insn.TempInsn.TheVariants as i
 use Rattle.alloc_model.specs.declared.allocation.Allocation.{Allocation}
 use Rattle.alloc_model.specs.Places.{Plan, plan_of}
-use Rattle.flat_frames.specs.Shapes.{frame_size, object_at}
+use Rattle.flat_frames.specs.Shapes.{frame_size, frame_object_at}
 use Rattle.flat_frames.proofs.Shapes.{pieces_of}
 use Rattle.instruction_items.specs.Items.{ItemSetting}
 use Rattle.frame_layout.specs.Shapes.{shape_of}
-use Rattle.frame_layout.specs.Settings.{place_in, near_insn, near_blocks, near_plan, setting_of}
+use Rattle.frame_layout.specs.Settings.{global_offset, near_insn, near_blocks, near_plan, setting_of}
 use Rattle.frame_layout.specs.Names.{NamesObjects}
 use Rattle.frame_ranges.specs.Ranges.{IsInRange, HasSmallNumbers}
 
@@ -66,10 +66,10 @@ module _ (a : Allocation) (globals : List DataObject) (first : ℕ) (laid : Obje
   global-fits (Some o) k plus e h =
       let fits = leb-true plus o.size h in
       let low = global-within 0 globals k o laid e in
-      let at : g.global_at k ≡ o.offset = ap place_in e in
+      let at : g.global_at k ≡ o.offset = ap global_offset e in
       omega (arith, fits, low, at)
 
-  local-fits : (o : Option MemoryLocal) (k plus : ℕ) → slice_get a.func.objects k ≡ o → IsTrue (local_reaches plus o) → object_at g.shape k + plus < 2147450880
+  local-fits : (o : Option MemoryLocal) (k plus : ℕ) → slice_get a.func.objects k ≡ o → IsTrue (local_reaches plus o) → frame_object_at g.shape k + plus < 2147450880
   local-fits None k plus e h = let clash : ⊥ = cc in absurd clash
   local-fits (Some o) k plus e h =
       let fits = leb-true plus o.size h in

@@ -12,7 +12,7 @@ use Rattle.temp_ir.specs.declared.insn.TempInsn.TheVariants as i
 use Rattle.alloc_model.specs.declared.allocation.Allocation.{Allocation}
 use Rattle.alloc_model.specs.Places.{Plan, plan_of}
 use Rattle.alloc_model.specs.Faithful.{IsGivenRegister, IsGivenOrScratch, IsTransfer}
-use Rattle.flat_frames.specs.Shapes.{frame_size, object_at}
+use Rattle.flat_frames.specs.Shapes.{frame_size, frame_object_at}
 use Rattle.instruction_items.specs.Items.{ItemSetting}
 use Rattle.instruction_items.specs.Laws.{IsSmallOperand}
 use Rattle.frame_layout.specs.Items.{function_items}
@@ -24,7 +24,7 @@ use Rattle.frame_layout.specs.Names.{NamesObjects}
 abbrev pub IsInRange : ItemSetting → (size : ℕ) → TempInsn → Type 0
 IsInRange g size (i.Address op destination base plus) = IsDisplacement plus
 IsInRange g size (i.ObjectAddress destination (Global k) plus) = g.global_at k + plus ≤ size
-IsInRange g size (i.ObjectAddress destination (Local k) plus) = object_at g.shape k + plus < 2147450880
+IsInRange g size (i.ObjectAddress destination (Local k) plus) = frame_object_at g.shape k + plus < 2147450880
 IsInRange g size (i.Load op destination pointer plus) = IsDisplacement plus
 IsInRange g size (i.Store op value pointer plus) = IsDisplacement plus
 IsInRange g size (i.Operate op destination left right) = IsSmallOperand right

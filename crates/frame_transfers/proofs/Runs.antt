@@ -12,7 +12,7 @@ use Rattle.alloc_model.specs.declared.allocation.Transfer.{Transfer}
 use Rattle.alloc_model.specs.declared.allocation.Transfer.TheVariants.{Store, Load, Shift}
 use Rattle.alloc_model.specs.Contents.{Content}
 use Rattle.alloc_model.specs.Stores.{put}
-use Rattle.alloc_model.specs.Places.{Places, Reg, Slot, place_eq, source_of, target_of, do_all}
+use Rattle.alloc_model.specs.Places.{Places, Reg, Slot, place_eq, source_of, transfer_target, do_all}
 use Rattle.flat_memory.specs.Bytes.{Bytes}
 use Rattle.flat_memory.specs.Relation.{Extents, Owners, OfFrame, Nobody, SlotPiece}
 use Rattle.flat_memory.specs.Machine.{memory_bytes, is_reached, IsReached}
@@ -87,7 +87,7 @@ module _ (p : Program) (there : Labels) (rest : List AsmItem) (end : ℕ) (c : C
       owned : OfFrame c.depth (SlotPiece t) ≡ Nobody → ⊥
       owned e = cc
 
-  transfer-done : (x : Transfer) (known : ℕ → Bool) (store : Places) (s : State) → KnowsValues known → CanTransfer c.shape known x → StandsFor p there (transfer_items c.shape x ++ rest) end c memory known store s → HasDone p there rest end c memory (known_after x known) (put place_eq (target_of x) (store (source_of x)) store) s
+  transfer-done : (x : Transfer) (known : ℕ → Bool) (store : Places) (s : State) → KnowsValues known → CanTransfer c.shape known x → StandsFor p there (transfer_items c.shape x ++ rest) end c memory known store s → HasDone p there rest end c memory (known_after x known) (put place_eq (transfer_target x) (store (source_of x)) store) s
   transfer-done (Store t r) known store s knows can h =
       let slot = slot-reached t (transfer_items c.shape (Store t r) ++ rest) known store s can.0 h in
       let d = frame_stores p there h.word r (slot_at c.shape t) rest end s h.is_at (knows r can.1) slot.offset slot.reached in
@@ -167,5 +167,5 @@ transfers_are_done p there rest end c memory call [] known store s knows can h =
     record { to = s; comes = stays p s; stands = h; knows = knows; input = refl; output = refl; kept = kept-same p c s s (λ y. refl) refl (λ q from to e. refl) }
 transfers_are_done p there rest end c memory call (x ∷ xs) known store s knows can h =
     let d = transfer-done p there (items_of_transfers c.shape xs rest) end c memory call x known store s knows can.0 h in
-    let e = transfers_are_done p there rest end c memory call xs (known_after x known) (put place_eq (target_of x) (store (source_of x)) store) d.to d.knows can.1 d.stands in
+    let e = transfers_are_done p there rest end c memory call xs (known_after x known) (put place_eq (transfer_target x) (store (source_of x)) store) d.to d.knows can.1 d.stands in
     record { to = e.to; comes = steps_add_up p s d.to e.to d.comes e.comes; stands = e.stands; knows = e.knows; input = e.input ∙ d.input; output = e.output ∙ d.output; kept = kept-through p c s d.to e.to d.kept e.kept }

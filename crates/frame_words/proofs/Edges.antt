@@ -11,8 +11,8 @@ use Rattle.temp_ir.specs.Insns.{targets_of, flows_on_of}
 use Rattle.alloc_model.specs.declared.allocation.EdgeCode.{EdgeCode}
 use Rattle.alloc_model.specs.Temporaries.{goes_on, flows_out}
 use Rattle.alloc_model.specs.Places.{Plan, code_in, edge_transfers}
-use Rattle.alloc_model.specs.Faithful.{rising, edges_from}
-use Rattle.function_items.specs.Items.{is_branch, ends_with_branch, top_transfers, jump_transfers, end_transfers}
+use Rattle.alloc_model.specs.Faithful.{sorted_targets, sorted_edges_from}
+use Rattle.function_items.specs.Items.{is_temp_branch, ends_with_branch, top_transfers, jump_transfers, end_transfers}
 
 abbrev pub one : Bool → ℕ
 one b = cond b 1 0
@@ -35,10 +35,10 @@ last_jump None = 0
 last_jump (Some x) = jump_one x
 
 abbrev pub end_one : Option TempInsn → ℕ
-end_one o = one (goes_on o && not (is_branch o))
+end_one o = one (goes_on o && not (is_temp_branch o))
 
 abbrev pub branch_edges : Option TempInsn → ℕ
-branch_edges o = if is_branch o then length (successors_after targets_of flows_on_of 0 o) else 0
+branch_edges o = if is_temp_branch o then length (successors_after targets_of flows_on_of 0 o) else 0
 
 edges-by : (o : Option TempInsn) → last_jump o + end_one o + branch_edges o ≤ length (successors_after targets_of flows_on_of 0 o)
 edges-by None = omega arith
@@ -253,7 +253,7 @@ rising-by : (b : Bool) (x y : ℕ) → length (if b then y ∷ x ∷ [] else x �
 rising-by true x y = refl
 rising-by false x y = refl
 
-rising-length : (xs : List ℕ) → length (rising xs) ≡ length xs
+rising-length : (xs : List ℕ) → length (sorted_targets xs) ≡ length xs
 rising-length [] = refl
 rising-length (x ∷ []) = refl
 rising-length (x ∷ y ∷ []) = rising-by (nat_lt y x) x y
@@ -272,19 +272,19 @@ if-same : (b : Bool) (m n : ℕ) → m ≡ n → (if b then m else 0) ≡ (if b 
 if-same b m n e = ap (λ k. if b then k else 0) e
 
 edges-count : (full : List (List TempInsn)) (s : ℕ) (blocks : List (List TempInsn)) → ((k : ℕ) → slice_index_or full (s + k) [] ≡ slice_index_or blocks k [])
-    → count_if (λ z. ends_with_branch (slice_index_or full z.0 [])) (edges_from s blocks) ≡ branch_sum blocks
+    → count_if (λ z. ends_with_branch (slice_index_or full z.0 [])) (sorted_edges_from s blocks) ≡ branch_sum blocks
 edges-count full s [] h = refl
 edges-count full s (insns ∷ blocks) h =
     let p : ℕ × ℕ → Bool = λ z. ends_with_branch (slice_index_or full z.0 []) in
     let here : slice_index_or full s [] ≡ insns = ap (λ n. slice_index_or full n []) (omega arith) ∙ h 0 in
-    let own = count-same p (ends_with_branch insns) s (rising (successors_of targets_of flows_on_of s insns)) (λ to. ap ends_with_branch here) in
+    let own = count-same p (ends_with_branch insns) s (sorted_targets (successors_of targets_of flows_on_of s insns)) (λ to. ap ends_with_branch here) in
     let size = rising-length (successors_of targets_of flows_on_of s insns) ∙ followers-length s (last_of insns) in
     let rest = edges-count full (suc s) blocks (λ k. ap (λ n. slice_index_or full n []) (omega arith) ∙ h (suc k)) in
-    count-append p (map (λ to. (s, to)) (rising (successors_of targets_of flows_on_of s insns))) (edges_from (suc s) blocks)
-    ∙ ap (λ n. n + count_if p (edges_from (suc s) blocks)) (own ∙ if-same (ends_with_branch insns) (length (rising (successors_of targets_of flows_on_of s insns))) (length (successors_of targets_of flows_on_of 0 insns)) size)
+    count-append p (map (λ to. (s, to)) (sorted_targets (successors_of targets_of flows_on_of s insns))) (sorted_edges_from (suc s) blocks)
+    ∙ ap (λ n. n + count_if p (sorted_edges_from (suc s) blocks)) (own ∙ if-same (ends_with_branch insns) (length (sorted_targets (successors_of targets_of flows_on_of s insns))) (length (successors_of targets_of flows_on_of 0 insns)) size)
     ∙ ap (λ n. branch_edges (last_of insns) + n) rest
 
-branch-count : (a : Plan) → map (λ e. (e.from, e.to)) a.edges ≡ edges_from 0 a.function.blocks → count_if (branches_at a.function.blocks) a.edges ≡ branch_sum a.function.blocks
+branch-count : (a : Plan) → map (λ e. (e.from, e.to)) a.edges ≡ sorted_edges_from 0 a.function.blocks → count_if (branches_at a.function.blocks) a.edges ≡ branch_sum a.function.blocks
 branch-count a e =
     let p : ℕ × ℕ → Bool = λ z. ends_with_branch (slice_index_or a.function.blocks z.0 []) in
     count-map p a.edges ∙ ap (count_if p) e ∙ edges-count a.function.blocks 0 a.function.blocks (λ k. ap (λ n. slice_index_or a.function.blocks n []) (omega arith))
@@ -302,7 +302,7 @@ tops-up a s (insns ∷ blocks) h =
     let rest = tops-up a (suc s) blocks h in
     omega (arith, first, rest)
 
-pub tops_short : (a : Plan) → All IsShort a.edges → map (λ e. (e.from, e.to)) a.edges ≡ edges_from 0 a.function.blocks
+pub tops_short : (a : Plan) → All IsShort a.edges → map (λ e. (e.from, e.to)) a.edges ≡ sorted_edges_from 0 a.function.blocks
     → tops_from a 0 a.function.blocks ≤ 91 * branch_sum a.function.blocks
 tops_short a h e =
     let up = tops-up a 0 a.function.blocks h in

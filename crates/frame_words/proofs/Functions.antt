@@ -7,21 +7,21 @@ use Rattle.alpha_items.specs.declared.item.AsmItem.{AsmItem}
 use Rattle.suifvm_ir.specs.Functions.{count_of, edge_count, last_of, successors_of, insn_at, EndsLate}
 use Rattle.temp_ir.specs.declared.insn.TempInsn.{TempInsn}
 use Rattle.temp_ir.specs.Insns.{targets_of, flows_on_of}
-use Rattle.temp_ir.specs.Cost.{is_call, call_count}
+use Rattle.temp_ir.specs.Cost.{makes_call, call_count}
 use Rattle.alloc_model.specs.Places.{Plan, transfers_at, registers_at}
 use Rattle.alloc_model.specs.Faithful.{HasLists}
 use Rattle.alloc_rules.specs.Lean.{most_before, IsLean}
 use Rattle.instruction_items.specs.Items.{ItemSetting, insn_items}
 use Rattle.function_items.specs.Items.{jump_transfers, top_transfers, end_transfers, point_items, insns_items, block_items, blocks_items, exit_items, function_items}
 use Rattle.frame_transfers.specs.Items.{items_of_transfers}
-use Rattle.frame_words.specs.Words.{words_of, bulk_of}
+use Rattle.frame_words.specs.Words.{most_words_of, bulk_of}
 use Rattle.frame_words.proofs.Pieces.{transfers_le, insn_le, entry_le, exit_le}
 use Rattle.frame_words.proofs.Edges.{one, IsShort, jump_one, jumps_in, end_one, branch_sum, own_edges, jump_short, end_short, tops_from, tops_short}
 
 -- ---- instructions
 
 abbrev insn_most : TempInsn → ℕ
-insn_most x = 24 + 160 * one (is_call x)
+insn_most x = 24 + 160 * one (makes_call x)
 
 abbrev insns_most : List TempInsn → ℕ
 insns_most [] = 0
@@ -33,18 +33,18 @@ most-le false n h = omega (arith, h)
 
 module _ (a : Plan) (g : ItemSetting) (short : All IsShort a.edges) where
   point-le : (block at : ℕ) (x : TempInsn) (rest : List AsmItem) → length (transfers_at a block at) ≤ most_before x
-      → words_of (point_items a g block at x rest) ≤ insn_most x + 182 * jump_one x + words_of rest
+      → most_words_of (point_items a g block at x rest) ≤ insn_most x + 182 * jump_one x + most_words_of rest
   point-le block at x rest few =
       let body = insn_items g (registers_at a block at) x ++ rest in
       let first = transfers_le g.shape (transfers_at a block at) (items_of_transfers g.shape (jump_transfers a block x) body) in
       let second = transfers_le g.shape (jump_transfers a block x) body in
       let third = insn_le g (registers_at a block at) x rest in
-      let most = most-le (is_call x) (length (transfers_at a block at)) few in
+      let most = most-le (makes_call x) (length (transfers_at a block at)) few in
       let jump = jump_short a block x short in
       omega (arith, first, second, third, most, jump)
 
   insns-le : (block at : ℕ) (insns : List TempInsn) (rest : List AsmItem) → ((k : ℕ) (x : TempInsn) → slice_get insns k ≡ Some x → length (transfers_at a block (at + k)) ≤ most_before x)
-      → words_of (insns_items a g block at insns rest) ≤ insns_most insns + 182 * jumps_in insns + words_of rest
+      → most_words_of (insns_items a g block at insns rest) ≤ insns_most insns + 182 * jumps_in insns + most_words_of rest
   insns-le block at [] rest few = omega arith
   insns-le block at (x ∷ xs) rest few =
       let here : at + 0 ≡ at = omega arith in
@@ -53,7 +53,7 @@ module _ (a : Plan) (g : ItemSetting) (short : All IsShort a.edges) where
       omega (arith, first, more)
 
   block-le : (block : ℕ) (insns : List TempInsn) (rest : List AsmItem) → ((k : ℕ) (x : TempInsn) → slice_get insns k ≡ Some x → length (transfers_at a block k) ≤ most_before x)
-      → words_of (block_items a g block insns rest) ≤ 2 * length (top_transfers a block) + insns_most insns + 182 * (jumps_in insns + end_one (last_of insns)) + words_of rest
+      → most_words_of (block_items a g block insns rest) ≤ 2 * length (top_transfers a block) + insns_most insns + 182 * (jumps_in insns + end_one (last_of insns)) + most_words_of rest
   block-le block insns rest few =
       let behind = items_of_transfers g.shape (end_transfers a block insns) rest in
       let top = transfers_le g.shape (top_transfers a block) (insns_items a g block 0 insns behind) in
@@ -71,7 +71,7 @@ module _ (a : Plan) (g : ItemSetting) (short : All IsShort a.edges) where
   own_sum (insns ∷ blocks) = jumps_in insns + end_one (last_of insns) + own_sum blocks
 
   blocks-le : (block : ℕ) (blocks : List (List TempInsn)) (rest : List AsmItem) → ((b k : ℕ) (x : TempInsn) → insn_at blocks b k ≡ Some x → length (transfers_at a (block + b) k) ≤ most_before x)
-      → words_of (blocks_items a g block blocks rest) ≤ 2 * tops_from a block blocks + all_most blocks + 182 * own_sum blocks + words_of rest
+      → most_words_of (blocks_items a g block blocks rest) ≤ 2 * tops_from a block blocks + all_most blocks + 182 * own_sum blocks + most_words_of rest
   blocks-le block [] rest few = omega arith
   blocks-le block (insns ∷ blocks) rest few =
       let first = block-le block insns (blocks_items a g (suc block) blocks rest) (λ k x e. let here : block + 0 ≡ block = omega arith in subst (λ n. length (transfers_at a n k) ≤ most_before x) here (few 0 k x e)) in
@@ -80,11 +80,11 @@ module _ (a : Plan) (g : ItemSetting) (short : All IsShort a.edges) where
 
   -- ---- the bulk
 
-  insns-bulk : (insns : List TempInsn) → insns_most insns ≡ 24 * length insns + 160 * count_by is_call insns
+  insns-bulk : (insns : List TempInsn) → insns_most insns ≡ 24 * length insns + 160 * count_by makes_call insns
   insns-bulk [] = refl
   insns-bulk (x ∷ xs) =
       let rest = insns-bulk xs in
-      let count = sum_by-cons (λ y. cond (is_call y) 1 0) x xs in
+      let count = sum_by-cons (λ y. cond (makes_call y) 1 0) x xs in
       omega (arith, rest, count)
 
   all-bulk : (blocks : List (List TempInsn)) → all_most blocks ≡ 24 * count_of blocks + 160 * call_count blocks
@@ -93,7 +93,7 @@ module _ (a : Plan) (g : ItemSetting) (short : All IsShort a.edges) where
       let first = insns-bulk insns in
       let rest = all-bulk blocks in
       let insn_count = sum_by-cons (λ (block : List TempInsn). length block) insns blocks in
-      let calls = sum_by-cons (λ block. count_by is_call block) insns blocks in
+      let calls = sum_by-cons (λ block. count_by makes_call block) insns blocks in
       omega (arith, first, rest, insn_count, calls)
 
   edges-bulk : (blocks : List (List TempInsn)) → All (EndsLate targets_of flows_on_of) blocks → own_sum blocks + branch_sum blocks ≤ edge_count targets_of flows_on_of blocks
@@ -105,7 +105,7 @@ module _ (a : Plan) (g : ItemSetting) (short : All IsShort a.edges) where
       omega (arith, first, rest, count)
 
 pub function_le : (a : Plan) (g : ItemSetting) (number : ℕ) (rest : List AsmItem) → IsLean a → HasLists a → All (EndsLate targets_of flows_on_of) a.function.blocks
-    → words_of (function_items a g number rest) ≤ bulk_of a.function.blocks + words_of rest
+    → most_words_of (function_items a g number rest) ≤ bulk_of a.function.blocks + most_words_of rest
 function_le a g number rest lean lists late =
     let blocks = a.function.blocks in
     let entry = entry_le g.shape g.shape.saves (blocks_items a g 0 blocks (exit_items g rest)) in

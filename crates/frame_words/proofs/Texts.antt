@@ -6,7 +6,7 @@ use Rattle.alpha_isa.specs.Step.{links}
 use Rattle.alpha_items.specs.declared.item.AsmItem.{AsmItem}
 use Rattle.alpha_items.specs.declared.item.AsmItem.TheVariants.{Label, Name, Plain, Branch, TextAddress, DataAddress}
 use Rattle.alpha_items.specs.Layout.{item_words, sizes, text_words}
-use Rattle.frame_words.specs.Words.{most_words, words_of}
+use Rattle.frame_words.specs.Words.{most_item_words, most_words_of}
 
 branch-le : (far linked : Bool) → (if far then (if linked then 3 else 4) else 1) ≤ (if linked then 3 else 4)
 branch-le true true = omega arith
@@ -14,7 +14,7 @@ branch-le true false = omega arith
 branch-le false true = omega arith
 branch-le false false = omega arith
 
-item-le : (far : Bool) (i : AsmItem) → item_words far i ≤ most_words i
+item-le : (far : Bool) (i : AsmItem) → item_words far i ≤ most_item_words i
 item-le far (Label l) = omega arith
 item-le far (Name bytes) = omega arith
 item-le far (Plain insn) = omega arith
@@ -22,7 +22,7 @@ item-le far (Branch op ra l) = branch-le far (links op)
 item-le far (TextAddress ra l) = omega arith
 item-le far (DataAddress ra offset) = omega arith
 
-pub text_le : (items : List AsmItem) (far : List Bool) → text_words items far ≤ words_of items
+pub text_le : (items : List AsmItem) (far : List Bool) → text_words items far ≤ most_words_of items
 text_le [] far = omega arith
 text_le (i ∷ items) [] = omega arith
 text_le (i ∷ items) (f ∷ far) =

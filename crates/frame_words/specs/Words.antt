@@ -15,20 +15,20 @@ use Rattle.instruction_items.specs.Items.{ItemSetting}
 use Rattle.function_items.specs.Items.{function_items}
 
 -- a far branch is an address and a jump, behind the inverse branch where it has a condition
-abbrev pub most_words : AsmItem → ℕ
-most_words (Label l) = 0
-most_words (Name bytes) = 0
-most_words (Plain insn) = 1
-most_words (Branch op ra l) = if links op then 3 else 4
-most_words (TextAddress ra l) = 2
-most_words (DataAddress ra offset) = 2
+abbrev pub most_item_words : AsmItem → ℕ
+most_item_words (Label l) = 0
+most_item_words (Name bytes) = 0
+most_item_words (Plain insn) = 1
+most_item_words (Branch op ra l) = if links op then 3 else 4
+most_item_words (TextAddress ra l) = 2
+most_item_words (DataAddress ra offset) = 2
 
-abbrev pub words_of : List AsmItem → ℕ
-words_of [] = 0
-words_of (i ∷ items) = most_words i + words_of items
+abbrev pub most_words_of : List AsmItem → ℕ
+most_words_of [] = 0
+most_words_of (i ∷ items) = most_item_words i + most_words_of items
 
 abbrev pub TextsHaveMostWords : Type 0
-TextsHaveMostWords = (items : List AsmItem) (far : List Bool) → text_words items far ≤ words_of items
+TextsHaveMostWords = (items : List AsmItem) (far : List Bool) → text_words items far ≤ most_words_of items
 
 -- the bulk of a function with these blocks
 abbrev pub bulk_of : List (List TempInsn) → ℕ
@@ -38,4 +38,4 @@ abbrev pub LeanFunctionsAreShort : Type 0
 LeanFunctionsAreShort =
     (a : Plan) (g : ItemSetting) (number : ℕ) (rest : List AsmItem) → IsLean a → HasLists a →
     All (EndsLate targets_of flows_on_of) a.function.blocks →
-    words_of (function_items a g number rest) ≤ bulk_of a.function.blocks + words_of rest
+    most_words_of (function_items a g number rest) ≤ bulk_of a.function.blocks + most_words_of rest

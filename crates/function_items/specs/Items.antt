@@ -17,12 +17,12 @@ use Rattle.instruction_items.specs.Items.{ItemSetting, function_label, insn_item
 -- ---- the transfers of edges
 
 -- a block ends with a branch, so it has two successors
-abbrev pub is_branch : Option TempInsn → Bool
-is_branch (Some (i.Branch op source block)) = true
-is_branch _ = false
+abbrev pub is_temp_branch : Option TempInsn → Bool
+is_temp_branch (Some (i.Branch op source block)) = true
+is_temp_branch _ = false
 
 abbrev pub ends_with_branch : List TempInsn → Bool
-ends_with_branch insns = is_branch (last_of insns)
+ends_with_branch insns = is_temp_branch (last_of insns)
 
 -- those at the top of a block, of the edge that leads to it from a block with a branch
 abbrev pub top_transfers : Plan → (block : ℕ) → List Transfer

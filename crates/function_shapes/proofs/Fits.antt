@@ -10,16 +10,16 @@ use Rattle.alloc_model.specs.declared.allocation.Transfer.TheVariants.{Store, Lo
 use Rattle.alloc_model.specs.Places.{Plan, linear_number, transfers_at, registers_at}
 use Rattle.alloc_model.specs.Faithful.{given_registers, IsGivenRegister, named_registers, IsTransfer, HasLists}
 use Rattle.flat_frames.specs.Shapes.{FrameShape}
-use Rattle.placed_steps.specs.Laws.{usable, MayHold, AllMayHold}
+use Rattle.placed_steps.specs.Laws.{is_usable, MayHold, AllMayHold}
 use Rattle.placed_steps.specs.Points.{MayTransfer, AllMayTransfer}
 use Rattle.function_shapes.specs.Shapes.{names_in, shape_of, PlanFits}
 
 -- the given registers are usable
-all-usable : All (λ r. usable r ≡ true) given_registers
-all-usable = All-from_recursion (λ r. usable r ≡ true) given_registers (refl, (refl, (refl, (refl, (refl, (refl, (refl, (refl, (refl, (refl, (refl, (refl, (refl, (refl, (refl, (refl, (refl, (refl, (refl, (refl, (refl, (refl, (refl, (refl, (refl, (refl, tt))))))))))))))))))))))))))
+all-usable : All (λ r. is_usable r ≡ true) given_registers
+all-usable = All-from_recursion (λ r. is_usable r ≡ true) given_registers (refl, (refl, (refl, (refl, (refl, (refl, (refl, (refl, (refl, (refl, (refl, (refl, (refl, (refl, (refl, (refl, (refl, (refl, (refl, (refl, (refl, (refl, (refl, (refl, (refl, (refl, tt))))))))))))))))))))))))))
 
-given-usable : (r : ℕ) → IsGivenRegister r → usable r ≡ true
-given-usable r h = All-contains (λ q. usable q ≡ true) given_registers r all-usable h
+given-usable : (r : ℕ) → IsGivenRegister r → is_usable r ≡ true
+given-usable r h = All-contains (λ q. is_usable q ≡ true) given_registers r all-usable h
 
 -- ---- tests of lists
 

@@ -16,8 +16,8 @@ use Rattle.placed_steps.specs.Points.{AllMayTransfer}
 abbrev pub names_in : List Transfer → (register : ℕ) → Bool
 names_in xs r = list_any (λ x. has_number (named_registers x) r) xs
 
-abbrev pub is_named : Plan → (register : ℕ) → Bool
-is_named a r =
+abbrev pub plan_names : Plan → (register : ℕ) → Bool
+plan_names a r =
     list_any (λ xs. names_in xs r) a.at
     || (list_any (λ rs. has_number rs r) a.regs || list_any (λ e. names_in e.code r) a.edges)
 
@@ -26,7 +26,7 @@ shape_of a = record {
   outgoing = widest_call a.function.blocks - 6;
   temps = a.temps;
   sizes = a.function.sizes;
-  saves = is_named a;
+  saves = plan_names a;
 }
 
 -- so the transfers and registers of each point fit the frame

@@ -13,7 +13,7 @@ use Rattle.data_object.specs.declared.DataCell.TheVariants.{Byte, AddressPart}
 use Rattle.data_object.specs.Globals.{IsLawfulObject, AreLawful}
 use Rattle.flat_memory.specs.Bytes.{AreBytes, low_bytes}
 use Rattle.flat_memory.proofs.Machine.{numbers_of_accesses}
-use Rattle.flat_globals.specs.Globals.{offset_of, cell_byte, DataIs}
+use Rattle.flat_globals.specs.Globals.{global_offset, cell_byte, DataIs}
 use Rattle.flat_globals.proofs.Lists.{get-below, get-index}
 use Rattle.global_data.specs.GlobalBytes.{object_bytes, global_bytes, global_fixes}
 use Rattle.global_data.proofs.Fixes.{OfEach, OfSome, Covers, fix_byte, FitsIn, fixed-length, fixed-bytes, byte-is}
@@ -76,9 +76,9 @@ module _ (globals : List DataObject) (start : ℕ) (lawful : AreLawful globals) 
           let there : z.first + (at - j) ≡ at = omega (arith, place, offset, from) in
           let part : slice_get o.cells at ≡ Some (AddressPart g plus (at - j)) = ap (λ (y : DataObject). slice_get y.cells at) same ∙ ap (slice_get q.cells) (sym there) ∙ z.cells (at - j) (omega (arith, offset, from, to)) in
           let index : o.offset + at - (q.offset + j) ≡ at - j = omega (arith, offset) in
-          let sum : start + (offset_of (slice_get globals g) + plus) ≡ start + offset_of (slice_get globals g) + plus = omega arith in
-          ap (slice_index (to_le_bytes w64 (start + (offset_of (slice_get globals g) + plus)))) index
-          ∙ ap (λ l. slice_index l (at - j)) (numbers_of_accesses.quad_of (start + (offset_of (slice_get globals g) + plus)))
+          let sum : start + (global_offset (slice_get globals g) + plus) ≡ start + global_offset (slice_get globals g) + plus = omega arith in
+          ap (slice_index (to_le_bytes w64 (start + (global_offset (slice_get globals g) + plus)))) index
+          ∙ ap (λ l. slice_index l (at - j)) (numbers_of_accesses.quad_of (start + (global_offset (slice_get globals g) + plus)))
           ∙ ap (λ n. slice_index (low_bytes 8 n) (at - j)) sum
           ∙ right g plus (at - j) part
 

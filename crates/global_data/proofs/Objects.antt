@@ -9,7 +9,7 @@ use Rattle.data_object.specs.declared.DataCell.{DataCell}
 use Rattle.data_object.specs.declared.DataCell.TheVariants.{Byte, AddressPart}
 use Rattle.data_object.specs.Layout.{ObjectsLieFrom}
 use Rattle.flat_memory.specs.Bytes.{AreBytes}
-use Rattle.flat_globals.specs.Globals.{offset_of}
+use Rattle.flat_globals.specs.Globals.{global_offset}
 use Rattle.flat_globals.proofs.Lists.{map-size, replicate-size}
 use Rattle.global_data.specs.GlobalBytes.{unfixed_byte, object_bytes, bytes_from_end, cell_fixes, cells_fixes, objects_fixes}
 use Rattle.global_data.proofs.Lists.{bytes-append, bytes-zeros, zeros-index, map-index}
@@ -129,7 +129,7 @@ global-are-bytes (x ∷ globals) end h =
 -- ---- fixes
 
 abbrev pub fix_of : List DataObject → (at global plus : ℕ) → Fix
-fix_of globals at global plus = record { at = at; offset = offset_of (slice_get globals global) + plus }
+fix_of globals at global plus = record { at = at; offset = global_offset (slice_get globals global) + plus }
 
 one-cell : (P : Fix → Type 0) (globals : List DataObject) (at : ℕ) (c : DataCell) → ((g plus : ℕ) → c ≡ AddressPart g plus 0 → P (fix_of globals at g plus)) → OfEach P (cell_fixes globals at c)
 one-cell P globals at (Byte b) h = tt

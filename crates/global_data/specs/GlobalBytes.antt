@@ -7,7 +7,7 @@ use Rattle.data_object.specs.declared.DataObject.{DataObject}
 use Rattle.data_object.specs.declared.DataCell.{DataCell}
 use Rattle.data_object.specs.declared.DataCell.TheVariants.{Byte, AddressPart}
 use Rattle.data_object.specs.Globals.{AreLawful}
-use Rattle.flat_globals.specs.Globals.{offset_of, DataIs}
+use Rattle.flat_globals.specs.Globals.{global_offset, DataIs}
 
 -- the byte of a cell before the fixes
 abbrev pub unfixed_byte : DataCell → ℕ
@@ -30,7 +30,7 @@ global_bytes globals = bytes_from_end 0 globals
 abbrev pub cell_fixes : List DataObject → (at : ℕ) → DataCell → List Fix
 cell_fixes globals at (Byte b) = []
 cell_fixes globals at (AddressPart global plus zero) =
-    record { at = at; offset = offset_of (slice_get globals global) + plus } ∷ []
+    record { at = at; offset = global_offset (slice_get globals global) + plus } ∷ []
 cell_fixes globals at (AddressPart global plus (suc part)) = []
 
 abbrev pub cells_fixes : List DataObject → (at : ℕ) → List DataCell → List Fix

@@ -13,7 +13,7 @@ use Rattle.alpha_image.proofs.ImageLaws.{longest}
 use Rattle.image_calls.specs.model.Causes.{outcome_of_image_fault}
 use Rattle.image_calls.specs.RunImage.{RefusesBytes, HoldsImage}
 use Rattle.image_calls.specs.model.ImageLimit.{image_limit}
-use Rattle.call_outcomes.specs.FromFile.{IsCause, IsFront, text_of}
+use Rattle.call_outcomes.specs.FromFile.{IsCause, IsFront, file_bytes}
 use Rattle.call_outcomes.specs.Output.{file_faults_after}
 use Rattle.call_outcomes.specs.declared.outcome.Outcome.TheVariants.{FileFault}
 
@@ -30,16 +30,16 @@ image_is file bytes p front is = elim front [
 ]
 
 -- the same of a file that may be told
-fault_told : (told : Option Shelf) (name bytes : List ℕ) (at : ℕ) → IfSome told (λ shelf. IsFront image_limit (file_of shelf name) bytes) → image_fault bytes ≡ Some at → IfSome (text_of told name) (λ b. image_fault b ≡ Some at)
+fault_told : (told : Option Shelf) (name bytes : List ℕ) (at : ℕ) → IfSome told (λ shelf. IsFront image_limit (file_of shelf name) bytes) → image_fault bytes ≡ Some at → IfSome (file_bytes told name) (λ b. image_fault b ≡ Some at)
 fault_told None name bytes at front e = tt
 fault_told (Some shelf) name bytes at front e = fault_is (file_of shelf name) bytes at front e
 
-pub image_told : (told : Option Shelf) (name bytes : List ℕ) (p : Program) → IfSome told (λ shelf. IsFront image_limit (file_of shelf name) bytes) → IsImage bytes p → HoldsImage (text_of told name) p
+pub image_told : (told : Option Shelf) (name bytes : List ℕ) (p : Program) → IfSome told (λ shelf. IsFront image_limit (file_of shelf name) bytes) → IsImage bytes p → HoldsImage (file_bytes told name) p
 image_told None name bytes p front is = tt
 image_told (Some shelf) name bytes p front is = image_is (file_of shelf name) bytes p front is
 
 -- why there is no image in a file
-pub bytes_cause : (told : Option Shelf) (name bytes : List ℕ) (f : ImageFault) → IfSome told (λ shelf. IsFront image_limit (file_of shelf name) bytes) → IsImageFault f bytes → IsCause (RefusesBytes (text_of told name)) (outcome_of_image_fault f)
+pub bytes_cause : (told : Option Shelf) (name bytes : List ℕ) (f : ImageFault) → IfSome told (λ shelf. IsFront image_limit (file_of shelf name) bytes) → IsImageFault f bytes → IsCause (RefusesBytes (file_bytes told name)) (outcome_of_image_fault f)
 bytes_cause told name bytes (fault.BadImage at) front e = fault_told told name bytes at front e
 bytes_cause told name bytes fault.NoMemory front e = inl e.1
 

@@ -2,7 +2,7 @@
 
 ghost use Rattle.std.specs.Prelude.{◌≡◌, ◌↔◌, IfOk, IfErr, IfSome, IsErrOf, IsTrue, option_map};
 ghost use Rattle.bk_io.specs.Shelf.{is_due, after_call};
-ghost use Rattle.call_outcomes.specs.FromFile.{text_of, IsCause};
+ghost use Rattle.call_outcomes.specs.FromFile.{file_bytes, IsCause};
 ghost use Rattle.call_outcomes.specs.Output.{file_faults_unless};
 ghost use Rattle.image_calls.specs.model.Causes as spec;
 ghost use Rattle.image_calls.specs.RunImage.{RefusesBytes, HoldsImage};
@@ -33,8 +33,8 @@ pub(crate) fn image_in_file<F: Files>(
     files: &mut F,
     name: &str,
 ) -> Result<Image, Outcome>
-    ensures image { IfOk result (HoldsImage (text_of (F.told files.old) name.now)) }
-    ensures cause { IfErr result (IsCause (RefusesBytes (text_of (F.told files.old) name.now))) }
+    ensures image { IfOk result (HoldsImage (file_bytes (F.told files.old) name.now)) }
+    ensures cause { IfErr result (IsCause (RefusesBytes (file_bytes (F.told files.old) name.now))) }
     ensures due { IfSome (F.told files.old)
         (λ shelf. IsErrOf result Outcome.FileFault ↔ IsTrue (is_due shelf name.now)) }
     ensures told { F.told files.new ≡ option_map after_call (F.told files.old) }

@@ -2,7 +2,7 @@
 
 ghost use Rattle.std.specs.Prelude.{◌≡◌, ◌≢◌, ◌↔◌, IfSome, IsTrue, option_map};
 ghost use Rattle.bk_io.specs.Shelf.{is_due, after_call};
-ghost use Rattle.call_outcomes.specs.FromFile.{text_of};
+ghost use Rattle.call_outcomes.specs.FromFile.{file_bytes};
 ghost use Rattle.image_calls.specs.MigrateImage.{Migrates, WritesMigrated};
 ghost use Rattle.call_outcomes.specs.Output.{file_faults_after, output_faults_after};
 
@@ -16,7 +16,7 @@ use std::alloc::Global;
 /// Reads an image of either version and writes it in version 2, with the zeros at the end of its data
 /// counted and not written.
 pub fn migrate<F: Files, O: Sink>(alloc: Global, name: &str, files: &mut F, out: &mut O) -> Outcome
-    ensures answer { Migrates (text_of (F.told files.old) name.now) result (O.taken out.old) (O.taken out.new) }
+    ensures answer { Migrates (file_bytes (F.told files.old) name.now) result (O.taken out.old) (O.taken out.new) }
     ensures due { IfSome (F.told files.old) (λ shelf. (result ≡ Outcome.FileFault) ↔ IsTrue (is_due shelf name.now)) }
     ensures told { F.told files.new ≡ option_map after_call (F.told files.old) }
     ensures file_count { F.faults files.new ≡ file_faults_after result (F.faults files.old) }

@@ -20,7 +20,7 @@ use Rattle.alloc_model.specs.Laws.{AllFaithful, AllocationKeeps}
 use Rattle.flat_memory.specs.Bytes.{AreBytes}
 use Rattle.flat_starts.specs.Builds.{Build}
 use Rattle.flat_starts.specs.Matching.{FitsStack}
-use Rattle.flat_starts.specs.Runs.{run_of, ComesTo, RunIsDone, longest_of, turns_for, BelongsTo}
+use Rattle.flat_starts.specs.Runs.{build_run, ComesTo, RunIsDone, longest_of, turns_for, BelongsTo}
 use Rattle.flat_starts.proofs.Machines.{rest-of, over-behind, front-of}
 use Rattle.flat_starts.proofs.Forward.{runs_are_done}
 use Rattle.flat_starts.proofs.Only.{only_these_end}
@@ -70,7 +70,7 @@ module _ (keep : AllocationKeeps) (outputs : (plans : List Plan) → KeepsOutput
   first = first_config b main world
 
   abbrev s : State
-  s = image.start b.program stack input
+  s = image.start_state b.program stack input
 
   all-faithful : AllFaithful (map plan_of allocations)
   all-faithful = subst AllFaithful h.plans (record { each = λ k a is. (h.built.functions k a is).faithful })
@@ -79,7 +79,7 @@ module _ (keep : AllocationKeeps) (outputs : (plans : List Plan) → KeepsOutput
   places = (keep b.rooms program allocations h.functions all-faithful input turns e).0 temps
 
   -- the run of the build
-  over : run_of b places.steps first ≡ Over e
+  over : build_run b places.steps first ≡ Over e
   over = subst (λ plans. placed_run b.rooms plans main world places.steps ≡ Over e) (sym h.plans) places.over
 
   fits-end : FitsStack b (Over e)

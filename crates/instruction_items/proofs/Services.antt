@@ -20,7 +20,7 @@ use Rattle.temp_ir.specs.declared.insn.TempInsn.TheVariants as i
 use Rattle.alloc_model.specs.Contents as contents
 use Rattle.alloc_model.specs.Contents.{Content, Bundle}
 use Rattle.alloc_model.specs.Stores.{put}
-use Rattle.alloc_model.specs.Effect.{is_number, end_act, put_act, trap_act}
+use Rattle.alloc_model.specs.Effect.{holds_number, end_act, put_act, trap_act}
 use Rattle.alloc_model.specs.Places.{Places, Reg, place_eq}
 use Rattle.flat_memory.specs.Bytes.{Bytes, AreBytes}
 use Rattle.flat_memory.specs.Relation.{Extents}
@@ -32,11 +32,11 @@ use Rattle.frame_accesses.proofs.Runs.{stands, bytes-same, reached-same, parts-s
 use Rattle.frame_transfers.specs.Laws.{CallAt, StandsFor}
 use Rattle.frame_transfers.proofs.Runs.{frame-with_register, kept-same}
 use Rattle.instruction_items.specs.Items.{ItemSetting}
-use Rattle.instruction_items.specs.Laws.{usable, HasOuter, ComesToItems, ActIsDone, store_behind}
+use Rattle.instruction_items.specs.Laws.{is_usable, HasOuter, ComesToItems, ActIsDone, store_behind}
 use Rattle.instruction_items.proofs.Runs.{nothing-ended, more-usable}
 
 -- a word that stands for a number
-number-is : (xs : Extents) (n : ℕ) (c : Content) (w : ℕ) → ContentIs xs c w → is_number n c ≡ true → w ≡ n
+number-is : (xs : Extents) (n : ℕ) (c : Content) (w : ℕ) → ContentIs xs c w → holds_number n c ≡ true → w ≡ n
 number-is xs n (contents.Plain (Word m)) w is e = is ∙ eqb-true m n e
 number-is xs n (contents.Plain (Address q)) w is e = absurd (cc)
 number-is xs n (contents.Plain Unset) w is e = absurd (cc)
@@ -62,7 +62,7 @@ bytes-io p s input output = refl
 
 module _ (p : Program) (there : Labels) (g : ItemSetting) (rest : List AsmItem) (end : ℕ) (c : CallAt) (o : Outer) (store : Places) (s : State) (outer : HasOuter o s) where
   abbrev Serves : ℕ → Type 0
-  Serves function = StandsFor p there (Plain (fields.Pal function) ∷ rest) end c o.memory usable store s
+  Serves function = StandsFor p there (Plain (fields.Pal function) ∷ rest) end c o.memory is_usable store s
 
   -- a state in which registers alone, the input and the output are others
   record IsServed (t : State) : Type 0 where
@@ -79,7 +79,7 @@ module _ (p : Program) (there : Labels) (g : ItemSetting) (rest : List AsmItem) 
   served-bytes : (t : State) → IsServed t → length s.registers ≡ 32 → memory_bytes p t ≡ memory_bytes p s
   served-bytes t h len = sym (bytes-io p t s.input s.output) ∙ bytes-same p s (record t { input = s.input; output = s.output }) (as-before t h len)
 
-  served : (function : ℕ) (h : Serves function) (t : State) → IsServed t → t.pc ≡ s.pc + 4 → insn_step p (fields.Pal function) s ≡ Goes t → (new : Outer) → new.memory ≡ o.memory → HasOuter new t → (held : Places) → RegistersAre c.extents usable held t → FrameAndMemory c.extents o.memory c.owner (memory_bytes p s) c.sp c.depth c.own c.shape held → ComesToItems p there rest end c new held s
+  served : (function : ℕ) (h : Serves function) (t : State) → IsServed t → t.pc ≡ s.pc + 4 → insn_step p (fields.Pal function) s ≡ Goes t → (new : Outer) → new.memory ≡ o.memory → HasOuter new t → (held : Places) → RegistersAre c.extents is_usable held t → FrameAndMemory c.extents o.memory c.owner (memory_bytes p s) c.sp c.depth c.own c.shape held → ComesToItems p there rest end c new held s
   served function h t is pc e new same outer_new held regs frame =
       let b = plain_steps p there h.word (fields.Pal function) rest end s t (stands p there h.word (Plain (fields.Pal function)) rest end s h.is_at) e pc in
       let len = h.is_at.registers in
@@ -90,7 +90,7 @@ module _ (p : Program) (there : Labels) (g : ItemSetting) (rest : List AsmItem) 
       record {
         to = t;
         comes = b.comes;
-        stands = subst (λ m. StandsFor p there rest end c m usable held t) (sym same) (record {
+        stands = subst (λ m. StandsFor p there rest end c m is_usable held t) (sym same) (record {
           word = b.next;
           is_at = record {
             lawful = h.is_at.lawful;
@@ -132,7 +132,7 @@ module _ (p : Program) (there : Labels) (g : ItemSetting) (rest : List AsmItem) 
   put-done h (contents.Plain Unset) e two = tt
   put-done h (Bundle cells) e two = tt
 
-  pub put-byte-done : (h : Serves 0x83) (b : Bool) → is_number 2 (store (Reg 0)) ≡ b → ActIsDone p there g rest end c (store_behind [] (i.Serve service.PutByte) store) (i.Serve service.PutByte) s (if b then put_act (store (Reg 16)) o else Stops HasNoMeaning o)
+  pub put-byte-done : (h : Serves 0x83) (b : Bool) → holds_number 2 (store (Reg 0)) ≡ b → ActIsDone p there g rest end c (store_behind [] (i.Serve service.PutByte) store) (i.Serve service.PutByte) s (if b then put_act (store (Reg 16)) o else Stops HasNoMeaning o)
   put-byte-done h true e = put-done h (store (Reg 16)) refl (number-is c.extents 2 (store (Reg 0)) (register s 0) (h.registers 0 refl) e)
   put-byte-done h false e = tt
 
@@ -144,7 +144,7 @@ module _ (p : Program) (there : Labels) (g : ItemSetting) (rest : List AsmItem) 
   take-state : State
   take-state = record (with_register 0 (input_word s.input) taken) { pc = s.pc + 4 }
 
-  pub take-byte-done : (h : Serves 0x83) (b : Bool) → is_number 3 (store (Reg 0)) ≡ b → ActIsDone p there g rest end c (store_behind [] (i.Serve service.GetByte) store) (i.Serve service.GetByte) s (if b then Writes (contents.word (input_word o.input) ∷ []) (take_byte o) else Stops HasNoMeaning o)
+  pub take-byte-done : (h : Serves 0x83) (b : Bool) → holds_number 3 (store (Reg 0)) ≡ b → ActIsDone p there g rest end c (store_behind [] (i.Serve service.GetByte) store) (i.Serve service.GetByte) s (if b then Writes (contents.word_content (input_word o.input) ∷ []) (take_byte o) else Stops HasNoMeaning o)
   unfolding take-state taken
   take-byte-done h true e =
       let three = number-is c.extents 3 (store (Reg 0)) (register s 0) (h.registers 0 refl) e in
@@ -153,9 +153,9 @@ module _ (p : Program) (there : Labels) (g : ItemSetting) (rest : List AsmItem) 
       let here : register take-state 0 ≡ v = read-same 0 v taken (omega arith) len in
       let word_is : v ≡ input_word o.input = ap input_word outer.input in
       let below : v < 2 ^ 64 = subst (λ k. k < 2 ^ 64) (sym word_is) (byte-below o.input outer.bytes) in
-      let held = put place_eq (Reg 0) (contents.word (input_word o.input)) store in
+      let held = put place_eq (Reg 0) (contents.word_content (input_word o.input)) store in
       subst (λ k. ComesToItems p there rest end c (take_byte o) k s)
-      (sym (ap (put place_eq (Reg 0) (contents.word (input_word o.input))) (nothing-ended (i.Serve service.GetByte) store refl refl)))
+      (sym (ap (put place_eq (Reg 0) (contents.word_content (input_word o.input))) (nothing-ended (i.Serve service.GetByte) store refl refl)))
       (served 0x83 h take-state
       (record {
         data_bytes = refl;
@@ -174,8 +174,8 @@ module _ (p : Program) (there : Labels) (g : ItemSetting) (rest : List AsmItem) 
       (record { input = ap input_rest outer.input ∙ rest-is o.input; output = outer.output; bytes = rest-bytes o.input outer.bytes })
       held
       (subst (λ k. RegistersAre c.extents k held take-state) (more-usable 0 refl)
-      (registers_are_put c.extents usable store s take-state 0 (contents.word (input_word o.input)) h.registers (λ q f ne. read-other 0 q v taken ne) (here ∙ word_is)))
-      (frame-with_register c.extents o.memory c.owner (memory_bytes p s) c.sp c.depth c.own c.shape store 0 (contents.word (input_word o.input)) h.frame))
+      (registers_are_put c.extents is_usable store s take-state 0 (contents.word_content (input_word o.input)) h.registers (λ q f ne. read-other 0 q v taken ne) (here ∙ word_is)))
+      (frame-with_register c.extents o.memory c.owner (memory_bytes p s) c.sp c.depth c.own c.shape store 0 (contents.word_content (input_word o.input)) h.frame))
     where
       length-with : length take-state.registers ≡ length taken.registers
       length-with = length-set s.registers 0 (input_word s.input)
@@ -197,7 +197,7 @@ module _ (p : Program) (there : Labels) (g : ItemSetting) (rest : List AsmItem) 
   end-done h (contents.Plain Unset) e one = tt
   end-done h (Bundle cells) e one = tt
 
-  pub end-service-done : (h : Serves 0x83) (b : Bool) → is_number 1 (store (Reg 0)) ≡ b → ActIsDone p there g rest end c (store_behind [] (i.Serve service.End) store) (i.Serve service.End) s (if b then end_act (store (Reg 16)) o else Stops HasNoMeaning o)
+  pub end-service-done : (h : Serves 0x83) (b : Bool) → holds_number 1 (store (Reg 0)) ≡ b → ActIsDone p there g rest end c (store_behind [] (i.Serve service.End) store) (i.Serve service.End) s (if b then end_act (store (Reg 16)) o else Stops HasNoMeaning o)
   end-service-done h true e = end-done h (store (Reg 16)) refl (number-is c.extents 1 (store (Reg 0)) (register s 0) (h.registers 0 refl) e)
   end-service-done h false e = tt
 

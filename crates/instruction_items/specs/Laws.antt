@@ -20,7 +20,7 @@ use Rattle.temp_ir.specs.Insns.{reads_of, writes_of, targets_of}
 use Rattle.alloc_model.specs.Contents.{Content, Plain}
 use Rattle.alloc_model.specs.Stores.{without, put_all}
 use Rattle.alloc_model.specs.Effect.{does}
-use Rattle.alloc_model.specs.Places.{Places, In, place_eq, places_read_at, places_written_at, is_ended}
+use Rattle.alloc_model.specs.Places.{Places, In, place_eq, places_read_at, places_written_at, ends_place}
 use Rattle.mem_model.specs.declared.value.Value.TheVariants.{Unset}
 use Rattle.flat_memory.specs.Bytes.{Bytes, AreBytes}
 use Rattle.flat_memory.specs.Relation.{Extent, IsExtent, OfFrame, ArgumentPiece}
@@ -33,14 +33,14 @@ use Rattle.instruction_items.specs.Items.{ItemSetting, insn_items}
 
 -- the registers in which values may stand: all but 26, which has the return address, and the scratch registers 28 and
 -- 29, the stack pointer 30 and the zero 31
-abbrev pub usable : (register : ℕ) → Bool
-usable r = nat_lt r 26 || (r == 27)
+abbrev pub is_usable : (register : ℕ) → Bool
+is_usable r = nat_lt r 26 || (r == 27)
 
 -- ---- what an instruction asks for
 
 -- a function saves each of the registers 9 to 15 that it names
 pub record MayHold (s : FrameShape) (r : ℕ) : Type 0 where
-  pub usable_one : usable r ≡ true
+  pub usable_one : is_usable r ≡ true
   pub saved : 9 ≤ r → r < 16 → s.saves r ≡ true
 
 abbrev pub AllMayHold : FrameShape → (registers : List ℕ) → Type 0
@@ -109,7 +109,7 @@ pub record ComesToItems (p : Program) (there : Labels) (items : List AsmItem) (e
     (store : Places) (s : State) : Type 0 where
   pub to : State
   pub comes : Comes p s to
-  pub stands : StandsFor p there items end c o.memory usable store to
+  pub stands : StandsFor p there items end c o.memory is_usable store to
   pub outer : HasOuter o to
   pub kept : IsKept p c s to
 
@@ -120,7 +120,7 @@ pub record IsAtLabel (p : Program) (there : Labels) (l : ℕ) (c : CallAt) (o : 
   pub comes : Comes p s to
   pub some : 1 ≤ comes.steps
   pub stands : (items : List AsmItem) (last : ℕ) → ItemsAt p there (there l) items last →
-      StandsFor p there items last c o.memory usable store to
+      StandsFor p there items last c o.memory is_usable store to
   pub outer : HasOuter o to
   pub kept : IsKept p c s to
 
@@ -154,7 +154,7 @@ is_no_call _ = true
 -- what a call holds once an instruction with stated registers has written
 abbrev pub store_behind : (registers : List ℕ) → TempInsn → Places → List Content → Places
 store_behind registers x store cs =
-    put_all place_eq (places_written_at registers x) cs (without (is_ended x) store)
+    put_all place_eq (places_written_at registers x) cs (without (ends_place x) store)
 
 abbrev pub InstructionsAreDone : Type 0
 InstructionsAreDone =
@@ -163,6 +163,6 @@ InstructionsAreDone =
     HasOuter o s →
     (widest : ℕ) → widest ≤ c.shape.outgoing + 6 →
     (registers : List ℕ) (x : TempInsn) → is_no_call x ≡ true → IsStated c.shape registers x → IsThere p g c x →
-    StandsFor p there (insn_items g registers x ++ rest) end c o.memory usable store s →
+    StandsFor p there (insn_items g registers x ++ rest) end c o.memory is_usable store s →
     ActIsDone p there g rest end c (store_behind registers x store) x s
     (does widest x c.own (map store (places_read_at registers x)) o)

@@ -12,14 +12,14 @@ use Rattle.alpha_isa.specs.declared.insn.BranchOp.{BranchOp}
 use Rattle.alpha_isa.specs.declared.insn.BranchOp.TheVariants.{Br, Bsr, Blbc, Beq, Blt, Ble, Blbs, Bne, Bge, Bgt}
 use Rattle.alpha_isa.specs.Lawful.{IsDisplacement}
 use Rattle.alpha_isa.specs.Lawful as lawful
-use Rattle.alpha_isa.specs.Words.{word_of, insn_of}
+use Rattle.alpha_isa.specs.Words.{insn_word, insn_of}
 use Rattle.alpha_isa.specs.Program.{Program, IsLawful, data_start, word_address, instruction_at}
 use Rattle.alpha_isa.proofs.Words.{word_decoded}
 use Rattle.alpha_items.specs.declared.item.AsmItem.{AsmItem}
 use Rattle.alpha_items.specs.declared.item.AsmItem.TheVariants.{Label, Name, Plain, Branch, TextAddress, DataAddress}
-use Rattle.alpha_items.specs.Items.{names, IsItem}
+use Rattle.alpha_items.specs.Items.{names_label, IsItem}
 use Rattle.alpha_items.specs.Assembly.{Assembly, IsWhole, labels, label_index}
-use Rattle.alpha_items.specs.Layout.{item_words, sizes, text_words, place, label_place, ItemReaches, is_far}
+use Rattle.alpha_items.specs.Layout.{item_words, sizes, text_words, item_place, label_place, ItemReaches, is_far}
 use Rattle.alpha_items.specs.Words.{item_insns, text_insns, far_insns, address_insns, high_of, Words}
 use Rattle.alpha_items.proofs.Sums.{sum-cons}
 use Rattle.alpha_items.proofs.Unique.{length-item_insns, length-words}
@@ -55,7 +55,7 @@ lawful-append : (xs ys : List Fields) → AllLawful xs → AllLawful ys → AllL
 lawful-append [] ys h g = g
 lawful-append (x ∷ xs) ys h g = (h.0, lawful-append xs ys h.1 g)
 
-decoded : (xs : List Fields) (k : ℕ) → AllLawful xs → k < length xs → option_and_then insn_of (slice_get (map word_of xs) k) ≡ slice_get xs k
+decoded : (xs : List Fields) (k : ℕ) → AllLawful xs → k < length xs → option_and_then insn_of (slice_get (map insn_word xs) k) ≡ slice_get xs k
 decoded [] k all lt = absurd (omega arith)
 decoded (x ∷ xs) zero all lt = word_decoded x all.0
 decoded (x ∷ xs) (suc k) all lt = decoded xs k all.1 (omega arith)
@@ -67,7 +67,7 @@ insn-at p n =
     let index : (word_address n - 65536) / 4 ≡ n = omega arith in
     ap (λ b. cond b None found) inside ∙ ap (λ k. option_and_then insn_of (slice_get p.words k)) index
 
-words-at : (p : Program) (insns : List Fields) → p.words ≡ map word_of insns → AllLawful insns → InsnsAt p 0 insns
+words-at : (p : Program) (insns : List Fields) → p.words ≡ map insn_word insns → AllLawful insns → InsnsAt p 0 insns
 words-at p insns is all k lt =
     let none : 0 + k ≡ k = omega arith in
     ap (λ j. instruction_at p (word_address j)) none ∙ insn-at p k ∙ ap (λ ws. option_and_then insn_of (slice_get ws k)) is ∙ decoded insns k all lt
@@ -112,7 +112,7 @@ module _ (there : Labels) (start size : ℕ) (b : Bounds there start size) where
   -- the items from a word on are lawful, and those that are not far reach
   record Reaches (here : ℕ) (items : List AsmItem) (far : List Bool) : Type 0 where
     are : All (λ i. IsItem size i) items
-    reach : (k : ℕ) (d : AsmItem) → k < length items → is_far far k ≡ false → ItemReaches there (here + place items far k) (slice_index_or items k d)
+    reach : (k : ℕ) (d : AsmItem) → k < length items → is_far far k ≡ false → ItemReaches there (here + item_place items far k) (slice_index_or items k d)
 
   first-reaches : (here : ℕ) (i : AsmItem) (items : List AsmItem) (f : Bool) (far : List Bool) → Reaches here (i ∷ items) (f ∷ far) → f ≡ false → ItemReaches there here i
   first-reaches here i items f far r e = let none : here + 0 ≡ here = omega arith in subst (λ h. ItemReaches there h i) none (r.reach 0 i (omega arith) e)
@@ -122,7 +122,7 @@ module _ (there : Labels) (start size : ℕ) (b : Bounds there start size) where
     are = λ k d lt. r.are (suc k) d (omega arith);
     reach = λ k d lt e.
         let s = sum-cons (item_words f i) (take k (sizes items far)) in
-        let p : here + place (i ∷ items) (f ∷ far) (suc k) ≡ here + item_words f i + place items far k = omega (arith, s) in
+        let p : here + item_place (i ∷ items) (f ∷ far) (suc k) ≡ here + item_words f i + item_place items far k = omega (arith, s) in
         subst (λ h. ItemReaches there h (slice_index_or items k d)) p (r.reach (suc k) d (omega arith) e);
   }
 
@@ -151,7 +151,7 @@ module _ (p : Program) (there : Labels) where
       )
 
   -- from the k-th on
-  suffix-at : (here k : ℕ) (items : List AsmItem) (far : List Bool) → length far ≡ length items → k ≤ length items → InsnsAt p here (text_insns there (data_start p) here items far) → ItemsAt p there (here + place items far k) (drop k items) (here + text_words items far)
+  suffix-at : (here k : ℕ) (items : List AsmItem) (far : List Bool) → length far ≡ length items → k ≤ length items → InsnsAt p here (text_insns there (data_start p) here items far) → ItemsAt p there (here + item_place items far k) (drop k items) (here + text_words items far)
   suffix-at here zero items far len le h = let none : here ≡ here + 0 = omega arith in subst (λ w. ItemsAt p there w items (here + text_words items far)) none (items-at here items far len h)
   suffix-at here (suc k) [] far len le h = absurd (omega arith)
   suffix-at here (suc k) (i ∷ items) [] len le h = absurd (omega (arith, len))
@@ -162,9 +162,9 @@ module _ (p : Program) (there : Labels) where
       let rest : InsnsAt p (here + item_words f i) (text_insns there (data_start p) (here + item_words f i) items far) =
       subst (λ j. InsnsAt p (here + j) (text_insns there (data_start p) (here + item_words f i) items far)) n (back-at p here (item_insns there (data_start p) here f i) (text_insns there (data_start p) (here + item_words f i) items far) h) in
       let e : here + item_words f i + text_words items far ≡ here + text_words (i ∷ items) (f ∷ far) = omega (arith, s) in
-      let g : here + item_words f i + place items far k ≡ here + place (i ∷ items) (f ∷ far) (suc k) = omega (arith, t) in
+      let g : here + item_words f i + item_place items far k ≡ here + item_place (i ∷ items) (f ∷ far) (suc k) = omega (arith, t) in
       subst (λ w. ItemsAt p there w (drop k items) (here + text_words (i ∷ items) (f ∷ far))) g
-      (subst (ItemsAt p there (here + item_words f i + place items far k) (drop k items)) e (suffix-at (here + item_words f i) k items far (omega (arith, len)) (omega arith) rest))
+      (subst (ItemsAt p there (here + item_words f i + item_place items far k) (drop k items)) e (suffix-at (here + item_words f i) k items far (omega (arith, len)) (omega arith) rest))
 
   pub parts_stand : (word end : ℕ) (front back : List AsmItem) → ItemsAt p there word (front ++ back) end → StandsInTwo p there word front back end
   parts_stand word end [] back h = record { middle = word; first = refl; second = h }
@@ -184,13 +184,13 @@ pub labels_are_words : (a : Assembly) (p : Program) (w : Words a p) (l : ℕ) �
 labels_are_words a p w l = let h = sum-take (sizes a.items w.far) (label_index a.items l) in let n = length-words a p w in omega (arith, h, n)
 
 -- a label that no item names before
-named-where : (front back : List AsmItem) (l : ℕ) → ((k : ℕ) (d : AsmItem) → k < length front → names l (slice_index_or front k d) ≡ false) → label_index (front ++ Label l ∷ back) l ≡ length front
-named-where [] back l h = ap (λ t. cond (not t) (1 + position_or_len (names l) back) 0) (eq-eqb l l refl)
+named-where : (front back : List AsmItem) (l : ℕ) → ((k : ℕ) (d : AsmItem) → k < length front → names_label l (slice_index_or front k d) ≡ false) → label_index (front ++ Label l ∷ back) l ≡ length front
+named-where [] back l h = ap (λ t. cond (not t) (1 + position_or_len (names_label l) back) 0) (eq-eqb l l refl)
 named-where (i ∷ front) back l h =
-    let first : names l i ≡ false = h 0 i (omega arith) in
+    let first : names_label l i ≡ false = h 0 i (omega arith) in
     let rest = named-where front back l (λ k d lt. h (suc k) d (omega arith)) in
-    let count : 1 + position_or_len (names l) (front ++ Label l ∷ back) ≡ suc (length front) = omega (arith, rest) in
-    ap (λ t. cond (not t) (1 + position_or_len (names l) (front ++ Label l ∷ back)) 0) first ∙ count
+    let count : 1 + position_or_len (names_label l) (front ++ Label l ∷ back) ≡ suc (length front) = omega (arith, rest) in
+    ap (λ t. cond (not t) (1 + position_or_len (names_label l) (front ++ Label l ∷ back)) 0) first ∙ count
 
 -- where the names of items stand among the labels
 label-first : (front back : List AsmItem) (l : ℕ) → slice_get (labels (front ++ Label l ∷ back)) (length (labels front)) ≡ Some l
@@ -223,7 +223,7 @@ got-within (y ∷ xs) zero x e = omega arith
 got-within (y ∷ xs) (suc k) x e = let lt = got-within xs k x e in omega arith
 
 -- an item that names a label
-names-is : (l : ℕ) (i : AsmItem) → names l i ≡ true → i ≡ Label l
+names-is : (l : ℕ) (i : AsmItem) → names_label l i ≡ true → i ≡ Label l
 names-is l (Label m) e = ap Label (eqb-true m l e)
 names-is l (Name bytes) e = absurd (cc)
 names-is l (Plain insn) e = absurd (cc)
@@ -231,10 +231,10 @@ names-is l (Branch op ra m) e = absurd (cc)
 names-is l (TextAddress ra m) e = absurd (cc)
 names-is l (DataAddress ra offset) e = absurd (cc)
 
-named-once : (front back : List AsmItem) (l : ℕ) → AllPairs (λ m n. m ≢ n) (labels (front ++ Label l ∷ back)) → (k : ℕ) (d : AsmItem) → k < length front → names l (slice_index_or front k d) ≡ false
-named-once front back l once k d lt = false_from_ne_true (names l (slice_index_or front k d)) (λ e. clash e)
+named-once : (front back : List AsmItem) (l : ℕ) → AllPairs (λ m n. m ≢ n) (labels (front ++ Label l ∷ back)) → (k : ℕ) (d : AsmItem) → k < length front → names_label l (slice_index_or front k d) ≡ false
+named-once front back l once k d lt = false_from_ne_true (names_label l (slice_index_or front k d)) (λ e. clash e)
   where
-    clash : names l (slice_index_or front k d) ≡ true → ⊥
+    clash : names_label l (slice_index_or front k d) ≡ true → ⊥
     clash e =
         let is : slice_get front k ≡ Some (Label l) = slice_get-get_or front k d lt ∙ ap (λ x. Some x) (names-is l (slice_index_or front k d) e) in
         let r = label-before front (Label l ∷ back) k l is in
@@ -257,7 +257,7 @@ module _ (a : Assembly) (p : Program) (lawful_image : IsLawful p) (whole : IsWho
   reaches : Reaches (label_place a.items w.far) (data_start p) (length a.bytes) bounds 0 a.items w.far
   reaches = record {
     are = whole.items;
-    reach = λ k d lt e. let none : place a.items w.far k ≡ 0 + place a.items w.far k = omega arith in
+    reach = λ k d lt e. let none : item_place a.items w.far k ≡ 0 + item_place a.items w.far k = omega arith in
         subst (λ h. ItemReaches (label_place a.items w.far) h (slice_index_or a.items k d)) none (w.least.others_reach k d lt e);
   }
 
@@ -279,11 +279,11 @@ module _ (a : Assembly) (p : Program) (lawful_image : IsLawful p) (whole : IsWho
       let dropped : drop k a.items ≡ Label l ∷ back = ap (drop k) is ∙ drop-front front (Label l ∷ back) in
       let s = suffix-at p (label_place a.items w.far) 0 k a.items w.far w.least.one_each (omega (arith, len)) insns-at in
       let end : 0 + text_words a.items w.far ≡ text_words a.items w.far = omega arith in
-      let from : 0 + place a.items w.far k ≡ label_place a.items w.far l = let e = ap (place a.items w.far) index in omega (arith, e) in
+      let from : 0 + item_place a.items w.far k ≡ label_place a.items w.far l = let e = ap (item_place a.items w.far) index in omega (arith, e) in
       let t : ItemsAt p (label_place a.items w.far) (label_place a.items w.far l) (Label l ∷ back) (text_words a.items w.far) =
       subst (λ n. ItemsAt p (label_place a.items w.far) (label_place a.items w.far l) (Label l ∷ back) n) end
       (subst (λ n. ItemsAt p (label_place a.items w.far) n (Label l ∷ back) (0 + text_words a.items w.far)) from
-      (subst (λ items. ItemsAt p (label_place a.items w.far) (0 + place a.items w.far k) items (0 + text_words a.items w.far)) dropped s)) in
+      (subst (λ items. ItemsAt p (label_place a.items w.far) (0 + item_place a.items w.far k) items (0 + text_words a.items w.far)) dropped s)) in
       let none : label_place a.items w.far l + 0 ≡ label_place a.items w.far l = omega arith in
       subst (λ n. ItemsAt p (label_place a.items w.far) n back (text_words a.items w.far)) none t.2
     where

@@ -16,7 +16,7 @@ use Rattle.alpha_isa.specs.Words.{insn_of}
 use Rattle.alpha_isa.specs.Arithmetic.{word_at, word_from}
 use Rattle.alpha_isa.specs.Program.{Program, IsLawful, data_start, word_address, instruction_at}
 use Rattle.alpha_isa.specs.State.{State, register, with_register}
-use Rattle.alpha_isa.specs.Step.{Halt, Goes, Over, address, branch_target, insn_step, fetched_step, step, go_on, exec, is_taken, links, next_pc}
+use Rattle.alpha_isa.specs.Step.{Halt, Goes, Over, memory_address, branch_target, insn_step, fetched_step, step, go_on, exec, is_branch_taken, links, next_pc}
 use Rattle.alpha_isa.proofs.Runs.{exec_split}
 use Rattle.alpha_items.specs.declared.item.AsmItem.{AsmItem}
 use Rattle.alpha_items.specs.declared.item.AsmItem.TheVariants.{Plain, Branch, TextAddress, DataAddress}
@@ -171,14 +171,14 @@ record Loaded (p : Program) (ra n w : ℕ) (s : State) : Type 0 where
 
 address-loaded : (p : Program) (ra n w : ℕ) (s : State) → ra < 31 → n < 2147450880 → InsnsAt p w (address_insns ra n) → s.pc ≡ word_address w → length s.registers ≡ 32 → Loaded p ra n w s
 address-loaded p ra n w s lt small h pc len =
-    let u = record (with_register ra (address s 31 (pos (high_of n) *ℤ pos 65536)) s) { pc = next_pc (with_register ra (address s 31 (pos (high_of n) *ℤ pos 65536)) s) } in
+    let u = record (with_register ra (memory_address s 31 (pos (high_of n) *ℤ pos 65536)) s) { pc = next_pc (with_register ra (memory_address s 31 (pos (high_of n) *ℤ pos 65536)) s) } in
     let none : w + 0 ≡ w = omega arith in
     let first = one-step p s u (fields.Memory Ldah ra 31 (pos (high_of n))) (fetched p w 0 (address_insns ra n) (fields.Memory Ldah ra 31 (pos (high_of n))) s.pc h (omega arith) refl (pc ∙ ap word_address (sym none))) refl in
-    let a = address s 31 (pos (high_of n) *ℤ pos 65536) in
+    let a = memory_address s 31 (pos (high_of n) *ℤ pos 65536) in
     let upc : u.pc ≡ word_address (w + 1) = ap (λ k. k + 4) (pc-with ra a s ∙ pc) ∙ (let e : word_address w + 4 ≡ word_address (w + 1) = omega arith in e) in
     let same1 : SameElse s u = same-through s (with_register ra a s) u (same-with ra a s) (same-at (with_register ra a s) u.pc) in
     let ulen : length u.registers ≡ 32 = same1.registers ∙ len in
-    let v = address u ra (pos n -ℤ pos (high_of n * 65536)) in
+    let v = memory_address u ra (pos n -ℤ pos (high_of n * 65536)) in
     let t = record (with_register ra v u) { pc = next_pc (with_register ra v u) } in
     let second = one-step p u t (fields.Memory Lda ra ra (pos n -ℤ pos (high_of n * 65536))) (fetched p w 1 (address_insns ra n) (fields.Memory Lda ra ra (pos n -ℤ pos (high_of n * 65536))) u.pc h (omega arith) refl upc) refl in
     let tpc : t.pc ≡ word_address (w + 2) = ap (λ k. k + 4) (pc-with ra v u ∙ upc) ∙ (let e : word_address (w + 1) + 4 ≡ word_address (w + 2) = omega arith in e) in
@@ -219,10 +219,10 @@ one_of_two zero lt = (refl, refl)
 one_of_two (suc zero) lt = (refl, refl)
 one_of_two (suc (suc n)) lt = absurd (omega arith)
 
-odd_not_even : (a : ℕ) → is_taken Blbs a ≡ not (is_taken Blbc a)
+odd_not_even : (a : ℕ) → is_branch_taken Blbs a ≡ not (is_branch_taken Blbc a)
 odd_not_even a = (one_of_two (a % 2) (omega arith)).0
 
-even_not_odd : (a : ℕ) → is_taken Blbc a ≡ not (is_taken Blbs a)
+even_not_odd : (a : ℕ) → is_branch_taken Blbc a ≡ not (is_branch_taken Blbs a)
 even_not_odd a = (one_of_two (a % 2) (omega arith)).1
 
 -- a branch that stands near goes to its label
@@ -264,7 +264,7 @@ module _ (p : Program) (there : Labels) (w ra l : ℕ) (items : List AsmItem) (e
       let target : branch_target s (displacement w (there l)) ≡ word_address (there l) =
       ap (λ k. word_at (k + 4 + word_from (displacement w (there l) *ℤ pos 4))) stands ∙ near-target (displacement w (there l) *ℤ pos 4) w (there l) refl (omega (arith, below, n)) (omega (arith, m, n)) in
       let linked = if links op then with_register ra (next_pc s) s else s in
-      let t = record linked { pc = if is_taken op (register s ra) then branch_target s (displacement w (there l)) else next_pc s } in
+      let t = record linked { pc = if is_branch_taken op (register s ra) then branch_target s (displacement w (there l)) else next_pc s } in
       let is = fetched p w 0 (fields.Branch op ra (displacement w (there l)) ∷ []) (fields.Branch op ra (displacement w (there l))) s.pc h (omega arith) refl (stands ∙ ap word_address (sym none)) in
       record {
         to = t;
@@ -272,7 +272,7 @@ module _ (p : Program) (there : Labels) (w ra l : ℕ) (items : List AsmItem) (e
         some = one-some p s t (fields.Branch op ra (displacement w (there l))) is refl;
         next = w + 1;
         items_at = rest;
-        pc = chosen (is_taken op (register s ra)) target behind;
+        pc = chosen (is_branch_taken op (register s ra)) target behind;
         registers = λ r ne. ap (λ v. register (if links op then with_register ra v s else s) r) behind;
         words = link-words (links op) (next_pc s) (omega (arith, behind, below, n));
         same = same-through s linked t (link-same (links op) (next_pc s)) (same-at linked t.pc);
@@ -331,7 +331,7 @@ module _ (p : Program) (there : Labels) (w ra l : ℕ) (items : List AsmItem) (e
       front (suc (suc k)) lt = absurd (omega arith)
 
   -- an unconditional branch
-  always-done : (op : BranchOp) (jump : JumpOp) → links op ≡ true → is_taken op (register s ra) ≡ true → InsnsAt p w (far_jump jump ra) → ItemsAt p there (w + 3) items end → BranchDone p there op ra l items end s
+  always-done : (op : BranchOp) (jump : JumpOp) → links op ≡ true → is_branch_taken op (register s ra) ≡ true → InsnsAt p w (far_jump jump ra) → ItemsAt p there (w + 3) items end → BranchDone p there op ra l items end s
   always-done op jump linked taken h rest =
       let j = jumped jump ra w s r32 len stands h in
       record {
@@ -351,12 +351,12 @@ module _ (p : Program) (there : Labels) (w ra l : ℕ) (items : List AsmItem) (e
     to : State
     comes : Comes p s to
     some : 1 ≤ comes.steps
-    pc : to.pc ≡ word_address (if is_taken op (register s ra) then there l else w + 4)
+    pc : to.pc ≡ word_address (if is_branch_taken op (register s ra) then there l else w + 4)
     registers : (r : ℕ) → r ≢ 28 → register to r ≡ register s r
     words : HoldsWords s → HoldsWords to
     same : SameElse s to
 
-  conditional-far : (op : BranchOp) → links (inverse op) ≡ false → (b : Bool) → is_taken op (register s ra) ≡ b → is_taken (inverse op) (register s ra) ≡ not b → InsnsAt p w (fields.Branch (inverse op) ra (pos 3) ∷ far_jump Jmp 31) → FarDone op
+  conditional-far : (op : BranchOp) → links (inverse op) ≡ false → (b : Bool) → is_branch_taken op (register s ra) ≡ b → is_branch_taken (inverse op) (register s ra) ≡ not b → InsnsAt p w (fields.Branch (inverse op) ra (pos 3) ∷ far_jump Jmp 31) → FarDone op
   conditional-far op no_link b taken passed h =
       let none : w + 0 ≡ w = omega arith in
       let below = within-text p w (fields.Branch (inverse op) ra (pos 3) ∷ far_jump Jmp 31) h (omega arith) in
@@ -364,7 +364,7 @@ module _ (p : Program) (there : Labels) (w ra l : ℕ) (items : List AsmItem) (e
       let over : branch_target s (pos 3) ≡ word_address (w + 4) = ap (λ k. word_at (k + 4 + 12)) stands ∙ (let e : word_at (word_address w + 4 + 12) ≡ word_address (w + 4) = omega (arith, below, n) in e) in
       let behind : next_pc s ≡ word_address (w + 1) = ap (λ k. k + 4) stands ∙ (let e : word_address w + 4 ≡ word_address (w + 1) = omega arith in e) in
       let linked = if links (inverse op) then with_register ra (next_pc s) s else s in
-      let t = record linked { pc = if is_taken (inverse op) (register s ra) then branch_target s (pos 3) else next_pc s } in
+      let t = record linked { pc = if is_branch_taken (inverse op) (register s ra) then branch_target s (pos 3) else next_pc s } in
       let is = fetched p w 0 (fields.Branch (inverse op) ra (pos 3) ∷ far_jump Jmp 31) (fields.Branch (inverse op) ra (pos 3)) s.pc h (omega arith) refl (stands ∙ ap word_address (sym none)) in
       let first = one-step p s t (fields.Branch (inverse op) ra (pos 3)) is refl in
       let some = one-some p s t (fields.Branch (inverse op) ra (pos 3)) is refl in
@@ -375,7 +375,7 @@ module _ (p : Program) (there : Labels) (w ra l : ℕ) (items : List AsmItem) (e
       jump-at : InsnsAt p (w + 1) (far_jump Jmp 31)
       jump-at k lt = let e : w + 1 + k ≡ w + suc k = omega arith in ap (λ j. instruction_at p (word_address j)) e ∙ h (suc k) (omega arith)
 
-      by_test : (b : Bool) → is_taken op (register s ra) ≡ b → (if is_taken (inverse op) (register s ra) then branch_target s (pos 3) else next_pc s) ≡ (if not b then branch_target s (pos 3) else next_pc s) → branch_target s (pos 3) ≡ word_address (w + 4) → next_pc s ≡ word_address (w + 1) → (t : State) (first : Comes p s t) → 1 ≤ first.steps → SameElse s t → ((r : ℕ) → register t r ≡ register s r) → t.pc ≡ (if is_taken (inverse op) (register s ra) then branch_target s (pos 3) else next_pc s) → FarDone op
+      by_test : (b : Bool) → is_branch_taken op (register s ra) ≡ b → (if is_branch_taken (inverse op) (register s ra) then branch_target s (pos 3) else next_pc s) ≡ (if not b then branch_target s (pos 3) else next_pc s) → branch_target s (pos 3) ≡ word_address (w + 4) → next_pc s ≡ word_address (w + 1) → (t : State) (first : Comes p s t) → 1 ≤ first.steps → SameElse s t → ((r : ℕ) → register t r ≡ register s r) → t.pc ≡ (if is_branch_taken (inverse op) (register s ra) then branch_target s (pos 3) else next_pc s) → FarDone op
       by_test false taken at over behind t first some same regs tpc = record {
         to = t;
         comes = first;
@@ -413,14 +413,14 @@ module _ (p : Program) (there : Labels) (w ra l : ℕ) (items : List AsmItem) (e
   far-done : (op : BranchOp) → InsnsAt p w (far_insns op ra (word_address (there l))) → ItemsAt p there (w + item_words true (Branch op ra l)) items end → BranchDone p there op ra l items end s
   far-done Br h rest = always-done Br Jmp refl refl h rest
   far-done Bsr h rest = always-done Bsr Jsr refl refl h rest
-  far-done Blbc h rest = far-branch Blbc refl (conditional-far Blbc refl (is_taken Blbc (register s ra)) refl (odd_not_even (register s ra)) h) rest
-  far-done Blbs h rest = far-branch Blbs refl (conditional-far Blbs refl (is_taken Blbs (register s ra)) refl (even_not_odd (register s ra)) h) rest
-  far-done Beq h rest = far-branch Beq refl (conditional-far Beq refl (is_taken Beq (register s ra)) refl refl h) rest
-  far-done Bne h rest = far-branch Bne refl (conditional-far Bne refl (is_taken Bne (register s ra)) refl (sym (not_not (is_taken Beq (register s ra)))) h) rest
-  far-done Blt h rest = far-branch Blt refl (conditional-far Blt refl (is_taken Blt (register s ra)) refl refl h) rest
-  far-done Bge h rest = far-branch Bge refl (conditional-far Bge refl (is_taken Bge (register s ra)) refl (sym (not_not (is_taken Blt (register s ra)))) h) rest
-  far-done Ble h rest = far-branch Ble refl (conditional-far Ble refl (is_taken Ble (register s ra)) refl (sym (not_not (is_taken Bgt (register s ra)))) h) rest
-  far-done Bgt h rest = far-branch Bgt refl (conditional-far Bgt refl (is_taken Bgt (register s ra)) refl refl h) rest
+  far-done Blbc h rest = far-branch Blbc refl (conditional-far Blbc refl (is_branch_taken Blbc (register s ra)) refl (odd_not_even (register s ra)) h) rest
+  far-done Blbs h rest = far-branch Blbs refl (conditional-far Blbs refl (is_branch_taken Blbs (register s ra)) refl (even_not_odd (register s ra)) h) rest
+  far-done Beq h rest = far-branch Beq refl (conditional-far Beq refl (is_branch_taken Beq (register s ra)) refl refl h) rest
+  far-done Bne h rest = far-branch Bne refl (conditional-far Bne refl (is_branch_taken Bne (register s ra)) refl (sym (not_not (is_branch_taken Beq (register s ra)))) h) rest
+  far-done Blt h rest = far-branch Blt refl (conditional-far Blt refl (is_branch_taken Blt (register s ra)) refl refl h) rest
+  far-done Bge h rest = far-branch Bge refl (conditional-far Bge refl (is_branch_taken Bge (register s ra)) refl (sym (not_not (is_branch_taken Blt (register s ra)))) h) rest
+  far-done Ble h rest = far-branch Ble refl (conditional-far Ble refl (is_branch_taken Ble (register s ra)) refl (sym (not_not (is_branch_taken Bgt (register s ra)))) h) rest
+  far-done Bgt h rest = far-branch Bgt refl (conditional-far Bgt refl (is_branch_taken Bgt (register s ra)) refl refl h) rest
 
   branch-done : (op : BranchOp) (far : Bool) → InsnsAt p w (item_insns there (data_start p) w far (Branch op ra l)) → ItemsAt p there (w + item_words far (Branch op ra l)) items end → BranchDone p there op ra l items end s
   branch-done op false h rest = near-done op h rest

@@ -4,7 +4,7 @@ use Rattle.alpha_isa.specs.declared.insn.Fields.{Fields}
 use Rattle.alpha_isa.specs.declared.insn.BranchOp.{BranchOp}
 use Rattle.alpha_isa.specs.Program.{Program, IsLawful, data_start, word_address}
 use Rattle.alpha_isa.specs.State.{State, register, with_register}
-use Rattle.alpha_isa.specs.Step.{Halt, Goes, Over, insn_step, exec, is_taken, links}
+use Rattle.alpha_isa.specs.Step.{Halt, Goes, Over, insn_step, exec, is_branch_taken, links}
 use Rattle.alpha_items.specs.declared.item.AsmItem.{AsmItem}
 use Rattle.alpha_items.specs.declared.item.AsmItem.TheVariants.{Plain, Branch, TextAddress, DataAddress}
 use Rattle.item_steps.specs.Standing.{Labels, ItemsAt}
@@ -87,7 +87,7 @@ pub record BranchDone (p : Program) (there : Labels) (op : BranchOp) (ra l : ℕ
   pub some : 1 ≤ comes.steps
   pub next : ℕ
   pub items_at : ItemsAt p there next items end
-  pub pc : to.pc ≡ word_address (if is_taken op (register s ra) then there l else next)
+  pub pc : to.pc ≡ word_address (if is_branch_taken op (register s ra) then there l else next)
   pub registers : (r : ℕ) → r ≢ 28 →
       register to r ≡ register (if links op then with_register ra (word_address next) s else s) r
   pub words : HoldsWords s → HoldsWords to

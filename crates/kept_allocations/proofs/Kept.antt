@@ -13,10 +13,10 @@ use Rattle.alloc_model.specs.declared.allocation.EdgeCode.{EdgeCode}
 use Rattle.alloc_model.specs.Effect.{Holder, Temp, Fixed, Incoming, Outgoing}
 use Rattle.alloc_model.specs.Temporaries.{flows_out}
 use Rattle.alloc_model.specs.Places.{Place, Reg, Plan, registers_at, transfers_at}
-use Rattle.alloc_model.specs.Faithful.{Includes, MovesAsk, ReadsAsk, FixedAsk, IsGivenRegister, KeepsEdge, before, move_all, at_top, at_entry, at_bottom, Faithful}
+use Rattle.alloc_model.specs.Faithful.{Includes, MovesAsk, ReadsAsk, FixedAsk, IsGivenRegister, KeepsEdge, held_before, move_all, at_top, at_entry, at_bottom, Faithful}
 use Rattle.kept_allocations.specs.declared.registers.KeptRegister.{KeptRegister}
 use Rattle.kept_allocations.specs.declared.registers.KeptRegister.TheVariants.{Register9, Register10, Register11, Register12, Register13, Register14, Register15}
-use Rattle.kept_allocations.specs.Keeping.{kept_number, keeping, no_transfers, stated_registers, kept_plan}
+use Rattle.kept_allocations.specs.Keeping.{kept_number, kept_sum, no_transfers, stated_registers, kept_plan}
 use Rattle.kept_allocations.proofs.Lists.{each_insn, lists}
 
 -- what is known of a register that is kept
@@ -48,38 +48,38 @@ module _ (r : ℕ) (kept : IsKept r) (value : ℤ) (callee : ℕ) where
   a = kept_plan r value callee
 
   -- the value behind the first instruction, behind the call, and where the answer is taken
-  value_1 : before a 0 1 (Temp 0) (Reg r)
+  value_1 : held_before a 0 1 (Temp 0) (Reg r)
   value_1 = inr (refl, refl)
 
-  value_2 : before a 0 2 (Temp 0) (Reg r)
+  value_2 : held_before a 0 2 (Temp 0) (Reg r)
   value_2 = inl (((value_1, kept.stays), fixed_apart 0 0), registers_apart r 0 (λ e. let high = kept.high in omega (arith, e, high)))
 
-  value_3 : before a 0 3 (Temp 0) (Reg r)
+  value_3 : held_before a 0 3 (Temp 0) (Reg r)
   value_3 = inl (((value_2, refl), temps_apart 0 1 (λ e. omega (arith, e))), registers_apart r 1 (λ e. let high = kept.high in omega (arith, e, high)))
 
-  answer_2 : before a 0 2 (Fixed 0) (Reg 0)
+  answer_2 : held_before a 0 2 (Fixed 0) (Reg 0)
   answer_2 = inr (refl, refl)
 
-  answer_3 : before a 0 3 (Temp 1) (Reg 1)
+  answer_3 : held_before a 0 3 (Temp 1) (Reg 1)
   answer_3 = inr (refl, refl)
 
-  sum_4 : before a 0 4 (Temp 2) (Reg 2)
+  sum_4 : held_before a 0 4 (Temp 2) (Reg 2)
   sum_4 = inr (refl, refl)
 
-  result_5 : before a 0 5 (Fixed 0) (Reg 0)
+  result_5 : held_before a 0 5 (Fixed 0) (Reg 0)
   result_5 = inr (refl, refl)
 
   -- ---- what is asked for
 
-  moves : (block at : ℕ) (i : TempInsn) → insn_at a.function.blocks block at ≡ Some i → MovesAsk (transfers_at a block at) (before a block at)
-  moves = each_insn value callee (λ block at i. MovesAsk (transfers_at a block at) (before a block at)) tt tt tt tt tt tt
+  moves : (block at : ℕ) (i : TempInsn) → insn_at a.function.blocks block at ≡ Some i → MovesAsk (transfers_at a block at) (held_before a block at)
+  moves = each_insn value callee (λ block at i. MovesAsk (transfers_at a block at) (held_before a block at)) tt tt tt tt tt tt
 
-  temps_read : (block at : ℕ) (i : TempInsn) → insn_at a.function.blocks block at ≡ Some i → ReadsAsk (reads_of i) (registers_at a block at) (move_all (transfers_at a block at) (before a block at))
-  temps_read = each_insn value callee (λ block at i. ReadsAsk (reads_of i) (registers_at a block at) (move_all (transfers_at a block at) (before a block at)))
+  temps_read : (block at : ℕ) (i : TempInsn) → insn_at a.function.blocks block at ≡ Some i → ReadsAsk (reads_of i) (registers_at a block at) (move_all (transfers_at a block at) (held_before a block at))
+  temps_read = each_insn value callee (λ block at i. ReadsAsk (reads_of i) (registers_at a block at) (move_all (transfers_at a block at) (held_before a block at)))
       tt tt tt (value_3, (answer_3, tt)) (sum_4, tt) tt
 
-  fixed_read : (block at : ℕ) (i : TempInsn) → insn_at a.function.blocks block at ≡ Some i → FixedAsk (fixed_reads_of i) (move_all (transfers_at a block at) (before a block at))
-  fixed_read = each_insn value callee (λ block at i. FixedAsk (fixed_reads_of i) (move_all (transfers_at a block at) (before a block at)))
+  fixed_read : (block at : ℕ) (i : TempInsn) → insn_at a.function.blocks block at ≡ Some i → FixedAsk (fixed_reads_of i) (move_all (transfers_at a block at) (held_before a block at))
+  fixed_read = each_insn value callee (λ block at i. FixedAsk (fixed_reads_of i) (move_all (transfers_at a block at) (held_before a block at)))
       tt tt (answer_2, tt) tt tt (result_5, tt)
 
   -- ---- the ends of the block
@@ -94,18 +94,18 @@ module _ (r : ℕ) (kept : IsKept r) (value : ℤ) (callee : ℕ) where
       each (Incoming k) p h = absurd h
       each (Outgoing k) p h = absurd h
 
-  bottoms : (block : ℕ) (insns : List TempInsn) → slice_get a.function.blocks block ≡ Some insns → Includes (before a block (length insns)) (at_bottom a block insns)
+  bottoms : (block : ℕ) (insns : List TempInsn) → slice_get a.function.blocks block ≡ Some insns → Includes (held_before a block (length insns)) (at_bottom a block insns)
   bottoms (suc block) insns e = absurd (none-some insns e)
   bottoms zero insns e = record { each = each }
     where
-      each : (n : Holder) (p : Place) → at_bottom a 0 insns n p → before a 0 (length insns) n p
+      each : (n : Holder) (p : Place) → at_bottom a 0 insns n p → held_before a 0 (length insns) n p
       each (Temp t) p (live, (s, (k, within, is), same, place)) = absurd (omega (arith, within))
       each (Fixed k) p h = absurd h
       each (Incoming k) p h = absurd h
       each (Outgoing k) p h = absurd h
 
   abbrev Leaves : (block at : ℕ) → TempInsn → Type 0
-  Leaves block at i = (k to : ℕ) → slice_get (targets_of i) k ≡ Some to → KeepsEdge a block to (before a block (suc at))
+  Leaves block at i = (k to : ℕ) → slice_get (targets_of i) k ≡ Some to → KeepsEdge a block to (held_before a block (suc at))
 
   nowhere : (A : Type 0) (k to : ℕ) → slice_get {X = ℕ} [] k ≡ Some to → A
   nowhere A k to e = absurd (none-some to e)
@@ -117,9 +117,9 @@ module _ (r : ℕ) (kept : IsKept r) (value : ℤ) (callee : ℕ) where
   stays : false ≡ true → ⊥
   stays h = cc
 
-  follows : (block : ℕ) (insns : List TempInsn) → slice_get a.function.blocks block ≡ Some insns → flows_out insns ≡ true → KeepsEdge a block (suc block) (before a block (length insns))
+  follows : (block : ℕ) (insns : List TempInsn) → slice_get a.function.blocks block ≡ Some insns → flows_out insns ≡ true → KeepsEdge a block (suc block) (held_before a block (length insns))
   follows (suc block) insns e = absurd (none-some insns e)
-  follows zero insns e = subst (λ xs. flows_out xs ≡ true → KeepsEdge a 0 1 (before a 0 (length xs))) (same_Some _ insns e) (λ out. absurd (stays out))
+  follows zero insns e = subst (λ xs. flows_out xs ≡ true → KeepsEdge a 0 1 (held_before a 0 (length xs))) (same_Some _ insns e) (λ out. absurd (stays out))
 
   is_faithful : Faithful a
   is_faithful = record {
@@ -143,7 +143,7 @@ faithful_so k value callee p same = subst Faithful same (kept_is_faithful k valu
 
 -- the plan of an allocation that was made of these lists
 pub plan_is : (k : KeptRegister) (value : ℤ) (callee params temps : ℕ) (objects : List MemoryLocal) (blocks : List (List TempInsn)) (top bottom : List (List TempPlace)) (at : List (List Transfer)) (regs : List (List ℕ))
-    (edges : List EdgeCode) → params ≡ 0 → temps ≡ 3 → objects ≡ [] → blocks ≡ keeping value callee ∷ [] → top ≡ [] ∷ [] → bottom ≡ [] ∷ [] → at ≡ no_transfers → regs ≡ stated_registers (kept_number k) → edges ≡ [] →
+    (edges : List EdgeCode) → params ≡ 0 → temps ≡ 3 → objects ≡ [] → blocks ≡ kept_sum value callee ∷ [] → top ≡ [] ∷ [] → bottom ≡ [] ∷ [] → at ≡ no_transfers → regs ≡ stated_registers (kept_number k) → edges ≡ [] →
     record {
       function = record { sizes = map (λ o. o.size) objects; blocks = blocks };
       params = params;

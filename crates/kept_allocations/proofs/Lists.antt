@@ -13,12 +13,12 @@ use Rattle.temp_ir.specs.declared.insn.TempInsn.TheVariants.{Address, Call, From
 use Rattle.temp_ir.specs.Insns.{reads_of, writes_of}
 use Rattle.alloc_model.specs.Places.{registers_at}
 use Rattle.alloc_model.specs.Faithful.{IsGivenRegister, IsStanding, IsTransfer, HasLists}
-use Rattle.kept_allocations.specs.Keeping.{keeping, stated_registers, no_transfers, kept_plan}
+use Rattle.kept_allocations.specs.Keeping.{kept_sum, stated_registers, no_transfers, kept_plan}
 
 -- what is said of each instruction
 module _ (value : ℤ) (callee : ℕ) (P : (block at : ℕ) → TempInsn → Type 0) (puts : P 0 0 (Address Lda 0 first.Zero value)) (calls : P 0 1 (Call callee 0))
     (takes : P 0 2 (FromFixed 1 Value)) (adds : P 0 3 (Operate Addq 2 (first.Temp 0) (second.Temp 1))) (gives : P 0 4 (ToFixed Value 2)) (returns : P 0 5 (Return true)) where
-  pub each_insn : (block at : ℕ) (i : TempInsn) → insn_at (keeping value callee ∷ []) block at ≡ Some i → P block at i
+  pub each_insn : (block at : ℕ) (i : TempInsn) → insn_at (kept_sum value callee ∷ []) block at ≡ Some i → P block at i
   each_insn zero zero i e = subst (P 0 0) (same_Some _ i e) puts
   each_insn zero (suc zero) i e = subst (P 0 1) (same_Some _ i e) calls
   each_insn zero (suc (suc zero)) i e = subst (P 0 2) (same_Some _ i e) takes

@@ -24,8 +24,8 @@ kept_number Register14 = 14
 kept_number Register15 = 15
 
 -- the sum of a value and of what a function returns that is called behind it
-abbrev pub keeping : (value : ℤ) → (callee : ℕ) → List TempInsn
-keeping value callee =
+abbrev pub kept_sum : (value : ℤ) → (callee : ℕ) → List TempInsn
+kept_sum value callee =
     Address Lda 0 first.Zero value ∷ Call callee 0 ∷ FromFixed 1 Value
     ∷ Operate Addq 2 (first.Temp 0) (second.Temp 1) ∷ ToFixed Value 2 ∷ Return true ∷ []
 
@@ -39,7 +39,7 @@ no_transfers = [] ∷ [] ∷ [] ∷ [] ∷ [] ∷ [] ∷ []
 
 abbrev pub kept_plan : (register : ℕ) → (value : ℤ) → (callee : ℕ) → Plan
 kept_plan register value callee = record {
-  function = record { sizes = []; blocks = keeping value callee ∷ [] };
+  function = record { sizes = []; blocks = kept_sum value callee ∷ [] };
   params = 0;
   temps = 3;
   top = [] ∷ [];

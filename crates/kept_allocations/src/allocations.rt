@@ -31,7 +31,7 @@ const SUM_REGISTER: u8 = 2;
 
 /// The one block.
 fn keeping(alloc: Global, value: i16, callee: u32) -> Result<Block<TempInsn>, AllocError>
-    ensures { IfOk result (λ block. block ≡ spec.keeping value callee) }
+    ensures { IfOk result (λ block. block ≡ spec.kept_sum value callee) }
 {
     let mut block = Block::new(alloc);
     block.push(TempInsn::Address {
@@ -73,7 +73,7 @@ fn function(
     ensures params { IfOk result (λ f. f.params ≡ 0) }
     ensures temps { IfOk result (λ f. f.temps ≡ 3) }
     ensures objects { IfOk result (λ f. f.objects ≡ []) }
-    ensures blocks { IfOk result (λ f. f.blocks ≡ spec.keeping value callee ∷ []) }
+    ensures blocks { IfOk result (λ f. f.blocks ≡ spec.kept_sum value callee ∷ []) }
 {
     let name = Name::from_slice(alloc, name)?;
     let mut blocks = Seq::new(alloc);

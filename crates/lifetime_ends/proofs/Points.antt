@@ -11,7 +11,7 @@ use Rattle.temp_ir.specs.declared.insn.TempInsn.{TempInsn}
 use Rattle.temp_ir.specs.Insns.{reads_of, writes_of}
 use Rattle.alloc_model.specs.Lifetimes.{Blocks}
 use Rattle.bitvector_flow.specs.Flows.{has_at}
-use Rattle.bitvector_flow.specs.Lives.{names, reads_first, write}
+use Rattle.bitvector_flow.specs.Lives.{has_register, reads_first, some_writes}
 use Rattle.bitvector_flow.proofs.Unions.{written_back}
 use Rattle.bitvector_flow.proofs.Lives.{either, or_cases, and_right, names_of, of_names, drop_first}
 use Rattle.lifetime_ends.specs.Wanted.{live_in, live_by, present_at, present_from, present_in, wants_of}
@@ -40,17 +40,17 @@ module _ (whole : List TempInsn) (bottom : List Bool) (t : ℕ) where
   live_cases : (at : ℕ) (xs : List TempInsn) → drop at whole ≡ xs → Live at ≡ true → (reads_first reads_of writes_of xs t ≡ true) ⊎ (has bottom t ≡ true)
   live_cases at xs e h =
       ⊎_elim (λ first. inl (sym (ap (λ ys. reads_first reads_of writes_of ys t) e) ∙ first))
-      (λ rest. inr (and_right (write writes_of (drop at whole) t) (has bottom t) rest))
-      (or_cases (reads_first reads_of writes_of (drop at whole) t) (not (write writes_of (drop at whole) t) && has bottom t)
-      (and_two (nat_le at (length whole)) (reads_first reads_of writes_of (drop at whole) t || (not (write writes_of (drop at whole) t) && has bottom t)) h))
+      (λ rest. inr (and_right (some_writes writes_of (drop at whole) t) (has bottom t) rest))
+      (or_cases (reads_first reads_of writes_of (drop at whole) t) (not (some_writes writes_of (drop at whole) t) && has bottom t)
+      (and_two (nat_le at (length whole)) (reads_first reads_of writes_of (drop at whole) t || (not (some_writes writes_of (drop at whole) t) && has bottom t)) h))
 
   -- what is read first is read later
   read_later : (xs : List TempInsn) (number : ℕ) → reads_first reads_of writes_of xs t ≡ true → (q : ℕ) × (2 * number ≤ q) × IsOfInsns number xs t q
   read_later [] number h = let no : ⊥ = cc in absurd no
   read_later (x ∷ xs) number h =
       ⊎_elim (λ here. (2 * number, omega arith, inl (inl (of_names (reads_of x) t here, refl))))
-      (λ rest. further (read_later xs (suc number) (and_right (names (writes_of x) t) (reads_first reads_of writes_of xs t) rest)))
-      (or_cases (names (reads_of x) t) (not (names (writes_of x) t) && reads_first reads_of writes_of xs t) h)
+      (λ rest. further (read_later xs (suc number) (and_right (has_register (writes_of x) t) (reads_first reads_of writes_of xs t) rest)))
+      (or_cases (has_register (reads_of x) t) (not (has_register (writes_of x) t) && reads_first reads_of writes_of xs t) h)
     where
       further : (q : ℕ) × (2 * suc number ≤ q) × IsOfInsns (suc number) xs t q → (q : ℕ) × (2 * number ≤ q) × IsOfInsns number (x ∷ xs) t q
       further (q, low, is) = (q, omega (arith, low), inr is)
@@ -66,16 +66,16 @@ module _ (whole : List TempInsn) (bottom : List Bool) (t : ℕ) where
   at_marked : (number p at : ℕ) (x : TempInsn) (xs : List TempInsn) → drop at whole ≡ x ∷ xs → present_at Live t p number at x ≡ true → (q : ℕ) × (p ≤ q) × Marked number (x ∷ xs) q
   at_marked number p at x xs e h =
       ⊎_elim
-      (λ early. let place : p ≡ 2 * number = eqb-true p (2 * number) (and_one (p == 2 * number) (names (reads_of x) t || Live at) early) in
+      (λ early. let place : p ≡ 2 * number = eqb-true p (2 * number) (and_one (p == 2 * number) (has_register (reads_of x) t || Live at) early) in
       ⊎_elim (λ here. (p, omega arith, inl (inl (inl (of_names (reads_of x) t here, place)))))
       (λ live. ⊎_elim (λ first. low p place (read_later (x ∷ xs) number first)) (λ end. behind_last number p x xs (omega (arith, place)) end) (live_cases at (x ∷ xs) e live))
-      (or_cases (names (reads_of x) t) (Live at) (and_two (p == 2 * number) (names (reads_of x) t || Live at) early)))
-      (λ late. let place : p ≡ 2 * number + 1 = eqb-true p (2 * number + 1) (and_one (p == 2 * number + 1) (names (writes_of x) t || Live (suc at)) late) in
+      (or_cases (has_register (reads_of x) t) (Live at) (and_two (p == 2 * number) (has_register (reads_of x) t || Live at) early)))
+      (λ late. let place : p ≡ 2 * number + 1 = eqb-true p (2 * number + 1) (and_one (p == 2 * number + 1) (has_register (writes_of x) t || Live (suc at)) late) in
       let next = (drop_first whole at x xs e).1 in
       ⊎_elim (λ here. (p, omega arith, inl (inl (inr (of_names (writes_of x) t here, place)))))
       (λ live. ⊎_elim (λ first. high p place (read_later xs (suc number) first)) (λ end. behind_last number p x xs (omega (arith, place)) end) (live_cases (suc at) xs next live))
-      (or_cases (names (writes_of x) t) (Live (suc at)) (and_two (p == 2 * number + 1) (names (writes_of x) t || Live (suc at)) late)))
-      (or_cases ((p == 2 * number) && (names (reads_of x) t || Live at)) ((p == 2 * number + 1) && (names (writes_of x) t || Live (suc at))) h)
+      (or_cases (has_register (writes_of x) t) (Live (suc at)) (and_two (p == 2 * number + 1) (has_register (writes_of x) t || Live (suc at)) late)))
+      (or_cases ((p == 2 * number) && (has_register (reads_of x) t || Live at)) ((p == 2 * number + 1) && (has_register (writes_of x) t || Live (suc at))) h)
     where
       low : (p : ℕ) → p ≡ 2 * number → (q : ℕ) × (2 * number ≤ q) × IsOfInsns number (x ∷ xs) t q → (q : ℕ) × (p ≤ q) × Marked number (x ∷ xs) q
       low p place (q, below, is) = (q, omega (arith, below, place), inl is)
@@ -99,21 +99,21 @@ module _ (whole : List TempInsn) (bottom : List Bool) (t : ℕ) where
 
   live_at_end : (at : ℕ) → at ≡ length whole → has bottom t ≡ true → drop at whole ≡ [] → Live at ≡ true
   live_at_end at is h e =
-      and_of (nat_le at (length whole)) (reads_first reads_of writes_of (drop at whole) t || (not (write writes_of (drop at whole) t) && has bottom t))
+      and_of (nat_le at (length whole)) (reads_first reads_of writes_of (drop at whole) t || (not (some_writes writes_of (drop at whole) t) && has bottom t))
       (le-leb at (length whole) (omega (arith, is)))
-      (ap (λ ys. reads_first reads_of writes_of ys t || (not (write writes_of ys t) && has bottom t)) e ∙ h)
+      (ap (λ ys. reads_first reads_of writes_of ys t || (not (some_writes writes_of ys t) && has bottom t)) e ∙ h)
 
   pub marked_point : (xs : List TempInsn) (number at p : ℕ) → drop at whole ≡ xs → at + length xs ≡ length whole → Marked number xs p → present_from Live t p number at xs ≡ true
   marked_point [] number at p e count (inl m) = absurd m
   marked_point [] number at p e count (inr b) = absurd (let some = b.some in omega (arith, some))
   marked_point (x ∷ xs) number at p e count (inl (inl (inl (is, place)))) =
       either (present_at Live t p number at x) (present_from Live t p (suc number) (suc at) xs) (inl
-      (either ((p == 2 * number) && (names (reads_of x) t || Live at)) ((p == 2 * number + 1) && (names (writes_of x) t || Live (suc at))) (inl
-      (and_of (p == 2 * number) (names (reads_of x) t || Live at) (eq-eqb p (2 * number) place) (either (names (reads_of x) t) (Live at) (inl (names_of (reads_of x) t is)))))))
+      (either ((p == 2 * number) && (has_register (reads_of x) t || Live at)) ((p == 2 * number + 1) && (has_register (writes_of x) t || Live (suc at))) (inl
+      (and_of (p == 2 * number) (has_register (reads_of x) t || Live at) (eq-eqb p (2 * number) place) (either (has_register (reads_of x) t) (Live at) (inl (names_of (reads_of x) t is)))))))
   marked_point (x ∷ xs) number at p e count (inl (inl (inr (is, place)))) =
       either (present_at Live t p number at x) (present_from Live t p (suc number) (suc at) xs) (inl
-      (either ((p == 2 * number) && (names (reads_of x) t || Live at)) ((p == 2 * number + 1) && (names (writes_of x) t || Live (suc at))) (inr
-      (and_of (p == 2 * number + 1) (names (writes_of x) t || Live (suc at)) (eq-eqb p (2 * number + 1) place) (either (names (writes_of x) t) (Live (suc at)) (inl (names_of (writes_of x) t is)))))))
+      (either ((p == 2 * number) && (has_register (reads_of x) t || Live at)) ((p == 2 * number + 1) && (has_register (writes_of x) t || Live (suc at))) (inr
+      (and_of (p == 2 * number + 1) (has_register (writes_of x) t || Live (suc at)) (eq-eqb p (2 * number + 1) place) (either (has_register (writes_of x) t) (Live (suc at)) (inl (names_of (writes_of x) t is)))))))
   marked_point (x ∷ xs) number at p e count (inl (inr is)) =
       either (present_at Live t p number at x) (present_from Live t p (suc number) (suc at) xs) (inr
       (marked_point xs (suc number) (suc at) p (drop_first whole at x xs e).1 (omega (arith, count)) (inl is)))
@@ -121,8 +121,8 @@ module _ (whole : List TempInsn) (bottom : List Bool) (t : ℕ) where
       let place = b.is in
       let end : Live (suc at) ≡ true = live_at_end (suc at) (omega (arith, count)) b.live (drop_first whole at x [] e).1 in
       either (present_at Live t p number at x) (present_from Live t p (suc number) (suc at) []) (inl
-      (either ((p == 2 * number) && (names (reads_of x) t || Live at)) ((p == 2 * number + 1) && (names (writes_of x) t || Live (suc at))) (inr
-      (and_of (p == 2 * number + 1) (names (writes_of x) t || Live (suc at)) (eq-eqb p (2 * number + 1) (omega (arith, place))) (either (names (writes_of x) t) (Live (suc at)) (inr end))))))
+      (either ((p == 2 * number) && (has_register (reads_of x) t || Live at)) ((p == 2 * number + 1) && (has_register (writes_of x) t || Live (suc at))) (inr
+      (and_of (p == 2 * number + 1) (has_register (writes_of x) t || Live (suc at)) (eq-eqb p (2 * number + 1) (omega (arith, place))) (either (has_register (writes_of x) t) (Live (suc at)) (inr end))))))
   marked_point (x ∷ y ∷ ys) number at p e count (inr b) =
       let place = b.is in
       either (present_at Live t p number at x) (present_from Live t p (suc number) (suc at) (y ∷ ys)) (inr

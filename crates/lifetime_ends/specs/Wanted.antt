@@ -6,7 +6,7 @@ use Rattle.alloc_model.specs.Places.{Plan}
 use Rattle.alloc_model.specs.Lifetimes.{Blocks}
 use Rattle.alloc_rules.specs.Visits.{Wants, AreWants}
 use Rattle.bitvector_flow.specs.Flows.{has_at}
-use Rattle.bitvector_flow.specs.Lives.{names, reads_first, write, AreLive}
+use Rattle.bitvector_flow.specs.Lives.{has_register, reads_first, some_writes, AreLive}
 
 -- a temporary is live at a place of a block: what is left there reads it first; or does not write it, and it is live at
 -- the bottom
@@ -14,7 +14,8 @@ abbrev pub live_in : Option (List TempInsn) → (at_bottom : Bool) → (t at : �
 live_in None at_bottom t at = false
 live_in (Some insns) at_bottom t at =
     nat_le at (length insns)
-    && (reads_first reads_of writes_of (drop at insns) t || (not (write writes_of (drop at insns) t) && at_bottom))
+    && (reads_first reads_of writes_of (drop at insns) t
+    || (not (some_writes writes_of (drop at insns) t) && at_bottom))
 
 abbrev pub live_by : Blocks → (bottoms : List (List Bool)) → (t block at : ℕ) → Bool
 live_by blocks bottoms t block at = live_in (slice_get blocks block) (has_at bottoms block t) t at
@@ -23,8 +24,8 @@ live_by blocks bottoms t block at = live_in (slice_get blocks block) (has_at bot
 -- it is live behind, at the point of writing
 abbrev pub present_at : (live : (at : ℕ) → Bool) → (t point number at : ℕ) → TempInsn → Bool
 present_at live t point number at x =
-    ((point == 2 * number) && (names (reads_of x) t || live at))
-    || ((point == 2 * number + 1) && (names (writes_of x) t || live (suc at)))
+    ((point == 2 * number) && (has_register (reads_of x) t || live at))
+    || ((point == 2 * number + 1) && (has_register (writes_of x) t || live (suc at)))
 
 -- so it is at one of the instructions of a block from a place on, of which the first has this number
 abbrev pub present_from : (live : (at : ℕ) → Bool) → (t point number at : ℕ) → List TempInsn → Bool

@@ -16,7 +16,7 @@ use Rattle.c_typed_tree.specs.Expressions.{Expr, Number, Local, Global, Call, Un
 use Rattle.c_typed_tree.specs.Statements.{LocalDeclaration, First, Stmt, Else, no_else, else_stmt, Stmts, no_stmts, more_stmts, Sections, no_sections, more_sections}
 use Rattle.c_typed_tree.specs.Statements as q
 use Rattle.c_typed_tree.specs.Counts.{expr_nodes, exprs_nodes, optional_nodes}
-use Rattle.c_typed_tree.specs.Typing.{is_same_type, is_void, is_array, is_scalar, is_promoted, is_type, depth_of, most_depth, Context, is_fit, is_typed, are_typed, has_rule, are_operands}
+use Rattle.c_typed_tree.specs.Typing.{is_same_type, is_void, is_array, is_scalar, is_promoted, is_valid_type, depth_of, most_depth, Context, is_fit, is_typed, are_typed, has_rule, are_operands}
 use Rattle.c_typed_tree.specs.TypingStatements.{Jumps, no_jumps, in_loop, in_switch, is_condition, is_optional_value, is_optional_condition, has_initialised_type, is_initialiser, is_declared, is_first, is_returned, are_labels, is_typed_stmt, is_typed_else, are_typed_stmts, are_typed_sections}
 use Rattle.c_typed_tree.specs.Weight.{expr_weight, exprs_weight, exprs_count, optional_weight, init_weight, declared_weight, first_weight, stmt_weight, else_weight, stmts_weight, sections_weight, function_weight}
 use Rattle.c_typed_tree.specs.Lawful.{IsLawfulStruct, IsTypedFn, context_of, is_lawful_local, is_object_type, type_of_local}
@@ -240,9 +240,9 @@ local_size : (ds : List StructDef) → All (IsLawfulStruct ds) ds → (l : ul.Lo
 local_size ds structs l h =
     let ty = type_of_local l in
     let whole = front (is_object_type ds ty) (is_scalar ty || l.in_memory) h in
-    let both = front (is_type ds ty && is_object ds ty) (nat_le (depth_of ds ty) most_depth) whole in
-    let object = back (is_type ds ty) (is_object ds ty) both in
-    (object, omega (arith, small (align_of ds ty) (aligned ds structs ty (front (is_type ds ty) (is_object ds ty) both) object)))
+    let both = front (is_valid_type ds ty && is_object ds ty) (nat_le (depth_of ds ty) most_depth) whole in
+    let object = back (is_valid_type ds ty) (is_object ds ty) both in
+    (object, omega (arith, small (align_of ds ty) (aligned ds structs ty (front (is_valid_type ds ty) (is_object ds ty) both) object)))
 
 -- ---- a function
 

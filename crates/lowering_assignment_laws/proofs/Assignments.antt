@@ -15,10 +15,10 @@ use Rattle.c_typed_tree.specs.View.{type_view}
 use Rattle.c_typed_tree.specs.Expressions.{Expr, Assign, type_of}
 use Rattle.c_typed_tree.specs.Expressions as e
 use Rattle.c_semantics.specs.Reasons.{UsesNoValue}
-use Rattle.c_semantics.specs.Runs.{CallState, Run, and_then, with_registers, with_register, use_value, pure, write_register}
+use Rattle.c_semantics.specs.Runs.{CallState, Run, and_then, with_registers, with_local_value, use_value, pure, write_register}
 use Rattle.c_semantics.specs.Objects as obj
 use Rattle.c_semantics.specs.Objects.{Scope, access, write, write_at}
-use Rattle.c_semantics.specs.Evaluates.{eval, place, assign, assign_place}
+use Rattle.c_semantics.specs.Evaluates.{eval, place, assign_value, assignment_value}
 use Rattle.suifvm_ir.specs.declared.types.VmType.TheVariants.{P64}
 use Rattle.suifvm_ir.specs.declared.insn.VmUnaryOp.TheVariants.{Move}
 use Rattle.suifvm_ir.specs.declared.insn.VmInsn.TheVariants as n
@@ -49,9 +49,9 @@ scalar_in f ty v w (inl t) h = subst (λ z. IsInRegister f z v w) t.1 h
 scalar_in f ty v w (inr t) h = subst (λ z. IsInRegister f z v w) t.1 h
 
 -- the value of an assignment to a register
-assigned_value : (ty : PlainType) (k : ℕ) (v : Value) → IsScalarType ty → assign_place ty (obj.Register k) v ≡ v
-assigned_value ty k v (inl t) = ap (λ z. assign_place z (obj.Register k) v) t.1
-assigned_value ty k v (inr t) = ap (λ z. assign_place z (obj.Register k) v) t.1
+assigned_value : (ty : PlainType) (k : ℕ) (v : Value) → IsScalarType ty → assignment_value ty (obj.Register k) v ≡ v
+assigned_value ty k v (inl t) = ap (λ z. assignment_value z (obj.Register k) v) t.1
+assigned_value ty k v (inr t) = ap (λ z. assignment_value z (obj.Register k) v) t.1
 
 module _ (c : Setting) (found : slice_get c.functions c.number ≡ Some c.code) where
   abbrev L : ℕ
@@ -64,18 +64,18 @@ module _ (c : Setting) (found : slice_get c.functions c.number ≡ Some c.code) 
         let reg = value_register L d ty in
         let within : k < length c.locals = slice_get_within c.locals k l el in
         let code_e = ap (λ z. assign_code L c.structs c.locals d None ty (type_of y) (plus_of L c.structs c.locals (e.Local ty k) 0) z (λ is. place_code L c.structs c.locals d (e.Local ty k) 0 is) (λ j is. expr_code L c.structs c.locals j y is) rest) (register_is c found k l el em) in
-        let run : Value → Run Value = λ v. assign c.structs ty (type_of y) None (obj.Register k) v in
-        meets_same c.rooms c.functions (ap (λ z. finish (and_then (z s) (λ q1 t. and_then (eval c.structs c.locals c.calls scope y t) (assign c.structs ty (type_of y) None q1))) K) (register_place c found k l scope el em))
+        let run : Value → Run Value = λ v. assign_value c.structs ty (type_of y) None (obj.Register k) v in
+        meets_same c.rooms c.functions (ap (λ z. finish (and_then (z s) (λ q1 t. and_then (eval c.structs c.locals c.calls scope y t) (assign_value c.structs ty (type_of y) None q1))) K) (register_place c found k l scope el em))
         (bound c found (eval c.structs c.locals c.calls scope y s) run K p1 r s.world m
         (hy.by d (move_code ty k reg rest) heads p1 f scope r s m (λ v t. finish (run v t) K) (subst (λ z. Stands c heads p1 z) code_e at) fit low
         (λ q v g t q1 m1 at1 aft fit1 kept held stands.
         let held1 : IsHeld ty v = subst (λ z. IsHeld z v) ey held in
         let stands1 : IsInRegister g ty v (q1 reg) = subst (λ z. IsInRegister g z v (q1 (value_register L d z))) ey stands in
         let rel = scalar_in g ty v (q1 reg) scalar stands1 in
-        let t1 : CallState = with_registers t (with_register t.registers k v) in
-        bound c found (and_then (use_value UsesNoValue v t) (write_register k)) (λ _. pure (assign_place ty (obj.Register k) v)) K q q1 t.world m1
-        (bound c found (use_value UsesNoValue v t) (write_register k) (λ _ u. K (assign_place ty (obj.Register k) v) u) q q1 t.world m1
-        (used_meets c.rooms c.functions UsesNoValue v t (λ v1 u. K (assign_place ty (obj.Register k) v) (with_registers u (with_register u.registers k v1))) _ (λ set.
+        let t1 : CallState = with_registers t (with_local_value t.registers k v) in
+        bound c found (and_then (use_value UsesNoValue v t) (write_register k)) (λ _. pure (assignment_value ty (obj.Register k) v)) K q q1 t.world m1
+        (bound c found (use_value UsesNoValue v t) (write_register k) (λ _ u. K (assignment_value ty (obj.Register k) v) u) q q1 t.world m1
+        (used_meets c.rooms c.functions UsesNoValue v t (λ v1 u. K (assignment_value ty (obj.Register k) v) (with_registers u (with_local_value u.registers k v1))) _ (λ set.
         meets_same c.rooms c.functions (ap (λ z. K z t1) (assigned_value ty k v scalar))
         (insn_on c found (n.Unary Move (register_type ty) k reg) q q1 t.world m1 (q1 reg ∷ []) at1.has.0 refl
         (ap (λ z. writes z (outer_with_memory t.world.outer m1)) (moves g ty v (q1 reg) scalar held1 rel set))
@@ -126,9 +126,9 @@ module _ (c : Setting) (found : slice_get c.functions c.number ≡ Some c.code) 
   scalar_code ty right d left place value rest (inr x) =
       subst (λ z. assign_code L c.structs c.locals d None z right left None place value rest ≡ place (value (suc d) (set_scalar_code L d left z rest))) (sym x.1) refl
 
-  put_value : (ty : PlainType) (at v : Value) → IsScalarType ty → assign_place ty (obj.At at) v ≡ v
-  put_value ty at v (inl x) = ap (λ z. assign_place z (obj.At at) v) x.1
-  put_value ty at v (inr x) = ap (λ z. assign_place z (obj.At at) v) x.1
+  put_value : (ty : PlainType) (at v : Value) → IsScalarType ty → assignment_value ty (obj.At at) v ≡ v
+  put_value ty at v (inl x) = ap (λ z. assignment_value z (obj.At at) v) x.1
+  put_value ty at v (inr x) = ap (λ z. assignment_value z (obj.At at) v) x.1
 
   pub objects : (ty : PlainType) (x y : Expr) → register_of L c.structs c.locals x ≡ None → IsScalarType ty → type_of y ≡ ty → PlaceMeets c x → ExprMeets c y → ExprMeets c (Assign ty a.Set x y)
   unfolding opens
@@ -139,12 +139,12 @@ module _ (c : Setting) (found : slice_get c.functions c.number ≡ Some c.code) 
         let code_e =
         ap (λ z. assign_code L c.structs c.locals d None ty (type_of y) left z (λ is. place_code L c.structs c.locals d x 0 is) (λ j is. expr_code L c.structs c.locals j y is) rest) none
         ∙ scalar_code ty (type_of y) d left (λ is. place_code L c.structs c.locals d x 0 is) (λ j is. expr_code L c.structs c.locals j y is) rest scalar in
-        let run : obj.ValuePlace → Run Value = λ z t. and_then (eval c.structs c.locals c.calls scope y t) (assign c.structs ty (type_of y) None z) in
+        let run : obj.ValuePlace → Run Value = λ z t. and_then (eval c.structs c.locals c.calls scope y t) (assign_value c.structs ty (type_of y) None z) in
         bound c found (place c.structs c.locals c.calls scope x s) run K p1 r s.world m
         (hx.by d 0 (expr_code L c.structs c.locals (suc d) y tail) heads p1 f scope r s m (λ z t. finish (run z t) K) (omega arith) (omega arith) (subst (λ z. Stands c heads p1 z) code_e at) fit low
         (λ q base place g t q1 m1 at1 aft fit1 kept held stands small is_base.
-        bound c found (eval c.structs c.locals c.calls scope y t) (assign c.structs ty (type_of y) None (obj.At place)) K q q1 t.world m1
-        (hy.by (suc d) tail heads q g scope q1 t m1 (λ v u. finish (assign c.structs ty (type_of y) None (obj.At place) v u) K) at1 fit1 (omega (arith, aft.turned, low))
+        bound c found (eval c.structs c.locals c.calls scope y t) (assign_value c.structs ty (type_of y) None (obj.At place)) K q q1 t.world m1
+        (hy.by (suc d) tail heads q g scope q1 t m1 (λ v u. finish (assign_value c.structs ty (type_of y) None (obj.At place) v u) K) at1 fit1 (omega (arith, aft.turned, low))
         (λ q2 v h u q3 m2 at2 aft2 fit2 kept2 held2 stands2.
         let held3 : IsHeld ty v = subst (λ z. IsHeld z v) ey held2 in
         let stands3 : IsInRegister h ty v (q3 (value_register L (suc d) ty)) = subst (λ z. IsInRegister h z v (q3 (value_register L (suc d) z))) ey stands2 in

@@ -15,7 +15,7 @@ use Rattle.c_typed_tree.specs.Expressions as e
 use Rattle.c_semantics.specs.Reasons.{ReadsUnwritten, UsesDeadObject}
 use Rattle.c_semantics.specs.Runs.{CallState, Run, and_then, use_value, pure, or_undefined}
 use Rattle.c_semantics.specs.Objects as obj
-use Rattle.c_semantics.specs.Objects.{Scope, start_of, as_held, read, read_at, local_place}
+use Rattle.c_semantics.specs.Objects.{Scope, start_pointer, as_held, read, read_at, local_place}
 use Rattle.suifvm_ir.specs.declared.types.VmType.TheVariants.{P64}
 use Rattle.suifvm_ir.specs.declared.insn.VmUnaryOp.TheVariants.{Move}
 use Rattle.suifvm_ir.specs.declared.insn.VmObject.TheVariants as p
@@ -24,7 +24,7 @@ use Rattle.vm_meaning.specs.declared.answer.Answer.TheVariants.{Gives, Fails}
 use Rattle.vm_meaning.specs.Operations as vm
 use Rattle.vm_meaning.specs.Effect.{writes}
 use Rattle.vm_meaning.specs.Behave.{set_register}
-use Rattle.lowering_code.specs.Registers.{register_type, value_register, address_register, object_of}
+use Rattle.lowering_code.specs.Registers.{register_type, value_register, address_register, object_index}
 use Rattle.lowering_code.specs.Expressions.{plain_of, register_if, local_code, load_code}
 use Rattle.lowering_states.specs.Places.{next_place}
 use Rattle.lowering_states.specs.Runs.{opens, CodeObservation, finish}
@@ -75,7 +75,7 @@ module _ (c : Setting) (found : slice_get c.functions c.number ≡ Some c.code) 
   pub register_place : (k : ℕ) (l : Local) (scope : Scope) → slice_get c.locals k ≡ Some l → l.in_memory ≡ false → local_place scope k (slice_get c.locals k) ≡ pure (obj.Register k)
   unfolding opens
   register_place k l scope e m =
-      ap (local_place scope k) e ∙ ap (λ z. if◌then◌else◌ {A = Run obj.ValuePlace} z (λ t. and_then (or_undefined UsesDeadObject (scope k) t) (λ o. pure (obj.At (start_of o)))) (pure (obj.Register k))) m
+      ap (local_place scope k) e ∙ ap (λ z. if◌then◌else◌ {A = Run obj.ValuePlace} z (λ t. and_then (or_undefined UsesDeadObject (scope k) t) (λ o. pure (obj.At (start_pointer o)))) (pure (obj.Register k))) m
 
   pub register_is : (k : ℕ) (l : Local) → slice_get c.locals k ≡ Some l → l.in_memory ≡ false → register_if L c.structs c.locals k (slice_get c.locals k) ≡ Some k
   register_is k l e m = ap (register_if L c.structs c.locals k) e ∙ ap (λ z. if◌then◌else◌ {A = Option ℕ} z None (Some k)) m
@@ -107,17 +107,17 @@ module _ (c : Setting) (found : slice_get c.functions c.number ≡ Some c.code) 
   objects ty k l el em whole = record {
     by = λ d rest heads place f scope r s m K at fit low next.
         let reg = address_register L d in
-        let name = c.own + object_of c.locals k in
+        let name = c.own + object_index c.locals k in
         let at2 = subst (λ z. Stands c heads place (local_code L c.structs c.locals d ty k z rest)) (object_is k l el em) at in
         let run : Value → CallState → CodeObservation = λ v t. finish (read_at ty v t) K in
         meets_same c.rooms c.functions
         (ap (λ z. finish (and_then (local_place scope k z s) (read ty)) K) el
-        ∙ ap (λ z. finish (and_then (if◌then◌else◌ {A = Run obj.ValuePlace} z (λ t. and_then (or_undefined UsesDeadObject (scope k) t) (λ o. pure (obj.At (start_of o)))) (pure (obj.Register k)) s) (read ty)) K) em)
-        (bound c found (and_then (or_undefined UsesDeadObject (scope k) s) (λ o. pure (obj.At (start_of o)))) (read ty) K place r s.world m
-        (bound c found (or_undefined UsesDeadObject (scope k) s) (λ o. pure (obj.At (start_of o))) (λ z t. finish (read ty z t) K) place r s.world m
-        (known_meets c.rooms c.functions UsesDeadObject (scope k) s (λ o t. finish (read_at ty (start_of o) t) K) _ (λ o here.
+        ∙ ap (λ z. finish (and_then (if◌then◌else◌ {A = Run obj.ValuePlace} z (λ t. and_then (or_undefined UsesDeadObject (scope k) t) (λ o. pure (obj.At (start_pointer o)))) (pure (obj.Register k)) s) (read ty)) K) em)
+        (bound c found (and_then (or_undefined UsesDeadObject (scope k) s) (λ o. pure (obj.At (start_pointer o)))) (read ty) K place r s.world m
+        (bound c found (or_undefined UsesDeadObject (scope k) s) (λ o. pure (obj.At (start_pointer o))) (λ z t. finish (read ty z t) K) place r s.world m
+        (known_meets c.rooms c.functions UsesDeadObject (scope k) s (λ o t. finish (read_at ty (start_pointer o) t) K) _ (λ o here.
         let w = byte_of name 0 in
-        address_meets c found d (p.Local (object_of c.locals k)) 0 (load_code L d ty 0 rest) heads place r s.world m at2
-        (load_on c found d 0 rest heads f scope r s m K (next_place place) (byte_of o 0) (start_of o) f s (set_register reg w r) m after_same (fits_temporary d P64 w fit) (kept_temporary d P64 w (omega arith) kept_all) tt
+        address_meets c found d (p.Local (object_index c.locals k)) 0 (load_code L d ty 0 rest) heads place r s.world m at2
+        (load_on c found d 0 rest heads f scope r s m K (next_place place) (byte_of o 0) (start_pointer o) f s (set_register reg w r) m after_same (fits_temporary d P64 w fit) (kept_temporary d P64 w (omega arith) kept_all) tt
         (value_at f (byte_of o 0) w r reg (address_of c found f o name 0 (fit.scopes k o here))) (omega arith) (inl (refl, refl)) ty whole next (at_plain c.code.blocks c.last c.end _ at2))))));
   }

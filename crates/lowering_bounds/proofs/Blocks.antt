@@ -19,10 +19,10 @@ use Rattle.suifvm_ir.specs.Programs.{weight_of}
 use Rattle.suifvm_ir.specs.Cost.{most_binary_insns, insn_cost}
 use Rattle.lowering_code.specs.declared.item.CodeItem.{CodeItem}
 use Rattle.lowering_code.specs.declared.item.CodeItem.TheVariants.{Start, Plain, Jump, Branch, Loop, Enter, Again, Repeat, Return}
-use Rattle.lowering_code.specs.Items.{count}
+use Rattle.lowering_code.specs.Items.{block_total}
 use Rattle.lowering_code.specs.Registers.{temporary}
-use Rattle.lowering_code.specs.Layout.{Layout, with_insn, end_block, end_with, open_loop, head_of, outer_heads, with_items, no_block, blocks_of}
-use Rattle.lowering_code.specs.Functions.{end_of}
+use Rattle.lowering_code.specs.Layout.{Layout, with_insn, end_block, end_with, open_loop, head_or_zero, outer_heads, with_items, no_block, blocks_of}
+use Rattle.lowering_code.specs.Functions.{end_code}
 use Rattle.lowering_layout.specs.Good.{IsGood}
 use Rattle.lowering_layout.specs.Tops.{insn_top, insns_top, blocks_top}
 use Rattle.lowering_layout.proofs.Laid.{Straight, last_is}
@@ -87,28 +87,28 @@ module _ (most : ℕ) (passes : vm.VmInsn → Bool) where
     holds_items (Branch op ty source name ∷ is) l f h = holds_items is _ f.1 (holds_end (n.Branch op ty source (l.last - name)) l (omega (arith, f.0), ways.branch op ty source (l.last - name)) h)
     holds_items (Loop name ∷ is) l f h = holds_items is _ f (holds_loop (end_with (n.Jump (l.last - name)) l) (holds_end (n.Jump (l.last - name)) l (omega arith, ways.jump (l.last - name)) h))
     holds_items (Enter ∷ is) l f h = holds_items is _ f (holds_loop (end_block l) (holds_block l h))
-    holds_items (Again ty source ∷ is) l f h = holds_items is _ f.1 (drop_heads (holds_end (n.Branch IfTrue ty source (head_of l.heads)) l (omega (arith, f.0), ways.branch IfTrue ty source (head_of l.heads)) h))
+    holds_items (Again ty source ∷ is) l f h = holds_items is _ f.1 (drop_heads (holds_end (n.Branch IfTrue ty source (head_or_zero l.heads)) l (omega (arith, f.0), ways.branch IfTrue ty source (head_or_zero l.heads)) h))
       where
         drop_heads : {m : Layout} → Holds m → Holds (record m { heads = outer_heads m.heads })
         drop_heads h = record { blocks = h.blocks; insns = h.insns }
-    holds_items (Repeat ∷ is) l f h = holds_items is _ f (drop_heads (holds_end (n.Jump (head_of l.heads)) l (omega arith, ways.jump (head_of l.heads)) h))
+    holds_items (Repeat ∷ is) l f h = holds_items is _ f (drop_heads (holds_end (n.Jump (head_or_zero l.heads)) l (omega arith, ways.jump (head_or_zero l.heads)) h))
       where
         drop_heads : {m : Layout} → Holds m → Holds (record m { heads = outer_heads m.heads })
         drop_heads h = record { blocks = h.blocks; insns = h.insns }
     holds_items (Return value ∷ is) l f h = holds_items is _ f.1 (holds_end (n.Return value) l (omega (arith, f.0), ways.give value) h)
 
-    end_holds : (locals : ℕ) (main : Bool) → locals + 1 ≤ most → All Q (end_of locals main)
+    end_holds : (locals : ℕ) (main : Bool) → locals + 1 ≤ most → All Q (end_code locals main)
     end_holds locals true h =
         let value : Option TypedRegister = Some (record { ty = S32; register = temporary locals 0 S32 }) in
         All-cons Q (n.LoadConstant S32 (temporary locals 0 S32) 0) (n.Return value ∷ []) (omega (arith, h), ways.constant (temporary locals 0 S32))
         (All-cons Q (n.Return value) [] (omega (arith, h), ways.give value) (All-nil Q))
     end_holds locals false h = All-cons Q (n.Return None) [] (omega arith, ways.give None) (All-nil Q)
 
-    pub holds_all : (locals : ℕ) (main : Bool) (is : List CodeItem) → locals + 1 ≤ most → Fits most passes is → AllInsns Q (blocks_of (end_of locals main) is)
+    pub holds_all : (locals : ℕ) (main : Bool) (is : List CodeItem) → locals + 1 ≤ most → Fits most passes is → AllInsns Q (blocks_of (end_code locals main) is)
     holds_all locals main is low f =
-        let l : Layout = with_items is (no_block (count is)) in
-        let h : Holds l = holds_items is (no_block (count is)) f (record { blocks = All-nil (All Q); insns = All-nil Q }) in
-        All-push (All Q) l.blocks (l.insns ++ end_of locals main) h.blocks (All-append Q l.insns (end_of locals main) h.insns (end_holds locals main low))
+        let l : Layout = with_items is (no_block (block_total is)) in
+        let h : Holds l = holds_items is (no_block (block_total is)) f (record { blocks = All-nil (All Q); insns = All-nil Q }) in
+        All-push (All Q) l.blocks (l.insns ++ end_code locals main) h.blocks (All-append Q l.insns (end_code locals main) h.insns (end_holds locals main low))
 
   -- ---- what follows for the blocks
 
@@ -253,11 +253,11 @@ costs_items most loops k (Enter ∷ is) l g h =
 costs_items most zero k (Again ty source ∷ is) l g h = absurd g
 costs_items most (suc loops) k (Again ty source ∷ is) l g h =
     at_most (items_cost is + (1096 + k)) (1096 + items_cost is + k) _ (omega arith)
-    (costs_items most loops (1096 + k) is _ g.1 (same_costs (1096 + k) (end_with (n.Branch IfTrue ty source (head_of l.heads)) l) _ (costs_end k 1096 2 (n.Branch IfTrue ty source (head_of l.heads)) l (omega arith) (omega arith) (omega arith) h)))
+    (costs_items most loops (1096 + k) is _ g.1 (same_costs (1096 + k) (end_with (n.Branch IfTrue ty source (head_or_zero l.heads)) l) _ (costs_end k 1096 2 (n.Branch IfTrue ty source (head_or_zero l.heads)) l (omega arith) (omega arith) (omega arith) h)))
 costs_items most zero k (Repeat ∷ is) l g h = absurd g
 costs_items most (suc loops) k (Repeat ∷ is) l g h =
     at_most (items_cost is + (560 + k)) (560 + items_cost is + k) _ (omega arith)
-    (costs_items most loops (560 + k) is _ g (same_costs (560 + k) (end_with (n.Jump (head_of l.heads)) l) _ (costs_end k 560 1 (n.Jump (head_of l.heads)) l (omega arith) (omega arith) (omega arith) h)))
+    (costs_items most loops (560 + k) is _ g (same_costs (560 + k) (end_with (n.Jump (head_or_zero l.heads)) l) _ (costs_end k 560 1 (n.Jump (head_or_zero l.heads)) l (omega arith) (omega arith) (omega arith) h)))
 costs_items most loops k (Return value ∷ is) l g h =
     at_most (items_cost is + (48 + k)) (48 + items_cost is + k) _ (omega arith) (costs_items most loops (48 + k) is _ g.1 (costs_end k 48 0 (n.Return value) l (omega arith) (omega arith) (omega arith) h))
 
@@ -267,26 +267,26 @@ pub record BlocksCost (blocks : List (List vm.VmInsn)) (k : ℕ) : Type 0 where
   pub cost : sum_by (λ b. sum_by insn_cost b) blocks + 536 * edge_count targets_of flows_on_of blocks ≤ 192 + k
   pub size : 24 * (length blocks + count_of blocks + sum_by (λ b. sum_by weight_of b) blocks) ≤ 72 + k
 
-end_costs : (locals : ℕ) (main : Bool) → insns_cost (end_of locals main) ≤ 192
+end_costs : (locals : ℕ) (main : Bool) → insns_cost (end_code locals main) ≤ 192
 end_costs locals true = omega arith
 end_costs locals false = omega arith
 
-end_weight : (locals : ℕ) (main : Bool) → length (end_of locals main) + sum_by weight_of (end_of locals main) ≤ 2
+end_weight : (locals : ℕ) (main : Bool) → length (end_code locals main) + sum_by weight_of (end_code locals main) ≤ 2
 end_weight locals true = omega arith
 end_weight locals false = omega arith
 
-end_edges : (insns : List vm.VmInsn) (locals : ℕ) (main : Bool) → edges (insns ++ end_of locals main) ≡ 0
+end_edges : (insns : List vm.VmInsn) (locals : ℕ) (main : Bool) → edges (insns ++ end_code locals main) ≡ 0
 end_edges insns locals true =
     ap edges (sym (append_assoc insns (n.LoadConstant S32 (temporary locals 0 S32) 0 ∷ []) (n.Return (Some (record { ty = S32; register = temporary locals 0 S32 })) ∷ [])))
     ∙ ap (λ o. length (successors_after targets_of flows_on_of 0 o)) (last_is (insns ++ n.LoadConstant S32 (temporary locals 0 S32) 0 ∷ []) (n.Return (Some (record { ty = S32; register = temporary locals 0 S32 }))))
 end_edges insns locals false = ap (λ o. length (successors_after targets_of flows_on_of 0 o)) (last_is insns (n.Return None))
 
-pub blocks_cost : (most locals : ℕ) (main : Bool) (is : List CodeItem) → IsGood most 0 is → BlocksCost (blocks_of (end_of locals main) is) (items_cost is)
+pub blocks_cost : (most locals : ℕ) (main : Bool) (is : List CodeItem) → IsGood most 0 is → BlocksCost (blocks_of (end_code locals main) is) (items_cost is)
 blocks_cost most locals main is g =
-    let l : Layout = with_items is (no_block (count is)) in
-    let end = end_of locals main in
+    let l : Layout = with_items is (no_block (block_total is)) in
+    let end = end_code locals main in
     let b = l.insns ++ end in
-    let h : Costs l (items_cost is + 0) = costs_items most 0 0 is (no_block (count is)) g (record { cost = omega arith; size = omega arith; straight = All-nil Straight }) in
+    let h : Costs l (items_cost is + 0) = costs_items most 0 0 is (no_block (block_total is)) g (record { cost = omega arith; size = omega arith; straight = All-nil Straight }) in
     record {
       cost = omega (arith, h.cost, sum_by_push (λ b. sum_by insn_cost b) l.blocks b, sum_by_push (λ b. length (successors_of targets_of flows_on_of 0 b)) l.blocks b, sum_by-append insn_cost l.insns end, end_costs locals main, end_edges l.insns locals main);
       size = omega (arith, h.size, length_push l.blocks b, sum_by_push (λ b. length b) l.blocks b, sum_by_push (λ b. sum_by weight_of b) l.blocks b, length-append l.insns end, sum_by-append weight_of l.insns end, end_weight locals main);

@@ -35,8 +35,8 @@ use Rattle.suifvm_ir.specs.Insns.{named_register}
 use Rattle.suifvm_ir.specs.Programs.{VmFunction, place_reaches, function_takes, callee_takes, alignment_bytes}
 use Rattle.lowering_code.specs.declared.item.CodeItem.{CodeItem}
 use Rattle.lowering_code.specs.declared.item.CodeItem.TheVariants.{Start, Plain, Jump}
-use Rattle.lowering_code.specs.Items.{count}
-use Rattle.lowering_code.specs.Registers.{object_of}
+use Rattle.lowering_code.specs.Items.{block_total}
+use Rattle.lowering_code.specs.Registers.{object_index}
 use Rattle.lowering_code.specs.Functions.{objects_of}
 use Rattle.lowering_code.specs.Expressions as code
 use Rattle.lowering_layout.specs.Tops.{registers_top}
@@ -146,7 +146,7 @@ module _ (most : ℕ) (fs : List VmFunction) (c : Context) (structs : All (IsLaw
 
   -- a memory local has an object, as large as its type
   pub memory_there : (j plus : ℕ) (ty : PlainType) (o : Option l.Local) → slice_get c.locals j ≡ o → IsTrue (is_memory_local o) → IsTrue (has_local_type o ty) → plus ≤ size_of c.structs ty
-      → IsTrue (place_reaches c.globals os plus (p.Local (object_of c.locals j)))
+      → IsTrue (place_reaches c.globals os plus (p.Local (object_index c.locals j)))
   memory_there j plus ty None is memory h small = no_true h
   memory_there j plus ty (Some x) is memory h small =
       let size : size_of c.structs (type_view x.ty) ≡ size_of c.structs ty = ap (size_of c.structs) (same (type_view x.ty) ty h) in
@@ -162,7 +162,7 @@ module _ (most : ℕ) (fs : List VmFunction) (c : Context) (structs : All (IsLaw
     where
       by : (r : Option ℕ) → code.register_if L c.structs c.locals j (slice_get c.locals j) ≡ r → E 264 rest (code.local_code L c.structs c.locals d ty j r rest)
       by (Some r) is = m.at_most most fs c.globals os 24 264 rest _ (omega arith) (m.move_emits most fs c.globals os ty _ _ rest (m.value_there most fs c.globals os L d ty h) (omega (arith, register_small j r (slice_get c.locals j) refl is, h)))
-      by None is = m.joins most fs c.globals os 24 240 rest _ _ (m.address_emits most fs c.globals os L d (p.Local (object_of c.locals j)) 0 _ h
+      by None is = m.joins most fs c.globals os 24 240 rest _ _ (m.address_emits most fs c.globals os L d (p.Local (object_index c.locals j)) 0 _ h
           (memory_there j 0 ty (slice_get c.locals j) refl (place_memory c lawful (e.Local ty j) t refl is) (local_typed ty j t) (omega arith))) (m.value_load_emits most fs c.globals os L d ty 0 rest h)
 
   global_emits : (d plus : ℕ) (ty : PlainType) (j : ℕ) (rest : List CodeItem) → T (Global ty j) → plus ≤ size_of c.structs ty → Has d 1 → E 24 rest (code.address_code L d (p.Global j) plus rest)
@@ -171,12 +171,12 @@ module _ (most : ℕ) (fs : List VmFunction) (c : Context) (structs : All (IsLaw
 
   -- ---- calls
 
-  arguments_below : (d : ℕ) (xs : Exprs) → Has d (depths_above xs) → registers_top (code.argument_registers L c.structs c.locals d xs) ≤ most
+  arguments_below : (d : ℕ) (xs : Exprs) → Has d (depths_above xs) → registers_top (code.call_registers L c.structs c.locals d xs) ≤ most
   arguments_below d no_exprs h = omega arith
   arguments_below d (more_exprs x xs) h =
       omega (arith, arguments_below (suc d) xs (omega (arith, h)), m.value_there most fs c.globals os L d (type_of x) (omega (arith, h, own_depth x)))
 
-  pub arguments_length : (d : ℕ) (xs : Exprs) → length (code.argument_registers L c.structs c.locals d xs) ≡ exprs_count xs
+  pub arguments_length : (d : ℕ) (xs : Exprs) → length (code.call_registers L c.structs c.locals d xs) ≡ exprs_count xs
   arguments_length d no_exprs = refl
   arguments_length d (more_exprs x xs) = omega (arith, arguments_length (suc d) xs)
 
@@ -208,10 +208,10 @@ module _ (most : ℕ) (fs : List VmFunction) (c : Context) (structs : All (IsLaw
     wide : (n : ℕ) → count ≤ n → IsNarrow n rest → IsNarrow n is
 
   call_emits : (d : ℕ) (ty : PlainType) (callee : Callee) (xs : Exprs) (rest : List CodeItem) → IsTrue (is_call (callee_signature c callee) ty xs) → Has d (depths_above xs) → Has d 1
-      → CallEmits (exprs_count xs) rest (Plain (n.Call (code.destination_of L c.structs c.locals d ty) (code.vm_callee callee) (code.argument_registers L c.structs c.locals d xs)) ∷ rest)
+      → CallEmits (exprs_count xs) rest (Plain (n.Call (code.destination_of L c.structs c.locals d ty) (code.vm_callee callee) (code.call_registers L c.structs c.locals d xs)) ∷ rest)
   call_emits d ty callee xs rest r h g =
-      let same_count : length (code.argument_registers L c.structs c.locals d xs) ≡ exprs_count xs = arguments_length d xs in
-      let below : max (registers_top (code.argument_registers L c.structs c.locals d xs)) (registers_top (named_register (code.destination_of L c.structs c.locals d ty))) ≤ most = omega (arith, arguments_below d xs h, destination_below d ty g) in
+      let same_count : length (code.call_registers L c.structs c.locals d xs) ≡ exprs_count xs = arguments_length d xs in
+      let below : max (registers_top (code.call_registers L c.structs c.locals d xs)) (registers_top (named_register (code.destination_of L c.structs c.locals d ty))) ≤ most = omega (arith, arguments_below d xs h, destination_below d ty g) in
       record {
         fits = λ f. (below, ap (λ j. callee_takes fs j (code.vm_callee callee)) same_count ∙ callee_there callee ty xs r, f);
         cost = omega (arith, same_count);
@@ -231,19 +231,19 @@ module _ (most : ℕ) (fs : List VmFunction) (c : Context) (structs : All (IsLaw
   decides_spends : (op : VmBranchOp) (d : ℕ) (ty tx ty' : PlainType) (word other : ℕ) (v w : ℕ) (fx fy : List CodeItem → List CodeItem)
       → ((is : List CodeItem) → Spends v is (fx is)) → ((is : List CodeItem) → Spends w is (fy is)) → (rest : List CodeItem) → Has d 1
       → Spends (1 + (v + w)) rest
-      (fx (code.branch_code L op d tx (count (code.constant_code L d ty word (Start ∷ rest)))
-      (fy (code.branch_code L op d ty' (count (code.constant_code L d ty word (Start ∷ rest)))
-      (code.constant_code L d ty other (Jump (count rest) ∷ code.constant_code L d ty word (Start ∷ rest)))))))
+      (fx (code.branch_code L op d tx (block_total (code.constant_code L d ty word (Start ∷ rest)))
+      (fy (code.branch_code L op d ty' (block_total (code.constant_code L d ty word (Start ∷ rest)))
+      (code.constant_code L d ty other (Jump (block_total rest) ∷ code.constant_code L d ty word (Start ∷ rest)))))))
   decides_spends op d ty tx ty' word other v w fx fy ex ey rest h =
       let fails : List CodeItem = code.constant_code L d ty word (Start ∷ rest) in
-      let last : List CodeItem = code.constant_code L d ty other (Jump (count rest) ∷ fails) in
-      let second : List CodeItem = code.branch_code L op d ty' (count fails) last in
-      let first : List CodeItem = code.branch_code L op d tx (count fails) (fy second) in
+      let last : List CodeItem = code.constant_code L d ty other (Jump (block_total rest) ∷ fails) in
+      let second : List CodeItem = code.branch_code L op d ty' (block_total fails) last in
+      let first : List CodeItem = code.branch_code L op d tx (block_total fails) (fy second) in
       let f : E 680 rest fails = m.joins most fs c.globals os 144 536 rest (Start ∷ rest) fails (m.constant_emits most fs c.globals os L d ty word (Start ∷ rest) h) (m.start most fs c.globals os rest) in
-      let g : E 1384 rest last = m.joins most fs c.globals os 144 1240 rest (Jump (count rest) ∷ fails) last (m.constant_emits most fs c.globals os L d ty other (Jump (count rest) ∷ fails) h)
-      (m.joins most fs c.globals os 560 680 rest fails (Jump (count rest) ∷ fails) (m.jump most fs c.globals os (count rest) fails) f) in
-      let b : E 2480 rest second = m.joins most fs c.globals os 1096 1384 rest last second (m.branch_emits most fs c.globals os L op d ty' (count fails) last h) g in
-      let x : E 1096 (fy second) first = m.branch_emits most fs c.globals os L op d tx (count fails) (fy second) h in
+      let g : E 1384 rest last = m.joins most fs c.globals os 144 1240 rest (Jump (block_total rest) ∷ fails) last (m.constant_emits most fs c.globals os L d ty other (Jump (block_total rest) ∷ fails) h)
+      (m.joins most fs c.globals os 560 680 rest fails (Jump (block_total rest) ∷ fails) (m.jump most fs c.globals os (block_total rest) fails) f) in
+      let b : E 2480 rest second = m.joins most fs c.globals os 1096 1384 rest last second (m.branch_emits most fs c.globals os L op d ty' (block_total fails) last h) g in
+      let x : E 1096 (fy second) first = m.branch_emits most fs c.globals os L op d tx (block_total fails) (fy second) h in
       record {
         fits = λ z. (ex first).fits (x.fits ((ey second).fits (b.fits z)));
         cost = omega (arith, (ex first).cost, x.cost, (ey second).cost, b.cost);
@@ -254,14 +254,14 @@ module _ (most : ℕ) (fs : List VmFunction) (c : Context) (structs : All (IsLaw
   choice_spends : (d : ℕ) (tx : PlainType) (i j q : ℕ) (fx fy fz : List CodeItem → List CodeItem)
       → ((is : List CodeItem) → Spends i is (fx is)) → ((is : List CodeItem) → Spends j is (fy is)) → ((is : List CodeItem) → Spends q is (fz is))
       → (rest : List CodeItem) → Has d 1
-      → Spends (1 + (i + (j + q))) rest (fx (code.branch_code L IfFalse d tx (count (fz (Start ∷ rest))) (fy (Jump (count rest) ∷ fz (Start ∷ rest)))))
+      → Spends (1 + (i + (j + q))) rest (fx (code.branch_code L IfFalse d tx (block_total (fz (Start ∷ rest))) (fy (Jump (block_total rest) ∷ fz (Start ∷ rest)))))
   choice_spends d tx i j q fx fy fz ex ey ez rest h =
       let fails : List CodeItem = fz (Start ∷ rest) in
-      let over : List CodeItem = Jump (count rest) ∷ fails in
-      let first : List CodeItem = code.branch_code L IfFalse d tx (count fails) (fy over) in
+      let over : List CodeItem = Jump (block_total rest) ∷ fails in
+      let first : List CodeItem = code.branch_code L IfFalse d tx (block_total fails) (fy over) in
       let f : E 536 rest (Start ∷ rest) = m.start most fs c.globals os rest in
-      let g : E 560 fails over = m.jump most fs c.globals os (count rest) fails in
-      let x : E 1096 (fy over) first = m.branch_emits most fs c.globals os L IfFalse d tx (count fails) (fy over) h in
+      let g : E 560 fails over = m.jump most fs c.globals os (block_total rest) fails in
+      let x : E 1096 (fy over) first = m.branch_emits most fs c.globals os L IfFalse d tx (block_total fails) (fy over) h in
       record {
         fits = λ y. (ex first).fits (x.fits ((ey over).fits (g.fits ((ez (Start ∷ rest)).fits (f.fits y)))));
         cost = omega (arith, (ex first).cost, x.cost, (ey over).cost, g.cost, (ez (Start ∷ rest)).cost, f.cost);
@@ -499,7 +499,7 @@ module _ (most : ℕ) (fs : List VmFunction) (c : Context) (structs : All (IsLaw
     pub place_spends : (d : ℕ) (x : Expr) (by_bytes : ℕ) (rest : List CodeItem) → T x → IsTrue (is_in_memory c.locals x) → by_bytes ≤ size_of c.structs (type_of x) → Has d (depths x)
         → Spends (W x) rest (code.place_code L c.structs c.locals d x by_bytes rest)
     place_spends d (e.Local ty j) q rest t memory small h =
-        only 24 1 rest _ (omega arith) (m.address_emits most fs c.globals os L d (p.Local (object_of c.locals j)) q rest (omega (arith, h)) (memory_there j q ty (slice_get c.locals j) refl memory (local_typed ty j t) small))
+        only 24 1 rest _ (omega arith) (m.address_emits most fs c.globals os L d (p.Local (object_index c.locals j)) q rest (omega (arith, h)) (memory_there j q ty (slice_get c.locals j) refl memory (local_typed ty j t) small))
     place_spends d (Global ty j) q rest t memory small h = only 24 1 rest _ (omega arith) (global_emits d q ty j rest t small (omega (arith, h)))
     place_spends d (Unary ty u.Dereference x) q rest t memory small h = more (W x) (1 + W x) rest _ (omega arith) (expr_spends d x rest ((unary_parts ty u.Dereference x t).1) (omega (arith, h)))
     place_spends d (Index ty x y) q rest t memory small h =

@@ -9,7 +9,7 @@ use Rattle.c_tree.specs.declared.expressions.StepOp.{StepOp}
 use Rattle.c_typed_tree.specs.declared.types.StructDef.{StructDef}
 use Rattle.c_typed_tree.specs.Layout.{align_of}
 use Rattle.c_typed_tree.specs.Types.{PlainType, Void, Int, Pointer, Array, Struct}
-use Rattle.c_semantics.specs.Objects.{integer_of}
+use Rattle.c_semantics.specs.Objects.{integer_or_word}
 use Rattle.c_semantics.specs.Operators.{operation_type, step_operator, one_type}
 use Rattle.suifvm_ir.specs.declared.types.VmType.{VmType}
 use Rattle.suifvm_ir.specs.declared.types.VmType.TheVariants.{S32, U32, S64, U64, P64}
@@ -150,7 +150,7 @@ module _ (most : ℕ) (fs : List VmFunction) (gs : List DataObject) (os : List M
     value_load_emits d (Struct number) plus rest h = moved_emits d plus rest h
 
     pub convert_emits : (d : ℕ) (from to : PlainType) (rest : List CodeItem) → Has locals d 1 → Emits 24 rest (code.convert_code locals d from to rest)
-    convert_emits d from to rest h = by (code.is_kept from to)
+    convert_emits d from to rest h = by (code.keeps_register from to)
       where
         by : (kept : Bool) → Emits 24 rest (if kept then rest else Plain (n.Convert (code.narrow_type from to) (register_type to) (value_register locals d to) (value_register locals d from)) ∷ rest)
         by true = at_most 0 24 rest rest (omega arith) (none rest)
@@ -265,7 +265,7 @@ module _ (most : ℕ) (fs : List VmFunction) (gs : List DataObject) (os : List M
         where
           by : (target : Option PlainType) → Emits 400 rest (code.combine_by locals ds op o d free left ty target rest)
           by (Some element) = at_most 384 400 rest _ (omega arith) (step_emits op o d free element ty rest h k f)
-          by None = combine_in_emits op (operation_type op (integer_of left) (integer_of ty)) o d left ty rest h k
+          by None = combine_in_emits op (operation_type op (integer_or_word left) (integer_or_word ty)) o d left ty rest h k
 
       pub element_emits : (d : ℕ) (left right : PlainType) (rest : List CodeItem) → Has locals d 3 → Emits 384 rest (code.element_code locals ds d left right rest)
       element_emits d left right rest h = by (code.element_of left) (code.element_of right)

@@ -27,8 +27,8 @@ use Rattle.suifvm_ir.specs.declared.function.MemoryLocal.{MemoryLocal}
 use Rattle.suifvm_ir.specs.Programs.{VmFunction, place_reaches}
 use Rattle.lowering_code.specs.declared.item.CodeItem.{CodeItem}
 use Rattle.lowering_code.specs.declared.item.CodeItem.TheVariants.{Start, Jump, Loop, Enter, Again}
-use Rattle.lowering_code.specs.Items.{count}
-use Rattle.lowering_code.specs.Registers.{register_type, temporary, value_register, address_register, object_of}
+use Rattle.lowering_code.specs.Items.{block_total}
+use Rattle.lowering_code.specs.Registers.{register_type, temporary, value_register, address_register, object_index}
 use Rattle.lowering_code.specs.Expressions as x
 use Rattle.lowering_code.specs.Statements as code
 use Rattle.lowering_code.specs.Statements.{Target}
@@ -122,12 +122,12 @@ module _ (most : ℕ) (fs : List VmFunction) (c : Context) (structs : All (IsLaw
   bytes_paid (Struct number) = omega (arith, copy_paid c.structs number)
 
   abbrev There : ℕ → Type 0
-  There j = IsTrue (place_reaches c.globals os 0 (p.Local (object_of c.locals j)))
+  There j = IsTrue (place_reaches c.globals os 0 (p.Local (object_index c.locals j)))
 
   put_scalar : (ty : PlainType) (j : ℕ) (rest : List CodeItem) → There j → Has 0 2
-      → E 216 rest (x.address_code L 1 (p.Local (object_of c.locals j)) 0 (x.store_code ty (address_register L 1) 0 (value_register L 0 ty) rest))
+      → E 216 rest (x.address_code L 1 (p.Local (object_index c.locals j)) 0 (x.store_code ty (address_register L 1) 0 (value_register L 0 ty) rest))
   put_scalar ty j rest there h =
-      m.joins most fs c.globals os 24 192 rest _ _ (m.address_emits most fs c.globals os L 1 (p.Local (object_of c.locals j)) 0 _ (omega (arith, h)) there)
+      m.joins most fs c.globals os 24 192 rest _ _ (m.address_emits most fs c.globals os L 1 (p.Local (object_index c.locals j)) 0 _ (omega (arith, h)) there)
       (m.store_emits most fs c.globals os ty _ 0 _ rest (m.address_there most fs c.globals os L 1 (omega (arith, h))) (m.value_there most fs c.globals os L 0 ty (omega (arith, h))))
 
   put_emits : (ty : PlainType) (j : ℕ) (rest : List CodeItem) → There j → Has 0 2 → E (216 + 96 * bytes_of ty) rest (code.put_code L c.structs c.locals ty j rest)
@@ -137,7 +137,7 @@ module _ (most : ℕ) (fs : List VmFunction) (c : Context) (structs : All (IsLaw
   put_emits (Array element count) j rest there h = put_scalar (Array element count) j rest there h
   put_emits (Struct number) j rest there h =
       next 24 (24 + 96 * bytes_of (Struct number)) (216 + 96 * bytes_of (Struct number)) rest _ _ (omega arith)
-      (m.address_emits most fs c.globals os L 1 (p.Local (object_of c.locals j)) 0 _ (omega (arith, h)) there)
+      (m.address_emits most fs c.globals os L 1 (p.Local (object_index c.locals j)) 0 _ (omega (arith, h)) there)
       (m.copy_emits most fs c.globals os c.structs _ _ (Struct number) rest (m.address_there most fs c.globals os L 1 (omega (arith, h))) (m.address_there most fs c.globals os L 0 (omega (arith, h))) (struct_whole c.structs structs number))
 
   put_local_emits : (j : ℕ) (ty : PlainType) (o : Option Local) → slice_get c.locals j ≡ o → IsTrue (has_initialised_type o ty) → (rest : List CodeItem) → Has 0 2
@@ -208,13 +208,13 @@ module _ (most : ℕ) (fs : List VmFunction) (c : Context) (structs : All (IsLaw
 
   -- ---- loops, by what their parts emit
 
-  while_emits : (j k i : ℕ) (rest test body : List CodeItem) → j + k + 1120 ≤ i → E j rest test → E k (Start ∷ test) body → E i rest (Loop (count test) ∷ body)
+  while_emits : (j k i : ℕ) (rest test body : List CodeItem) → j + k + 1120 ≤ i → E j rest test → E k (Start ∷ test) body → E i rest (Loop (block_total test) ∷ body)
   while_emits j k i rest test body le a b = record { fits = λ g. b.fits (a.fits g); cost = omega (arith, le, a.cost, b.cost); wide = λ z h r. b.wide z (omega (arith, le, h)) (a.wide z (omega (arith, le, h)) r) }
 
   do_emits : (j k i : ℕ) (rest test body : List CodeItem) → j + k + 1096 ≤ i → E j rest test → E k (Start ∷ test) body → E i rest (Enter ∷ body)
   do_emits j k i rest test body le a b = record { fits = λ g. b.fits (a.fits g); cost = omega (arith, le, a.cost, b.cost); wide = λ z h r. b.wide z (omega (arith, le, h)) (a.wide z (omega (arith, le, h)) r) }
 
-  for_emits : (h j k i : ℕ) (rest test after body : List CodeItem) → h + j + k + 1120 ≤ i → E h rest test → E j test after → E k (Start ∷ after) body → E i rest (Loop (count test) ∷ body)
+  for_emits : (h j k i : ℕ) (rest test after body : List CodeItem) → h + j + k + 1120 ≤ i → E h rest test → E j test after → E k (Start ∷ after) body → E i rest (Loop (block_total test) ∷ body)
   for_emits h j k i rest test after body le a b e = record { fits = λ g. e.fits (b.fits (a.fits g)); cost = omega (arith, le, a.cost, b.cost, e.cost); wide = λ z o r. e.wide z (omega (arith, le, o)) (b.wide z (omega (arith, le, o)) (a.wide z (omega (arith, le, o)) r)) }
 
   -- ---- labels
@@ -233,7 +233,7 @@ module _ (most : ℕ) (fs : List VmFunction) (c : Context) (structs : All (IsLaw
   labels_most (more_sections label ss sections) = 1336 * label_weight label + labels_most sections
 
   labels_emits : (ty : PlainType) (brk con : ℕ) (sections : Sections) (behind rest : List CodeItem) → Has 0 2
-      → E (labels_most sections) rest (code.labels_code L c.structs c.locals ty (code.targets_of L c.structs c.locals brk con sections behind) rest)
+      → E (labels_most sections) rest (code.labels_code L c.structs c.locals ty (code.switch_targets L c.structs c.locals brk con sections behind) rest)
   labels_emits ty brk con no_sections behind rest h = m.none most fs c.globals os rest
   labels_emits ty brk con (more_sections label ss sections) behind rest h =
       m.joins most fs c.globals os (1336 * label_weight label) (labels_most sections) rest _ _ (label_emits ty label _ _ h) (labels_emits ty brk con sections behind rest h)
@@ -259,12 +259,12 @@ module _ (most : ℕ) (fs : List VmFunction) (c : Context) (structs : All (IsLaw
 
   switch_emits : (i : ℕ) (rest : List CodeItem) (y : Expr) (sections : Sections) (con name : ℕ) (bodies : List CodeItem) → 2048 * W y + labels_most sections + 560 + bodies_most sections + 536 ≤ i + 1600
       → IsTrue (is_typed c y) → Has 0 2 → Has 0 (depths y) → E (bodies_most sections) (Start ∷ rest) bodies
-      → E i rest (code.value_code L c.structs c.locals y (code.labels_code L c.structs c.locals (type_of y) (code.targets_of L c.structs c.locals (count rest) con sections (Start ∷ rest)) (Jump name ∷ bodies)))
+      → E i rest (code.value_code L c.structs c.locals y (code.labels_code L c.structs c.locals (type_of y) (code.switch_targets L c.structs c.locals (block_total rest) con sections (Start ∷ rest)) (Jump name ∷ bodies)))
   switch_emits i rest y sections con name bodies le t low h e =
       let over : List CodeItem = Jump name ∷ bodies in
-      let targets = code.targets_of L c.structs c.locals (count rest) con sections (Start ∷ rest) in
+      let targets = code.switch_targets L c.structs c.locals (block_total rest) con sections (Start ∷ rest) in
       let s = value_spends y (code.labels_code L c.structs c.locals (type_of y) targets over) t h in
-      let g = labels_emits (type_of y) (count rest) con sections (Start ∷ rest) over low in
+      let g = labels_emits (type_of y) (block_total rest) con sections (Start ∷ rest) over low in
       record { fits = λ z. s.fits (g.fits (e.fits z)); cost = omega (arith, le, s.cost, g.cost, e.cost); wide = λ z o r. s.wide z (omega (arith, le, o)) (g.wide z (omega (arith, le, o, s.some)) (e.wide z (omega (arith, le, o, s.some)) r)) }
 
   module _ (result : PlainType) where
@@ -279,26 +279,26 @@ module _ (most : ℕ) (fs : List VmFunction) (c : Context) (structs : All (IsLaw
       stmt_emits jumps brk con (q.Block ss) rest t h = m.at_most most fs c.globals os (2048 * stmts_weight c.structs ss) _ rest _ (omega arith) (stmts_emits jumps brk con ss rest t h)
       stmt_emits jumps brk con (q.If y s no_else) rest t h =
           let o = triple (is_condition c y) (is_typed_stmt c result jumps s) (is_typed_else c result jumps no_else) t in
-          if_emits 536 (2048 * stmt_weight c.structs s) _ rest y (Start ∷ rest) _ (count rest) (omega arith) o.0 (omega (arith, h)) (m.start most fs c.globals os rest)
+          if_emits 536 (2048 * stmt_weight c.structs s) _ rest y (Start ∷ rest) _ (block_total rest) (omega arith) o.0 (omega (arith, h)) (m.start most fs c.globals os rest)
           (stmt_emits jumps brk con s (Start ∷ rest) o.1 (omega (arith, h)))
       stmt_emits jumps brk con (q.If y s (else_stmt z)) rest t h =
           let o = triple (is_condition c y) (is_typed_stmt c result jumps s) (is_typed_else c result jumps (else_stmt z)) t in
           let fails : List CodeItem = code.stmt_code L c.structs c.locals brk con z (Start ∷ rest) in
           let e : E (2048 * stmt_weight c.structs z) (Start ∷ rest) fails = stmt_emits jumps brk con z (Start ∷ rest) o.2 (omega (arith, h)) in
-          let over : List CodeItem = Jump (count rest) ∷ fails in
+          let over : List CodeItem = Jump (block_total rest) ∷ fails in
           let g : E (1096 + 2048 * stmt_weight c.structs z) rest over = record { fits = λ y. e.fits y; cost = omega (arith, e.cost); wide = λ k le r. e.wide k (omega (arith, le)) r } in
-          if_emits (1096 + 2048 * stmt_weight c.structs z) (2048 * stmt_weight c.structs s) _ rest y over _ (count fails) (omega arith) o.0 (omega (arith, h)) g
+          if_emits (1096 + 2048 * stmt_weight c.structs z) (2048 * stmt_weight c.structs s) _ rest y over _ (block_total fails) (omega arith) o.0 (omega (arith, h)) g
           (stmt_emits jumps brk con s over o.1 (omega (arith, h)))
       stmt_emits jumps brk con (q.While y s) rest t h =
           let o = pair (is_condition c y) (is_typed_stmt c result in_loop s) t in
           let test : List CodeItem = code.again_code L c.structs c.locals y rest in
           while_emits (2048 * W y) (2048 * stmt_weight c.structs s) _ rest test _ (omega arith) (again_emits y rest o.0 (omega (arith, h)))
-          (stmt_emits in_loop (count rest) (count test) s (Start ∷ test) o.1 (omega (arith, h)))
+          (stmt_emits in_loop (block_total rest) (block_total test) s (Start ∷ test) o.1 (omega (arith, h)))
       stmt_emits jumps brk con (q.Do s y) rest t h =
           let o = pair (is_condition c y) (is_typed_stmt c result in_loop s) t in
           let test : List CodeItem = code.again_code L c.structs c.locals y rest in
           do_emits (2048 * W y) (2048 * stmt_weight c.structs s) _ rest test _ (omega arith) (again_emits y rest o.0 (omega (arith, h)))
-          (stmt_emits in_loop (count rest) (count test) s (Start ∷ test) o.1 (omega (arith, h)))
+          (stmt_emits in_loop (block_total rest) (block_total test) s (Start ∷ test) o.1 (omega (arith, h)))
       stmt_emits jumps brk con (q.For first condition step s) rest t h =
           let o = four (is_first c first) (is_optional_condition c condition) (is_optional_value c step) (is_typed_stmt c result in_loop s) t in
           let test : List CodeItem = code.test_code L c.structs c.locals condition rest in
@@ -306,13 +306,13 @@ module _ (most : ℕ) (fs : List VmFunction) (c : Context) (structs : All (IsLaw
           next (2048 * first_weight c.structs first) (560 + 2048 * O condition + 2048 * O step + 2048 * stmt_weight c.structs s + 1120) _ rest _ _ (omega arith)
           (first_emits first _ o.0 (omega (arith, h)))
           (for_emits (560 + 2048 * O condition) (2048 * O step) (2048 * stmt_weight c.structs s) _ rest test after _ (omega arith) (test_emits condition rest o.1 (omega (arith, h))) (after_emits step test o.2 (omega (arith, h)))
-          (stmt_emits in_loop (count rest) (count after) s (Start ∷ after) o.3 (omega (arith, h))))
+          (stmt_emits in_loop (block_total rest) (block_total after) s (Start ∷ after) o.3 (omega (arith, h))))
       stmt_emits jumps brk con (q.Switch y sections) rest t h =
           let o = four (is_promoted (type_of y)) (are_labels (integer_of (type_of y)) sections) (is_typed c y) (are_typed_sections c result (in_switch jumps) sections) t in
-          let bodies : List CodeItem = code.sections_code L c.structs c.locals (count rest) con sections (Start ∷ rest) in
-          let targets : List Target = code.targets_of L c.structs c.locals (count rest) con sections (Start ∷ rest) in
-          switch_emits _ rest y sections con (code.default_name (count rest) targets) bodies (omega (arith, sections_paid sections, one_default (integer_of (type_of y)) sections o.1)) o.2 (omega (arith, h)) (omega (arith, h))
-          (sections_emits (in_switch jumps) (count rest) con sections (Start ∷ rest) o.3 (omega (arith, h)))
+          let bodies : List CodeItem = code.sections_code L c.structs c.locals (block_total rest) con sections (Start ∷ rest) in
+          let targets : List Target = code.switch_targets L c.structs c.locals (block_total rest) con sections (Start ∷ rest) in
+          switch_emits _ rest y sections con (code.default_name (block_total rest) targets) bodies (omega (arith, sections_paid sections, one_default (integer_of (type_of y)) sections o.1)) o.2 (omega (arith, h)) (omega (arith, h))
+          (sections_emits (in_switch jumps) (block_total rest) con sections (Start ∷ rest) o.3 (omega (arith, h)))
       stmt_emits jumps brk con q.Break rest t h = m.at_most most fs c.globals os 560 _ rest _ (omega arith) (m.jump most fs c.globals os brk rest)
       stmt_emits jumps brk con q.Continue rest t h = m.at_most most fs c.globals os 560 _ rest _ (omega arith) (m.jump most fs c.globals os con rest)
       stmt_emits jumps brk con (q.Return y) rest t h = return_emits result y rest t h
@@ -355,10 +355,10 @@ module _ (most : ℕ) (fs : List VmFunction) (c : Context) (structs : All (IsLaw
           zero_more j = omega arith
 
       by : (memory : Bool) → l.in_memory ≡ memory → E 216 (f.parameters_code L c.structs c.locals (suc j) more rest) (if memory
-          then x.address_code L 0 (p.Local (object_of c.locals j)) 0 (x.store_code (type_view l.ty) (address_register L 0) 0 j (f.parameters_code L c.structs c.locals (suc j) more rest))
+          then x.address_code L 0 (p.Local (object_index c.locals j)) 0 (x.store_code (type_view l.ty) (address_register L 0) 0 j (f.parameters_code L c.structs c.locals (suc j) more rest))
           else f.parameters_code L c.structs c.locals (suc j) more rest)
       by true e =
-          m.joins most fs c.globals os 24 192 _ _ _ (m.address_emits most fs c.globals os L 0 (p.Local (object_of c.locals j)) 0 _ h (local_there c.structs c.locals j 0 l here e (omega arith) c.globals))
+          m.joins most fs c.globals os 24 192 _ _ _ (m.address_emits most fs c.globals os L 0 (p.Local (object_index c.locals j)) 0 _ h (local_there c.structs c.locals j 0 l here e (omega arith) c.globals))
           (m.store_emits most fs c.globals os (type_view l.ty) _ 0 j _ (m.address_there most fs c.globals os L 0 h) (omega (arith, slice_get_within c.locals j l here, h)))
       by false e = none 216 _
 

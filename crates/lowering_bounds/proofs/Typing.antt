@@ -27,7 +27,7 @@ use Rattle.suifvm_ir.specs.declared.types.Alignment.TheVariants.{One, Two, Four,
 use Rattle.suifvm_ir.specs.declared.function.MemoryLocal.{MemoryLocal}
 use Rattle.suifvm_ir.specs.declared.insn.VmObject.TheVariants as p
 use Rattle.suifvm_ir.specs.Programs.{place_reaches, global_reaches, local_reaches, alignment_bytes}
-use Rattle.lowering_code.specs.Registers.{object_of}
+use Rattle.lowering_code.specs.Registers.{object_index}
 use Rattle.lowering_code.specs.Functions.{object_for, objects_of}
 use Rattle.lowering_code.specs.Expressions as code
 use Rattle.c_layout_laws.specs.Laws.{is_alignment}
@@ -105,10 +105,10 @@ filter_at test (y ∷ xs) (suc k) x e t =
 -- ---- objects
 
 pub local_there : (ds : List StructDef) (ls : List l.Local) (k plus : ℕ) (x : l.Local) → slice_get ls k ≡ Some x → x.in_memory ≡ true → plus ≤ size_of ds (type_view x.ty)
-    → (gs : List DataObject) → IsTrue (place_reaches gs (objects_of ds ls) plus (p.Local (object_of ls k)))
+    → (gs : List DataObject) → IsTrue (place_reaches gs (objects_of ds ls) plus (p.Local (object_index ls k)))
 local_there ds ls k plus x e memory small gs =
-    let found : slice_get (objects_of ds ls) (object_of ls k) ≡ Some (object_for ds x) =
-    slice_get-map (object_for ds) (filter (λ y. y.in_memory) ls) (object_of ls k) ∙ ap (λ o. option_map (object_for ds) o) (filter_at (λ y. y.in_memory) ls k x e memory) in
+    let found : slice_get (objects_of ds ls) (object_index ls k) ≡ Some (object_for ds x) =
+    slice_get-map (object_for ds) (filter (λ y. y.in_memory) ls) (object_index ls k) ∙ ap (λ o. option_map (object_for ds) o) (filter_at (λ y. y.in_memory) ls k x e memory) in
     ap (local_reaches plus) found ∙ le-leb plus (size_of ds (type_view x.ty)) small
 
 global_there : (ds : List StructDef) (ty : PlainType) (plus : ℕ) (o : Option DataObject) → IsTrue (has_global_type ds o ty) → plus ≤ size_of ds ty → IsTrue (global_reaches plus o)

@@ -14,7 +14,7 @@ use Rattle.c_typed_tree.specs.declared.expressions.Callee.TheVariants.{Builtin}
 use Rattle.c_typed_tree.specs.Types.{PlainType, Void}
 use Rattle.c_typed_tree.specs.Expressions.{Expr, Call, no_exprs, more_exprs, type_of}
 use Rattle.c_semantics.specs.Reasons.{UsesNoValue}
-use Rattle.c_semantics.specs.Runs.{CallState, Run, and_then, in_world, with_outer, use_value, number, pure, turn, trap, exit}
+use Rattle.c_semantics.specs.Runs.{CallState, Run, and_then, in_world, with_outer, use_value, use_number, pure, turn, trap, exit}
 use Rattle.c_semantics.specs.Objects.{call_result}
 use Rattle.c_semantics.specs.Evaluates.{eval, builtin, byte_or_end, put, get}
 use Rattle.suifvm_ir.specs.declared.insn.VmBuiltin.TheVariants as vi
@@ -116,7 +116,7 @@ module _ (c : Setting) (found : slice_get c.functions c.number ≡ Some c.code) 
         (hx.by d (Plain insn ∷ rest) heads p f scope r s m (λ v t. finish (use_value UsesNoValue v t) (λ v t. K2 (v ∷ []) t)) at fit low
         (λ q v g t q1 m1 at1 aft fit1 kept held stands.
         used_meets c.rooms c.functions UsesNoValue v t (λ v t. K2 (v ∷ []) t) _ (λ set.
-        bound c found (number v t) (λ k u. and_then (turn u) (λ _. put k)) K1 q q1 t.world m1
+        bound c found (use_number v t) (λ k u. and_then (turn u) (λ _. put k)) K1 q q1 t.world m1
         (number_meets c.rooms c.functions v t (λ k u. finish (and_then (turn u) (λ _. put k)) K1) _ (λ k is.
         let one = word_in g L d (type_of x) i.Int v k q1 ex is held stands in
         let at_from : q1 from ≡ Word k = ap (λ z. q1 (value_register L d z)) ex ∙ one.stands in
@@ -166,7 +166,7 @@ module _ (c : Setting) (found : slice_get c.functions c.number ≡ Some c.code) 
         (hx.by d (Plain insn ∷ rest) heads p f scope r s m (λ v t. finish (use_value UsesNoValue v t) (λ v t. K2 (v ∷ []) t)) at fit low
         (λ q v g t q1 m1 at1 aft fit1 kept held stands.
         used_meets c.rooms c.functions UsesNoValue v t (λ v t. K2 (v ∷ []) t) _ (λ set.
-        bound c found (number v t) (λ k u. and_then (turn u) (λ _. exit k)) K1 q q1 t.world m1
+        bound c found (use_number v t) (λ k u. and_then (turn u) (λ _. exit k)) K1 q q1 t.world m1
         (number_meets c.rooms c.functions v t (λ k u. finish (and_then (turn u) (λ _. exit k)) K1) _ (λ k is.
         let one = word_in g L d (type_of x) i.Int v k q1 ex is held stands in
         let at_from : q1 from ≡ Word k = ap (λ z. q1 (value_register L d z)) ex ∙ one.stands in

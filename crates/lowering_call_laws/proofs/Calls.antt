@@ -28,7 +28,7 @@ use Rattle.vm_meaning.specs.Behave.{Registers, set_register, set_registers, firs
 use Rattle.lowering_code.specs.declared.item.CodeItem.{CodeItem}
 use Rattle.lowering_code.specs.declared.item.CodeItem.TheVariants.{Plain}
 use Rattle.lowering_code.specs.Registers.{register_type, value_register}
-use Rattle.lowering_code.specs.Expressions.{plain_of, destination_of, argument_registers, exprs_code}
+use Rattle.lowering_code.specs.Expressions.{plain_of, destination_of, call_registers, exprs_code}
 use Rattle.lowering_states.specs.Places.{CodePlace, next_place}
 use Rattle.lowering_states.specs.Runs.{opens, CodeObservation, finish, frame_of}
 use Rattle.lowering_states.specs.States.{IsHeld, IsInRegister, KeepsLower}
@@ -90,7 +90,7 @@ module _ (c : Setting) (found : slice_get c.functions c.number ≡ Some c.code) 
   abbrev ArgumentsFollow : (d : ℕ) → List PlainType → Exprs → (heads : List ℕ) → (rest : List CodeItem) → Names → Scope → Registers → CallState → Memory → (List Value → CallState → CodeObservation) → Type 0
   ArgumentsFollow d tys xs heads rest f scope r s m K =
       (q : CodePlace) (vs : List Value) (g : Names) (t : CallState) (q1 : Registers) (m1 : Memory) → Stands c heads q rest → Aft c f s m g t m1 → Fit c g scope q1 t m1 → KeepsLower L d r q1
-      → AreArguments g tys vs (map q1 (argument_registers L c.structs c.locals d xs)) → EndsSo c (K vs t) q q1 t.world m1
+      → AreArguments g tys vs (map q1 (call_registers L c.structs c.locals d xs)) → EndsSo c (K vs t) q q1 t.world m1
 
   arguments : (tys : List PlainType) (xs : Exprs) → ArgumentsMeet c tys xs → (d : ℕ) (rest : List CodeItem) (heads : List ℕ) (p : CodePlace) (f : Names) (scope : Scope) (r : Registers) (s : CallState) (m : Memory) (K : List Value → CallState → CodeObservation)
       → Stands c heads p (exprs_code L c.structs c.locals d xs rest) → Fit c f scope r s m → s.world.meter.turns ≤ c.level → ArgumentsFollow d tys xs heads rest f scope r s m K
@@ -119,14 +119,14 @@ module _ (c : Setting) (found : slice_get c.functions c.number ≡ Some c.code) 
   module _ (ty : PlainType) (k : ℕ) (tys : List PlainType) (xs : Exprs) (callee : FunctionMeets c k tys ty) where
     -- once the arguments stand in registers
     call_leads : (destination : Option ℕ) (d : ℕ) (rest : List CodeItem) (heads : List ℕ) (scope : Scope) (K : Value → CallState → CodeObservation)
-        (q : CodePlace) (vs : List Value) (g : Names) (t : CallState) (q1 : Registers) (m1 : Memory) → Stands c heads q (Plain (n.Call destination (vk.Function k) (argument_registers L c.structs c.locals d xs)) ∷ rest)
-        → Fit c g scope q1 t m1 → AreArguments g tys vs (map q1 (argument_registers L c.structs c.locals d xs)) → t.world.meter.turns ≤ c.level
+        (q : CodePlace) (vs : List Value) (g : Names) (t : CallState) (q1 : Registers) (m1 : Memory) → Stands c heads q (Plain (n.Call destination (vk.Function k) (call_registers L c.structs c.locals d xs)) ∷ rest)
+        → Fit c g scope q1 t m1 → AreArguments g tys vs (map q1 (call_registers L c.structs c.locals d xs)) → t.world.meter.turns ≤ c.level
         → ((v : Value) (us : List Value) (h : Names) (t2 : CallState) (n1 : Memory) → Stands c heads (next_place q) rest → IsHeld ty v → IsValueOf h v (first_or_unset us) → Aft c g t m1 h t2 n1 → Fit c h scope q1 t2 n1
-        → EndsSo c (finish (call_result ty v t2) K) (next_place q) (set_registers (writes_of (n.Call destination (vk.Function k) (argument_registers L c.structs c.locals d xs))) us q1) t2.world n1)
+        → EndsSo c (finish (call_result ty v t2) K) (next_place q) (set_registers (writes_of (n.Call destination (vk.Function k) (call_registers L c.structs c.locals d xs))) us q1) t2.world n1)
         → EndsSo c (finish (c.calls k vs t) (λ v u. finish (call_result ty v u) K)) q q1 t.world m1
     unfolding opens
     call_leads destination d rest heads scope K q vs g t q1 m1 at fit rels low next =
-        let registers = argument_registers L c.structs c.locals d xs in
+        let registers = call_registers L c.structs c.locals d xs in
         let insn : VmInsn = n.Call destination (vk.Function k) registers in
         let ws = map q1 registers in
         let K1 : Value → CallState → CodeObservation = λ v u. finish (call_result ty v u) K in
@@ -154,7 +154,7 @@ module _ (c : Setting) (found : slice_get c.functions c.number ≡ Some c.code) 
     unfolding opens
     calls scalar all = record {
       by = λ d rest heads p f scope r s m K at fit low next.
-          let registers = argument_registers L c.structs c.locals d xs in
+          let registers = call_registers L c.structs c.locals d xs in
           let reg = value_register L d ty in
           let at2 = subst (λ z. Stands c heads p (exprs_code L c.structs c.locals d xs (Plain (n.Call z (vk.Function k) registers) ∷ rest))) (destination_is c d ty scalar) at in
           bound c found (and_then (evals c.structs c.locals c.calls scope xs s) (c.calls k)) (call_result ty) K p r s.world m
@@ -174,7 +174,7 @@ module _ (c : Setting) (found : slice_get c.functions c.number ≡ Some c.code) 
   unfolding opens
   voids k tys xs callee all = record {
     by = λ d rest heads p f scope r s m K at fit low next.
-        let registers = argument_registers L c.structs c.locals d xs in
+        let registers = call_registers L c.structs c.locals d xs in
         bound c found (and_then (evals c.structs c.locals c.calls scope xs s) (c.calls k)) (call_result Void) K p r s.world m
         (bound c found (evals c.structs c.locals c.calls scope xs s) (c.calls k) (λ v u. finish (call_result Void v u) K) p r s.world m
         (arguments tys xs all d (Plain (n.Call None (vk.Function k) registers) ∷ rest) heads p f scope r s m (λ vs t. finish (c.calls k vs t) (λ v u. finish (call_result Void v u) K)) at fit low

@@ -14,12 +14,12 @@ use Rattle.c_semantics.specs.Operators.{operator_of, operation_type, step_operat
 use Rattle.lowering_code.specs.Expressions.{plain_of}
 use Rattle.lowering_expression_laws.specs.Parts.{Setting}
 use Rattle.lowering_expression_laws.specs.Laws.{IsScalarType}
-use Rattle.lowering_change_laws.specs.Laws.{moving, RegistersAreChanged, MemoryIsChanged}
+use Rattle.lowering_change_laws.specs.Laws.{change_operator, RegistersAreChanged, MemoryIsChanged}
 use Rattle.lowering_change_laws.proofs.Leads.{CombinesLead, StepsLead, gives_its_type, integers_combine, integers_step, pointers_combine, pointers_step}
 use Rattle.lowering_change_laws.proofs.Registers as r
 use Rattle.lowering_change_laws.proofs.Memory as m
 
-moving_operator : (op : StepOp) → operator_of (moving op) ≡ Some (step_operator op)
+moving_operator : (op : StepOp) → operator_of (change_operator op) ≡ Some (step_operator op)
 moving_operator step.Increment = refl
 moving_operator step.Decrement = refl
 
@@ -54,7 +54,7 @@ registers_are_changed c found ty k h = record {
     postfixes = λ op. r.postfixes c found ty (integer c found ty left te) k h.local h.is_there h.in_register h.is_of_type op (steps c found ty left te op);
   };
   pointers = λ target te le op right y ey hy.
-      r.assignments c found ty (pointer c found ty target te le) k h.local h.is_there h.in_register h.is_of_type (moving op) (step_operator op) (plain_of right) y (moving_operator op) ey (moves c found ty target te le op right) hy;
+      r.assignments c found ty (pointer c found ty target te le) k h.local h.is_there h.in_register h.is_of_type (change_operator op) (step_operator op) (plain_of right) y (moving_operator op) ey (moves c found ty target te le op right) hy;
   pointer_steps = λ target te le. record {
     increments = r.increments c found ty (pointer c found ty target te le) k h.local h.is_there h.in_register h.is_of_type (pointer_steps c found ty target te le step.Increment);
     decrements = r.decrements c found ty (pointer c found ty target te le) k h.local h.is_there h.in_register h.is_of_type (pointer_steps c found ty target te le step.Decrement);
@@ -70,7 +70,7 @@ memory_is_changed c found ty x none hx = record {
     decrements = m.decrements c found ty (integer c found ty left te) x none hx (steps c found ty left te step.Decrement);
     postfixes = λ op. m.postfixes c found ty (integer c found ty left te) x none hx op (steps c found ty left te op);
   };
-  pointers = λ target te le op right y ey hy. m.assignments c found ty (pointer c found ty target te le) (moving op) (step_operator op) (plain_of right) x y (moving_operator op) none ey (moves c found ty target te le op right) hx hy;
+  pointers = λ target te le op right y ey hy. m.assignments c found ty (pointer c found ty target te le) (change_operator op) (step_operator op) (plain_of right) x y (moving_operator op) none ey (moves c found ty target te le op right) hx hy;
   pointer_steps = λ target te le. record {
     increments = m.increments c found ty (pointer c found ty target te le) x none hx (pointer_steps c found ty target te le step.Increment);
     decrements = m.decrements c found ty (pointer c found ty target te le) x none hx (pointer_steps c found ty target te le step.Decrement);

@@ -16,7 +16,7 @@ use Rattle.c_arithmetic.specs.Operations.{conversion}
 use Rattle.c_arithmetic.proofs.Results.{is_word-extension}
 use Rattle.c_tree.specs.declared.expressions.BinaryOp.{BinaryOp}
 use Rattle.c_typed_tree.specs.Constants.{integers_with}
-use Rattle.c_semantics.specs.Runs.{CallState, Run, and_then, number, pure}
+use Rattle.c_semantics.specs.Runs.{CallState, Run, and_then, use_number, pure}
 use Rattle.c_semantics.specs.Objects.{Scope}
 use Rattle.c_semantics.specs.Operators.{outcome, integers, convert_word, combined_in}
 use Rattle.suifvm_ir.specs.declared.types.VmType.{VmType}
@@ -31,13 +31,13 @@ use Rattle.lowering_code.specs.declared.item.CodeItem.TheVariants.{Plain}
 use Rattle.lowering_code.specs.declared.operation.RegisterOperation.{RegisterOperation}
 use Rattle.lowering_code.specs.declared.operation.RegisterOperation.TheVariants.{Calculates, Shifts, Compares, ComparesBack}
 use Rattle.lowering_code.specs.Registers.{register_type, temporary, value_register}
-use Rattle.lowering_code.specs.Expressions.{plain_of, is_kept, narrow_type, operation_of, operation_insn, convert_code, combine_in}
+use Rattle.lowering_code.specs.Expressions.{plain_of, keeps_register, narrow_type, operation_of, operation_insn, convert_code, combine_in}
 use Rattle.lowering_states.specs.Places.{CodePlace, next_place}
 use Rattle.lowering_states.specs.Runs.{opens, CodeObservation, finish}
 use Rattle.lowering_states.specs.States.{IsHeld, IsInRegister, KeepsLower}
 use Rattle.lowering_states.proofs.Steps.{traps, number_meets, outcome_meets}
 use Rattle.lowering_states.proofs.States.{set_same, set_other, other_depth, fits_temporary}
-use Rattle.lowering_values.specs.Laws.{is_shift}
+use Rattle.lowering_values.specs.Laws.{is_shift_operator}
 use Rattle.lowering_values.proofs.Integers.{kept_is, register-promoted, kept_conversion, made_conversion}
 use Rattle.lowering_values.proofs.Operators.{operators_correspond}
 use Rattle.lowering_expression_places.proofs.Behind.{at_plain}
@@ -93,7 +93,7 @@ module _ (c : Setting) (found : slice_get c.functions c.number ≡ Some c.code) 
   -- an integer at a depth becomes one of another type
   pub convert_leads : {e : CodeObservation} (o : ℕ) (t u : IntegerType) (k : ℕ) (tail : List CodeItem) (q : CodePlace) (r : Registers) → Stands c heads q (convert_code L o (plain_of t) (plain_of u) tail) → Fit c g scope r s m → WordIn L o t k r
       → ((q1 : CodePlace) (r1 : Registers) → Stands c heads q1 tail → Fit c g scope r1 s m → KeepsBut L o r r1 → WordIn L o u (conversion t u k) r1 → EndsSo c e q1 r1 s.world m) → EndsSo c e q r s.world m
-  convert_leads {e = e} o t u k tail q r at fit one next = by_kept (is_kept (plain_of t) (plain_of u)) refl at
+  convert_leads {e = e} o t u k tail q r at fit one next = by_kept (keeps_register (plain_of t) (plain_of u)) refl at
     where
       k1 : ℕ
       k1 = conversion t u k
@@ -101,7 +101,7 @@ module _ (c : Setting) (found : slice_get c.functions c.number ≡ Some c.code) 
       insn : VmInsn
       insn = n.Convert (narrow_type (plain_of t) (plain_of u)) (register_type (plain_of u)) (value_register L o (plain_of u)) (value_register L o (plain_of t))
 
-      by_kept : (x : Bool) → is_kept (plain_of t) (plain_of u) ≡ x → Stands c heads q (if x then tail else Plain insn ∷ tail) → EndsSo c e q r s.world m
+      by_kept : (x : Bool) → keeps_register (plain_of t) (plain_of u) ≡ x → Stands c heads q (if x then tail else Plain insn ∷ tail) → EndsSo c e q r s.world m
       by_kept true is at2 =
           let same : register_type (plain_of t) ≡ register_type (plain_of u) = sym (register-promoted t) ∙ ap (λ z. register_type (plain_of z)) (kept_is t u is) in
           next q r at2 fit kept_but (record { is_one = is_word-extension u _; stands = ap (λ z. r (temporary L o z)) (sym same) ∙ one.stands ∙ ap Word (sym (kept_conversion t u k one.is_one is)) })
@@ -112,7 +112,7 @@ module _ (c : Setting) (found : slice_get c.functions c.number ≡ Some c.code) 
           (next (next_place q) (set_register (value_register L o (plain_of u)) (Word k1) r) (at_plain c.code.blocks c.last c.end insn at2) (fits_temporary o (register_type (plain_of u)) (Word k1) fit) (kept_set (register_type (plain_of u)) (Word k1) kept_but)
           (record { is_one = is_word-extension u _; stands = set_same r (value_register L o (plain_of u)) (Word k1) }))
 
-  module _ (op : BinaryOp) (left t right : IntegerType) (pt : promote t ≡ t) (same : is_shift op ≡ false → right ≡ t) (gives : result_type op t ≡ t) (o d : ℕ) (apart : d ≢ o) (rest : List CodeItem) where
+  module _ (op : BinaryOp) (left t right : IntegerType) (pt : promote t ≡ t) (same : is_shift_operator op ≡ false → right ≡ t) (gives : result_type op t ≡ t) (o d : ℕ) (apart : d ≢ o) (rest : List CodeItem) where
     abbrev insn : VmInsn
     insn = operation_insn (operation_of op (is_signed t)) (register_type (plain_of t)) (value_register L o (plain_of t)) (value_register L o (plain_of t)) (value_register L d (plain_of right))
 
@@ -156,10 +156,10 @@ module _ (c : Setting) (found : slice_get c.functions c.number ≡ Some c.code) 
         let back : Value → Run Value = convert_word t left in
         let run : Value → Run Value = λ x u. and_then (integers op t right x w u) back in
         bound c found (convert_word left t v s) run K q r s.world m
-        (bound c found (number v s) (λ k. pure (Word (conversion left t k))) (λ x u. finish (run x u) K) q r s.world m
+        (bound c found (use_number v s) (λ k. pure (Word (conversion left t k))) (λ x u. finish (run x u) K) q r s.world m
         (number_meets c.rooms c.functions v s (λ k u. finish (run (Word (conversion left t k)) u) K) _ (λ x is.
         let whole : ℕ → Run Value = λ y. outcome (integers_with op t right (conversion left t x) y) in
-        bound c found (and_then (number w s) whole) back K q r s.world m
-        (bound c found (number w s) whole (λ z u. finish (back z u) K) q r s.world m
+        bound c found (and_then (use_number w s) whole) back K q r s.world m
+        (bound c found (use_number w s) whole (λ z u. finish (back z u) K) q r s.world m
         (number_meets c.rooms c.functions w s (λ y u. finish (whole y u) (λ z u1. finish (back z u1) K)) _ (λ y is2.
         words_lead x y K q r at fit (word_in g L o (plain_of left) left v x r refl is hv iv) (word_in g L d (plain_of right) right w y r refl is2 hw iw) next))))))

@@ -19,7 +19,7 @@ use Rattle.c_tree.specs.declared.expressions.BinaryOp.{BinaryOp}
 use Rattle.c_tree.specs.declared.expressions.BinaryOp.TheVariants as b
 use Rattle.c_typed_tree.specs.Types.{PlainType, Pointer}
 use Rattle.c_typed_tree.specs.Layout.{size_of}
-use Rattle.c_semantics.specs.Runs.{CallState, Run, number}
+use Rattle.c_semantics.specs.Runs.{CallState, Run, use_number}
 use Rattle.c_semantics.specs.Objects as obj
 use Rattle.c_semantics.specs.Objects.{Scope, move_reason, move_elements, move_by, element_plus}
 use Rattle.c_semantics.specs.Operators.{operator_of, operation_type, pointer_and_integer, combine, combined_in, step_operator, step_value}
@@ -35,7 +35,7 @@ use Rattle.lowering_states.specs.Runs.{opens, CodeObservation, finish}
 use Rattle.lowering_states.specs.States.{IsHeld, IsInRegister, KeepsLower}
 use Rattle.lowering_states.proofs.Steps.{meets_same, number_meets, known_meets}
 use Rattle.lowering_states.proofs.States.{set_other, other_depth, kept_all, kept_on, kept_temporary, is_at, fits_temporary}
-use Rattle.lowering_values.specs.Laws.{is_shift}
+use Rattle.lowering_values.specs.Laws.{is_shift_operator}
 use Rattle.lowering_values.proofs.Integers.{integer_of-plain}
 use Rattle.lowering_expression_places.proofs.Behind.{at_plain}
 use Rattle.lowering_expression_laws.specs.Parts.{Setting, count, EndsSo, Stands, Fit}
@@ -67,7 +67,7 @@ gives_its_type a.Xor o t e = ap (λ z. result_type z t) (sym (same_operator b.Xo
 gives_its_type a.Or o t e = ap (λ z. result_type z t) (sym (same_operator b.Or o e))
 
 -- but in a shift the type is that of the right side
-pub of_right : (op : BinaryOp) (left right : IntegerType) → is_shift op ≡ false → right ≡ operation_type op left right
+pub of_right : (op : BinaryOp) (left right : IntegerType) → is_shift_operator op ≡ false → right ≡ operation_type op left right
 of_right b.LogicalOr left right e = refl
 of_right b.LogicalAnd left right e = refl
 of_right b.Or left right e = refl
@@ -128,12 +128,12 @@ module _ (c : Setting) (found : slice_get c.functions c.number ≡ Some c.code) 
 
   combines : (op : BinaryOp) (left right : IntegerType) (v w : Value) → combine c.structs op (plain_of left) (plain_of right) v w ≡ combined_in op (operation_type op left right) left right v w
   combines op left right v w =
-      ap (λ z. combined_in op (operation_type op z (obj.integer_of (plain_of right))) z (obj.integer_of (plain_of right)) v w) (integer_of-plain left)
+      ap (λ z. combined_in op (operation_type op z (obj.integer_or_word (plain_of right))) z (obj.integer_or_word (plain_of right)) v w) (integer_of-plain left)
       ∙ ap (λ z. combined_in op (operation_type op left z) left z v w) (integer_of-plain right)
 
   combine_is : (op : BinaryOp) (left right : IntegerType) (o d free : ℕ) (rest : List CodeItem) → combine_code (count c) c.structs op o d free (plain_of left) (plain_of right) rest ≡ combine_in (count c) op (operation_type op left right) o d (plain_of left) (plain_of right) rest
   combine_is op left right o d free rest =
-      ap (λ z. combine_in (count c) op (operation_type op z (obj.integer_of (plain_of right))) o d (plain_of left) (plain_of right) rest) (integer_of-plain left)
+      ap (λ z. combine_in (count c) op (operation_type op z (obj.integer_or_word (plain_of right))) o d (plain_of left) (plain_of right) rest) (integer_of-plain left)
       ∙ ap (λ z. combine_in (count c) op (operation_type op left z) o d (plain_of left) (plain_of right) rest) (integer_of-plain right)
 
   pub integers_combine : (op : BinaryOp) (left right : IntegerType) → promote (operation_type op left right) ≡ operation_type op left right → result_type op (operation_type op left right) ≡ operation_type op left right → CombinesLead c op (plain_of left) (plain_of right)
@@ -186,7 +186,7 @@ module _ (c : Setting) (found : slice_get c.functions c.number ≡ Some c.code) 
     pointers_add t o d free low apart above below_o below_d heads g scope u m w q1 hw iw rest K q r old at fit kept held stands next =
         let moves : ℕ → Run Value = λ k. move_elements old (value t k *ℤ pos size) in
         meets_same c.rooms c.functions (ap (λ z. finish (move_by c.structs target z old w u) K) (integer_of-plain t))
-        (bound c found (number w u) moves K q r u.world m
+        (bound c found (use_number w u) moves K q r u.world m
         (number_meets c.rooms c.functions w u (λ k u1. finish (moves k u1) K) _ (λ k is.
         known_meets c.rooms c.functions (move_reason u.world.outer.memory old) (element_plus u.world.outer.memory old (value t k *ℤ pos size)) u K _ (λ result e.
         let moved = moved_by u.world.outer.memory old (value t k *ℤ pos size) result e in
@@ -200,7 +200,7 @@ module _ (c : Setting) (found : slice_get c.functions c.number ≡ Some c.code) 
     pointers_subtract t o d free low apart above below_o below_d heads g scope u m w q1 hw iw rest K q r old at fit kept held stands next =
         let moves : ℕ → Run Value = λ k. move_elements old (neg_ℤ (value t k) *ℤ pos size) in
         meets_same c.rooms c.functions (ap (λ z. finish (pointer_and_integer c.structs b.Subtract target z old w u) K) (integer_of-plain t))
-        (bound c found (number w u) moves K q r u.world m
+        (bound c found (use_number w u) moves K q r u.world m
         (number_meets c.rooms c.functions w u (λ k u1. finish (moves k u1) K) _ (λ k is.
         known_meets c.rooms c.functions (move_reason u.world.outer.memory old) (element_plus u.world.outer.memory old (neg_ℤ (value t k) *ℤ pos size)) u K _ (λ result e.
         let moved = moved_by u.world.outer.memory old (neg_ℤ (value t k) *ℤ pos size) result e in

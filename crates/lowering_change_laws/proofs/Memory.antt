@@ -19,7 +19,7 @@ use Rattle.c_semantics.specs.Runs.{CallState, Run, and_then, pure}
 use Rattle.c_semantics.specs.Objects as obj
 use Rattle.c_semantics.specs.Objects.{Scope, read_at, write_at}
 use Rattle.c_semantics.specs.Operators.{operator_of, combine, step_value}
-use Rattle.c_semantics.specs.Evaluates.{eval, place, assign, update, new_value, old_value}
+use Rattle.c_semantics.specs.Evaluates.{eval, place, assign_value, update, new_value, old_value}
 use Rattle.suifvm_ir.specs.declared.types.VmType.TheVariants.{P64}
 use Rattle.suifvm_ir.specs.declared.insn.VmUnaryOp.TheVariants.{Move}
 use Rattle.suifvm_ir.specs.declared.insn.VmInsn.TheVariants as n
@@ -140,15 +140,15 @@ module _ (c : Setting) (found : slice_get c.functions c.number ≡ Some c.code) 
         ap (λ z. assign_code L c.structs c.locals d z ty (type_of y) plus (register_of L c.structs c.locals x) at_place of_y rest) eo
         ∙ ap (λ z. assign_code L c.structs c.locals d (Some o) ty (type_of y) plus z at_place of_y rest) none
         ∙ ap (λ z. at_place (of_y (suc d) (combine_memory_code L c.structs o d plus ty z rest))) ey in
-        let run : obj.ValuePlace → Run Value = λ z t. and_then (eval c.structs c.locals c.calls scope y t) (assign c.structs ty right (Some o) z) in
+        let run : obj.ValuePlace → Run Value = λ z t. and_then (eval c.structs c.locals c.calls scope y t) (assign_value c.structs ty right (Some o) z) in
         meets_same c.rooms c.functions
-        (ap (λ v. finish (and_then (place c.structs c.locals c.calls scope x s) (λ z t. and_then (eval c.structs c.locals c.calls scope y t) (assign c.structs ty (type_of y) v z))) K) eo
-        ∙ ap (λ v. finish (and_then (place c.structs c.locals c.calls scope x s) (λ z t. and_then (eval c.structs c.locals c.calls scope y t) (assign c.structs ty v (Some o) z))) K) ey)
+        (ap (λ v. finish (and_then (place c.structs c.locals c.calls scope x s) (λ z t. and_then (eval c.structs c.locals c.calls scope y t) (assign_value c.structs ty (type_of y) v z))) K) eo
+        ∙ ap (λ v. finish (and_then (place c.structs c.locals c.calls scope x s) (λ z t. and_then (eval c.structs c.locals c.calls scope y t) (assign_value c.structs ty v (Some o) z))) K) ey)
         (bound c found (place c.structs c.locals c.calls scope x s) run K p1 r s.world m
         (hx.by d 0 (of_y (suc d) tail) heads p1 f scope r s m (λ z t. finish (run z t) K) (omega arith) (omega arith) (subst (λ z. Stands c heads p1 z) code_e at) fit low
         (λ q base there g t q1 m1 at1 aft fit1 kept held stands small is_base.
-        bound c found (eval c.structs c.locals c.calls scope y t) (assign c.structs ty right (Some o) (obj.At there)) K q q1 t.world m1
-        (hy.by (suc d) tail heads q g scope q1 t m1 (λ v u1. finish (assign c.structs ty right (Some o) (obj.At there) v u1) K) at1 fit1 (omega (arith, aft.turned, low))
+        bound c found (eval c.structs c.locals c.calls scope y t) (assign_value c.structs ty right (Some o) (obj.At there)) K q q1 t.world m1
+        (hy.by (suc d) tail heads q g scope q1 t m1 (λ v u1. finish (assign_value c.structs ty right (Some o) (obj.At there) v u1) K) at1 fit1 (omega (arith, aft.turned, low))
         (λ q2 v h u1 q3 m2 at2 aft2 fit2 kept2 held2 stands2.
         let same_base : q3 (address_register L d) ≡ q1 (address_register L d) = kept_reads {e = suc d} d P64 (omega arith) kept2 in
         let base_rel : IsValueOf h base (q3 (address_register L d)) = subst (λ z. IsValueOf h base z) (sym same_base) (values_stay g h base (q1 (address_register L d)) aft2.names stands) in

@@ -18,11 +18,11 @@ use Rattle.c_typed_tree.specs.View.{type_view}
 use Rattle.c_typed_tree.specs.Expressions.{Expr, Assign, Unary, Postfix, type_of}
 use Rattle.c_typed_tree.specs.Expressions as e
 use Rattle.c_semantics.specs.Reasons.{ReadsUnwritten, UsesNoValue}
-use Rattle.c_semantics.specs.Runs.{CallState, Run, and_then, with_registers, with_register, use_value, pure, write_register}
+use Rattle.c_semantics.specs.Runs.{CallState, Run, and_then, with_registers, with_local_value, use_value, pure, write_register}
 use Rattle.c_semantics.specs.Objects as obj
 use Rattle.c_semantics.specs.Objects.{Scope, as_held, write}
 use Rattle.c_semantics.specs.Operators.{operator_of, combine, step_value}
-use Rattle.c_semantics.specs.Evaluates.{eval, assign, update, new_value, old_value}
+use Rattle.c_semantics.specs.Evaluates.{eval, assign_value, update, new_value, old_value}
 use Rattle.suifvm_ir.specs.declared.insn.VmUnaryOp.TheVariants.{Move}
 use Rattle.suifvm_ir.specs.declared.insn.VmInsn.TheVariants as n
 use Rattle.vm_meaning.specs.Operations as vm
@@ -47,7 +47,7 @@ use Rattle.lowering_change_laws.proofs.Leads.{Leads, CombinesLead, StepsLead}
 
 -- a state in which a value was put into a local
 abbrev put_in : (k : ℕ) → Value → CallState → CallState
-put_in k z u = with_registers u (with_register u.registers k z)
+put_in k z u = with_registers u (with_local_value u.registers k z)
 
 module _ (c : Setting) (found : slice_get c.functions c.number ≡ Some c.code) (ty : PlainType) (scalar : IsScalarType ty) (k : ℕ) (l : Local) (el : slice_get c.locals k ≡ Some l) (em : l.in_memory ≡ false) (et : type_view l.ty ≡ ty) where
   abbrev L : ℕ
@@ -164,11 +164,11 @@ module _ (c : Setting) (found : slice_get c.functions c.number ≡ Some c.code) 
         ∙ ap (λ z. assign_code L c.structs c.locals d (Some o) ty (type_of y) (plus_of L c.structs c.locals here 0) z at_place of_y rest) (register_is c found k l el em)
         ∙ ap (λ z. of_y (suc d) (move_code ty reg k (combine_code L c.structs o d (suc d) (suc (suc d)) ty z (move_code ty k reg rest)))) ey in
         let tail : List CodeItem = move_code ty reg k (combine_code L c.structs o d (suc d) (suc (suc d)) ty right (move_code ty k reg rest)) in
-        let run : Value → Run Value = λ v. assign c.structs ty right (Some o) (obj.Register k) v in
+        let run : Value → Run Value = λ v. assign_value c.structs ty right (Some o) (obj.Register k) v in
         meets_same c.rooms c.functions
-        (ap (λ z. finish (and_then (z s) (λ q1 t1. and_then (eval c.structs c.locals c.calls scope y t1) (assign c.structs ty (type_of y) (operator_of op) q1))) K) (register_place c found k l scope el em)
-        ∙ ap (λ z. finish (and_then (eval c.structs c.locals c.calls scope y s) (assign c.structs ty (type_of y) z (obj.Register k))) K) eo
-        ∙ ap (λ z. finish (and_then (eval c.structs c.locals c.calls scope y s) (assign c.structs ty z (Some o) (obj.Register k))) K) ey)
+        (ap (λ z. finish (and_then (z s) (λ q1 t1. and_then (eval c.structs c.locals c.calls scope y t1) (assign_value c.structs ty (type_of y) (operator_of op) q1))) K) (register_place c found k l scope el em)
+        ∙ ap (λ z. finish (and_then (eval c.structs c.locals c.calls scope y s) (assign_value c.structs ty (type_of y) z (obj.Register k))) K) eo
+        ∙ ap (λ z. finish (and_then (eval c.structs c.locals c.calls scope y s) (assign_value c.structs ty z (Some o) (obj.Register k))) K) ey)
         (bound c found (eval c.structs c.locals c.calls scope y s) run K p1 r s.world m
         (hy.by (suc d) tail heads p1 f scope r s m (λ v u1. finish (run v u1) K) (subst (λ z. Stands c heads p1 z) code_e at) fit low
         (λ q v g u1 q1 m1 at1 aft fit1 kept held stands.

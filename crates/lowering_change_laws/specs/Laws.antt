@@ -28,9 +28,9 @@ pub record RegisterHolds (c : Setting) (k : ℕ) (ty : PlainType) : Type 0 where
   pub is_of_type : type_view local.ty ≡ ty
 
 -- `+=` for `++`, and `-=` for `--`: the only ones of a pointer
-abbrev pub moving : StepOp → AssignOp
-moving step.Increment = a.Add
-moving step.Decrement = a.Subtract
+abbrev pub change_operator : StepOp → AssignOp
+change_operator step.Increment = a.Add
+change_operator step.Decrement = a.Subtract
 
 -- `++` and `--` of a place, before it and behind it
 pub record StepsMeet (c : Setting) (ty : PlainType) (x : Expr) : Type 0 where
@@ -48,7 +48,7 @@ pub record ChangesMeet (c : Setting) (x : Expr) (ty : PlainType) : Type 0 where
   pub integer_steps : (left : IntegerType) → ty ≡ plain_of left → StepsMeet c ty x
   pub pointers : (target : PlainType) → ty ≡ Pointer target → size_of c.structs target ≤ MOST_DATA → (op : StepOp)
       (right : IntegerType) (y : Expr) → type_of y ≡ plain_of right → ExprMeets c y
-      → ExprMeets c (Assign ty (moving op) x y)
+      → ExprMeets c (Assign ty (change_operator op) x y)
   pub pointer_steps : (target : PlainType) → ty ≡ Pointer target → size_of c.structs target ≤ MOST_DATA
       → StepsMeet c ty x
 

@@ -20,7 +20,7 @@ use Rattle.c_typed_tree.specs.Types.{PlainType, Void, Int, Pointer, Array, Struc
 use Rattle.c_typed_tree.specs.Layout.{size_of, align_of}
 use Rattle.c_typed_tree.specs.Expressions.{Expr, Number, Global, Call, Unary, Binary, Assign, Conditional, Cast, Convert, Index, Field, Arrow, Postfix, Comma, Exprs, no_exprs, more_exprs, type_of}
 use Rattle.c_typed_tree.specs.Expressions as e
-use Rattle.c_semantics.specs.Objects.{integer_of, offset_of}
+use Rattle.c_semantics.specs.Objects.{integer_or_word, offset_of}
 use Rattle.c_semantics.specs.Operators.{operator_of, operation_type, step_operator, one_type}
 use Rattle.c_semantics.specs.Evaluates.{target_of}
 use Rattle.suifvm_ir.specs.declared.types.VmType.{VmType}
@@ -50,8 +50,8 @@ use Rattle.lowering_code.specs.declared.operation.RegisterOperation.{RegisterOpe
 use Rattle.lowering_code.specs.declared.operation.RegisterOperation.TheVariants.{Calculates, Shifts, Compares, ComparesBack}
 use Rattle.lowering_code.specs.declared.item.CodeItem.{CodeItem}
 use Rattle.lowering_code.specs.declared.item.CodeItem.TheVariants.{Start, Plain, Jump, Branch}
-use Rattle.lowering_code.specs.Registers.{register_type, memory_type, temporary, value_register, address_register, bytes_register, object_of}
-use Rattle.lowering_code.specs.Items.{count}
+use Rattle.lowering_code.specs.Registers.{register_type, memory_type, temporary, value_register, address_register, bytes_register, object_index}
+use Rattle.lowering_code.specs.Items.{block_total}
 
 -- ---- names in the other language
 
@@ -94,8 +94,8 @@ member_plus ds ty member plus = cap_offset (offset_of ds ty member + plus)
 
 -- ---- operators between two registers of one type
 
-abbrev pub right_shift : (signed : Bool) → ShiftOp
-right_shift signed = if signed then ArithmeticRight else LogicalRight
+abbrev pub right_shift_kind : (signed : Bool) → ShiftOp
+right_shift_kind signed = if signed then ArithmeticRight else LogicalRight
 
 -- those between integers of a type, and the comparisons of pointers
 abbrev pub operation_of : BinaryOp → (signed : Bool) → RegisterOperation
@@ -111,7 +111,7 @@ operation_of b.Greater signed = ComparesBack Less
 operation_of b.LessEqual signed = Compares LessOrEqual
 operation_of b.GreaterEqual signed = ComparesBack LessOrEqual
 operation_of b.ShiftLeft signed = Shifts Left
-operation_of b.ShiftRight signed = Shifts (right_shift signed)
+operation_of b.ShiftRight signed = Shifts (right_shift_kind signed)
 operation_of b.Add signed = Calculates Add
 operation_of b.Subtract signed = Calculates Subtract
 operation_of b.Multiply signed = Calculates Multiply
@@ -159,12 +159,12 @@ narrow_type from (Int bytes signed) = if bytes == 8 then memory_type from else m
 narrow_type from to = memory_type from
 
 -- every value of the register is one of the type
-abbrev pub is_whole : PlainType → Bool
-is_whole (Int bytes signed) = if bytes == 8 then true else bytes == 4
-is_whole ty = true
+abbrev pub fills_register : PlainType → Bool
+fills_register (Int bytes signed) = if bytes == 8 then true else bytes == 4
+fills_register ty = true
 
-abbrev pub is_kept : (from to : PlainType) → Bool
-is_kept from to = is_same_register (register_type from) (register_type to) && is_whole to
+abbrev pub keeps_register : (from to : PlainType) → Bool
+keeps_register from to = is_same_register (register_type from) (register_type to) && fills_register to
 
 -- the pointer is moved by the bytes, or back by them
 abbrev pub add_code : (destination pointer bytes : ℕ) → List CodeItem → List CodeItem
@@ -203,7 +203,7 @@ module _ (locals : ℕ) where
 
   abbrev pub convert_code : (depth : ℕ) → (from to : PlainType) → List CodeItem → List CodeItem
   convert_code d from to rest =
-      if is_kept from to then rest
+      if keeps_register from to then rest
       else Plain (n.Convert (narrow_type from to) (register_type to) (value_register locals d to)
       (value_register locals d from))
       ∷ rest
@@ -340,7 +340,7 @@ module _ (locals : ℕ) where
         → List CodeItem → List CodeItem
     combine_by op o d free left ty (Some element) rest = step_code op o d free element ty rest
     combine_by op o d free left ty None rest =
-        combine_in op (operation_type op (integer_of left) (integer_of ty)) o d left ty rest
+        combine_in op (operation_type op (integer_or_word left) (integer_or_word ty)) o d left ty rest
 
     abbrev pub combine_code : BinaryOp → (old right free : ℕ) → (left ty : PlainType) → List CodeItem → List CodeItem
     combine_code op o d free left ty rest = combine_by op o d free left ty (element_of left) rest
@@ -425,16 +425,16 @@ module _ (locals : ℕ) where
 
       abbrev pub local_code : (depth : ℕ) → PlainType → (number : ℕ) → Option ℕ → List CodeItem → List CodeItem
       local_code d ty k (Some register) rest = move_code ty (value_register locals d ty) register rest
-      local_code d ty k None rest = address_code d (p.Local (object_of ls k)) 0 (load_code d ty 0 rest)
+      local_code d ty k None rest = address_code d (p.Local (object_index ls k)) 0 (load_code d ty 0 rest)
 
       -- where the result of a call goes
       abbrev pub destination_of : (depth : ℕ) → PlainType → Option ℕ
       destination_of d Void = None
       destination_of d ty = Some (value_register locals d ty)
 
-      abbrev pub argument_registers : (depth : ℕ) → Exprs → List ℕ
-      argument_registers d no_exprs = []
-      argument_registers d (more_exprs x xs) = value_register locals d (type_of x) ∷ argument_registers (suc d) xs
+      abbrev pub call_registers : (depth : ℕ) → Exprs → List ℕ
+      call_registers d no_exprs = []
+      call_registers d (more_exprs x xs) = value_register locals d (type_of x) ∷ call_registers (suc d) xs
 
       -- a change in a register, or else in memory
       abbrev pub change_code : Option ℕ → (in_register : ℕ → List CodeItem) → (in_memory : List CodeItem)
@@ -469,7 +469,7 @@ module _ (locals : ℕ) where
         expr_code d (e.Local ty k) rest = local_code d ty k (register_if k (slice_get ls k)) rest
         expr_code d (Global ty k) rest = address_code d (p.Global k) 0 (load_code d ty 0 rest)
         expr_code d (Call ty callee xs) rest =
-            exprs_code d xs (Plain (n.Call (destination_of d ty) (vm_callee callee) (argument_registers d xs)) ∷ rest)
+            exprs_code d xs (Plain (n.Call (destination_of d ty) (vm_callee callee) (call_registers d xs)) ∷ rest)
         expr_code d (Unary ty u.Address x) rest = place_code d x 0 (moved_code d (plus_of x 0) rest)
         expr_code d (Unary ty u.Dereference x) rest = expr_code d x (load_code d ty 0 rest)
         expr_code d (Unary ty u.Increment x) rest =
@@ -484,14 +484,14 @@ module _ (locals : ℕ) where
         expr_code d (Unary ty u.Invert x) rest = expr_code d x (unary_code Complement d ty rest)
         expr_code d (Binary ty b.LogicalAnd x y) rest =
             let fails = constant_code d ty 0 (Start ∷ rest) in
-            expr_code d x (branch_code IfFalse d (type_of x) (count fails)
-            (expr_code d y (branch_code IfFalse d (type_of y) (count fails)
-            (constant_code d ty 1 (Jump (count rest) ∷ fails)))))
+            expr_code d x (branch_code IfFalse d (type_of x) (block_total fails)
+            (expr_code d y (branch_code IfFalse d (type_of y) (block_total fails)
+            (constant_code d ty 1 (Jump (block_total rest) ∷ fails)))))
         expr_code d (Binary ty b.LogicalOr x y) rest =
             let holds = constant_code d ty 1 (Start ∷ rest) in
-            expr_code d x (branch_code IfTrue d (type_of x) (count holds)
-            (expr_code d y (branch_code IfTrue d (type_of y) (count holds)
-            (constant_code d ty 0 (Jump (count rest) ∷ holds)))))
+            expr_code d x (branch_code IfTrue d (type_of x) (block_total holds)
+            (expr_code d y (branch_code IfTrue d (type_of y) (block_total holds)
+            (constant_code d ty 0 (Jump (block_total rest) ∷ holds)))))
         expr_code d (Binary ty op x y) rest =
             expr_code d x (expr_code (suc d) y (binary_code op d ty (type_of x) (type_of y) rest))
         expr_code d (Assign ty op x y) rest =
@@ -499,8 +499,8 @@ module _ (locals : ℕ) where
             (λ k is. expr_code k y is) rest
         expr_code d (Conditional ty x y z) rest =
             let fails = expr_code d z (Start ∷ rest) in
-            expr_code d x (branch_code IfFalse d (type_of x) (count fails)
-            (expr_code d y (Jump (count rest) ∷ fails)))
+            expr_code d x (branch_code IfFalse d (type_of x) (block_total fails)
+            (expr_code d y (Jump (block_total rest) ∷ fails)))
         expr_code d (Cast ty x) rest =
             conversion_code d (type_of x) ty (plus_of x 0) (λ is. place_code d x 0 is) (λ is. expr_code d x is) rest
         expr_code d (Convert ty x) rest =
@@ -520,7 +520,7 @@ module _ (locals : ℕ) where
         -- the pointer to a place, moved by so many bytes, into the register of pointers at the depth: all of it where a
         -- name stands there, else but for `plus_of`
         pub place_code : (depth : ℕ) → Expr → (plus : ℕ) → List CodeItem → List CodeItem
-        place_code d (e.Local ty k) plus rest = address_code d (p.Local (object_of ls k)) plus rest
+        place_code d (e.Local ty k) plus rest = address_code d (p.Local (object_index ls k)) plus rest
         place_code d (Global ty k) plus rest = address_code d (p.Global k) plus rest
         place_code d (Unary ty u.Dereference x) plus rest = expr_code d x rest
         place_code d (Index ty x y) plus rest =

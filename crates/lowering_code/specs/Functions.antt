@@ -13,7 +13,7 @@ use Rattle.suifvm_ir.specs.declared.insn.VmInsn as vm
 use Rattle.suifvm_ir.specs.declared.insn.VmInsn.TheVariants as n
 use Rattle.suifvm_ir.specs.declared.function.MemoryLocal.{MemoryLocal}
 use Rattle.lowering_code.specs.declared.item.CodeItem.{CodeItem}
-use Rattle.lowering_code.specs.Registers.{temporary, address_register, object_of}
+use Rattle.lowering_code.specs.Registers.{temporary, address_register, object_index}
 use Rattle.lowering_code.specs.Expressions.{constant_code, store_code, address_code}
 use Rattle.lowering_code.specs.Statements.{stmt_code}
 use Rattle.lowering_code.specs.Layout.{blocks_of}
@@ -30,7 +30,7 @@ module _ (locals : ℕ) (ds : List StructDef) (ls : List Local) where
   abbrev pub parameter_code : (number : ℕ) → Local → List CodeItem → List CodeItem
   parameter_code k l rest =
       if l.in_memory
-      then address_code locals 0 (p.Local (object_of ls k)) 0
+      then address_code locals 0 (p.Local (object_index ls k)) 0
       (store_code (type_view l.ty) (address_register locals 0) 0 k rest)
       else rest
 
@@ -39,8 +39,8 @@ module _ (locals : ℕ) (ds : List StructDef) (ls : List Local) where
   parameters_code k (l ∷ more) rest = parameter_code k l (parameters_code (suc k) more rest)
 
 -- a call that comes to the end of its function gives nothing, but of `main` 0
-abbrev pub end_of : (locals : ℕ) → (main : Bool) → List vm.VmInsn
-end_of locals main =
+abbrev pub end_code : (locals : ℕ) → (main : Bool) → List vm.VmInsn
+end_code locals main =
     if main
     then n.LoadConstant S32 (temporary locals 0 S32) 0
     ∷ n.Return (Some (record { ty = S32; register = temporary locals 0 S32 }))
@@ -53,4 +53,4 @@ items_of ds f =
     (stmt_code (length f.locals) ds f.locals 0 0 (stmt_view f.body) [])
 
 abbrev pub function_blocks : List StructDef → TypedFn → List (List vm.VmInsn)
-function_blocks ds f = blocks_of (end_of (length f.locals) (is_main f)) (items_of ds f)
+function_blocks ds f = blocks_of (end_code (length f.locals) (is_main f)) (items_of ds f)

@@ -4,14 +4,14 @@ use Rattle.lowering_code.specs.declared.item.CodeItem.{CodeItem}
 use Rattle.lowering_code.specs.declared.item.CodeItem.TheVariants.{Start, Plain, Jump, Branch, Loop, Enter, Again, Repeat, Return}
 
 -- how many blocks begin in the code: this is the name of the block that begins with it
-abbrev pub count : List CodeItem → ℕ
-count [] = 0
-count (Start ∷ is) = suc (count is)
-count (Plain insn ∷ is) = count is
-count (Jump name ∷ is) = suc (count is)
-count (Branch op ty source name ∷ is) = suc (count is)
-count (Loop name ∷ is) = suc (count is)
-count (Enter ∷ is) = suc (count is)
-count (Again ty source ∷ is) = suc (count is)
-count (Repeat ∷ is) = suc (count is)
-count (Return value ∷ is) = suc (count is)
+abbrev pub block_total : List CodeItem → ℕ
+block_total [] = 0
+block_total (Start ∷ is) = suc (block_total is)
+block_total (Plain insn ∷ is) = block_total is
+block_total (Jump name ∷ is) = suc (block_total is)
+block_total (Branch op ty source name ∷ is) = suc (block_total is)
+block_total (Loop name ∷ is) = suc (block_total is)
+block_total (Enter ∷ is) = suc (block_total is)
+block_total (Again ty source ∷ is) = suc (block_total is)
+block_total (Repeat ∷ is) = suc (block_total is)
+block_total (Return value ∷ is) = suc (block_total is)

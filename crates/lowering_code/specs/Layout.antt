@@ -7,7 +7,7 @@ use Rattle.suifvm_ir.specs.declared.insn.VmInsn as vm
 use Rattle.suifvm_ir.specs.declared.insn.VmInsn.TheVariants as n
 use Rattle.lowering_code.specs.declared.item.CodeItem.{CodeItem}
 use Rattle.lowering_code.specs.declared.item.CodeItem.TheVariants.{Start, Plain, Jump, Branch, Loop, Enter, Again, Repeat, Return}
-use Rattle.lowering_code.specs.Items.{count}
+use Rattle.lowering_code.specs.Items.{block_total}
 
 -- how far the layout has come: the number of the last block, which has the name 0; the blocks that are whole, the
 -- instructions of the next one, and the first blocks of the bodies of the loops that are open, the inner one first
@@ -31,9 +31,9 @@ end_with insn l = end_block (with_insn insn l)
 abbrev pub open_loop : Layout → Layout
 open_loop l = with_insn n.Mark (record l { heads = length l.blocks ∷ l.heads })
 
-abbrev pub head_of : List ℕ → ℕ
-head_of [] = 0
-head_of (head ∷ heads) = head
+abbrev pub head_or_zero : List ℕ → ℕ
+head_or_zero [] = 0
+head_or_zero (head ∷ heads) = head
 
 abbrev pub outer_heads : List ℕ → List ℕ
 outer_heads [] = []
@@ -46,20 +46,20 @@ close_loop l = record l { heads = outer_heads l.heads }
 abbrev pub block_with : (name : ℕ) → Layout → ℕ
 block_with name l = l.last - name
 
-abbrev pub with_item : CodeItem → Layout → Layout
-with_item Start l = end_block l
-with_item (Plain insn) l = with_insn insn l
-with_item (Jump name) l = end_with (n.Jump (block_with name l)) l
-with_item (Branch op ty source name) l = end_with (n.Branch op ty source (block_with name l)) l
-with_item (Loop name) l = open_loop (end_with (n.Jump (block_with name l)) l)
-with_item Enter l = open_loop (end_block l)
-with_item (Again ty source) l = close_loop (end_with (n.Branch IfTrue ty source (head_of l.heads)) l)
-with_item Repeat l = close_loop (end_with (n.Jump (head_of l.heads)) l)
-with_item (Return value) l = end_with (n.Return value) l
+abbrev pub add_item : CodeItem → Layout → Layout
+add_item Start l = end_block l
+add_item (Plain insn) l = with_insn insn l
+add_item (Jump name) l = end_with (n.Jump (block_with name l)) l
+add_item (Branch op ty source name) l = end_with (n.Branch op ty source (block_with name l)) l
+add_item (Loop name) l = open_loop (end_with (n.Jump (block_with name l)) l)
+add_item Enter l = open_loop (end_block l)
+add_item (Again ty source) l = close_loop (end_with (n.Branch IfTrue ty source (head_or_zero l.heads)) l)
+add_item Repeat l = close_loop (end_with (n.Jump (head_or_zero l.heads)) l)
+add_item (Return value) l = end_with (n.Return value) l
 
 abbrev pub with_items : List CodeItem → Layout → Layout
 with_items [] l = l
-with_items (i ∷ is) l = with_items is (with_item i l)
+with_items (i ∷ is) l = with_items is (add_item i l)
 
 abbrev pub no_block : (last : ℕ) → Layout
 no_block last = record { last = last; blocks = []; insns = []; heads = [] }
@@ -67,5 +67,5 @@ no_block last = record { last = last; blocks = []; insns = []; heads = [] }
 -- the blocks of the code of a function, of which the last one ends with these instructions
 abbrev pub blocks_of : (end : List vm.VmInsn) → List CodeItem → List (List vm.VmInsn)
 blocks_of end is =
-    let l = with_items is (no_block (count is)) in
+    let l = with_items is (no_block (block_total is)) in
     l.blocks ++ (l.insns ++ end) ∷ []

@@ -65,5 +65,5 @@ bytes_register locals depth = temporary locals depth v.S64
 -- ---- objects
 
 -- the object of a memory local: the memory locals are the objects of the function, in order
-abbrev pub object_of : List Local → (local : ℕ) → ℕ
-object_of ls k = count_by (λ l. l.in_memory) (take k ls)
+abbrev pub object_index : List Local → (local : ℕ) → ℕ
+object_index ls k = count_by (λ l. l.in_memory) (take k ls)

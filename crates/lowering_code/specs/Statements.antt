@@ -19,8 +19,8 @@ use Rattle.suifvm_ir.specs.declared.insn.VmObject.TheVariants as p
 use Rattle.suifvm_ir.specs.declared.insn.VmInsn.TheVariants as n
 use Rattle.lowering_code.specs.declared.item.CodeItem.{CodeItem}
 use Rattle.lowering_code.specs.declared.item.CodeItem.TheVariants.{Start, Plain, Jump, Loop, Enter, Again, Repeat, Return}
-use Rattle.lowering_code.specs.Registers.{register_type, temporary, value_register, address_register, object_of}
-use Rattle.lowering_code.specs.Items.{count}
+use Rattle.lowering_code.specs.Registers.{register_type, temporary, value_register, address_register, object_index}
+use Rattle.lowering_code.specs.Items.{block_total}
 use Rattle.lowering_code.specs.Expressions.{constant_code, move_code, store_code, branch_code, address_code, copy_code, expr_code}
 
 -- a label of a `switch` with the name of its block
@@ -46,10 +46,10 @@ module _ (locals : ℕ) (ds : List StructDef) (ls : List Local) where
   -- a value that was converted comes into a local: a struct is copied
   abbrev pub put_code : PlainType → (local : ℕ) → List CodeItem → List CodeItem
   put_code (Struct number) k rest =
-      address_code locals 1 (p.Local (object_of ls k)) 0
+      address_code locals 1 (p.Local (object_index ls k)) 0
       (copy_code ds (address_register locals 1) (address_register locals 0) (Struct number) rest)
   put_code ty k rest =
-      address_code locals 1 (p.Local (object_of ls k)) 0
+      address_code locals 1 (p.Local (object_index ls k)) 0
       (store_code ty (address_register locals 1) 0 (value_register locals 0 ty) rest)
 
   abbrev pub put_local_code : (local : ℕ) → Option Local → List CodeItem → List CodeItem
@@ -118,25 +118,25 @@ module _ (locals : ℕ) (ds : List StructDef) (ls : List Local) where
     pub stmt_code : (break_to continue_to : ℕ) → Stmt → List CodeItem → List CodeItem
     stmt_code brk con (q.Block ss) rest = stmts_code brk con ss rest
     stmt_code brk con (q.If x s no_else) rest =
-        value_code x (branch_code locals IfFalse 0 (type_of x) (count rest) (stmt_code brk con s (Start ∷ rest)))
+        value_code x (branch_code locals IfFalse 0 (type_of x) (block_total rest) (stmt_code brk con s (Start ∷ rest)))
     stmt_code brk con (q.If x s (else_stmt t)) rest =
         let fails = stmt_code brk con t (Start ∷ rest) in
-        value_code x (branch_code locals IfFalse 0 (type_of x) (count fails)
-        (stmt_code brk con s (Jump (count rest) ∷ fails)))
+        value_code x (branch_code locals IfFalse 0 (type_of x) (block_total fails)
+        (stmt_code brk con s (Jump (block_total rest) ∷ fails)))
     stmt_code brk con (q.While x s) rest =
         let test = again_code x rest in
-        Loop (count test) ∷ stmt_code (count rest) (count test) s (Start ∷ test)
+        Loop (block_total test) ∷ stmt_code (block_total rest) (block_total test) s (Start ∷ test)
     stmt_code brk con (q.Do s x) rest =
         let test = again_code x rest in
-        Enter ∷ stmt_code (count rest) (count test) s (Start ∷ test)
+        Enter ∷ stmt_code (block_total rest) (block_total test) s (Start ∷ test)
     stmt_code brk con (q.For start condition step s) rest =
         let test = test_code condition rest in
         let after = after_code step test in
-        first_code start (Loop (count test) ∷ stmt_code (count rest) (count after) s (Start ∷ after))
+        first_code start (Loop (block_total test) ∷ stmt_code (block_total rest) (block_total after) s (Start ∷ after))
     stmt_code brk con (q.Switch x sections) rest =
-        let bodies = sections_code (count rest) con sections (Start ∷ rest) in
-        let targets = targets_of (count rest) con sections (Start ∷ rest) in
-        value_code x (labels_code (type_of x) targets (Jump (default_name (count rest) targets) ∷ bodies))
+        let bodies = sections_code (block_total rest) con sections (Start ∷ rest) in
+        let targets = switch_targets (block_total rest) con sections (Start ∷ rest) in
+        value_code x (labels_code (type_of x) targets (Jump (default_name (block_total rest) targets) ∷ bodies))
     stmt_code brk con q.Break rest = Jump brk ∷ rest
     stmt_code brk con q.Continue rest = Jump con ∷ rest
     stmt_code brk con (q.Return x) rest = return_code x rest
@@ -155,8 +155,8 @@ module _ (locals : ℕ) (ds : List StructDef) (ls : List Local) where
         Start ∷ stmts_code brk con ss (sections_code brk con sections rest)
 
     -- their labels with the names of these blocks
-    pub targets_of : (break_to continue_to : ℕ) → Sections → List CodeItem → List Target
-    targets_of brk con no_sections rest = []
-    targets_of brk con (more_sections label ss sections) rest =
-        record { label = label; name = count (stmts_code brk con ss (sections_code brk con sections rest)) }
-        ∷ targets_of brk con sections rest
+    pub switch_targets : (break_to continue_to : ℕ) → Sections → List CodeItem → List Target
+    switch_targets brk con no_sections rest = []
+    switch_targets brk con (more_sections label ss sections) rest =
+        record { label = label; name = block_total (stmts_code brk con ss (sections_code brk con sections rest)) }
+        ∷ switch_targets brk con sections rest

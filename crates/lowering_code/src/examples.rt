@@ -28,7 +28,7 @@ pub fn arithmetic()
     ensures narrowing_wraps { unit_behaviour unit.narrowing_wraps [] 9 300 ≡ Done [] 1 }
     ensures increment_overflows { unit_behaviour unit.increment_overflows [] 9 300 ≡ Trap [] 3 }
     ensures minus_least { unit_behaviour unit.minus_least [] 9 300 ≡ Trap [] 3 }
-    ensures division_by_zero { unit_behaviour unit.division_by_zero [] 9 300 ≡ Trap [] 1 }
+    ensures division_by_zero { unit_behaviour unit.zero_divisor [] 9 300 ≡ Trap [] 1 }
     ensures least_by_minus_one { unit_behaviour unit.least_by_minus_one [] 9 300 ≡ Trap [] 3 }
     ensures remainder_of_least { unit_behaviour unit.remainder_of_least [] 9 300 ≡ Trap [] 3 }
     ensures division_truncates { unit_behaviour unit.division_truncates [] 9 300 ≡ Done [] 253 }

@@ -26,7 +26,7 @@ use Rattle.c_semantics.specs.Reasons.{UsesNoValue}
 use Rattle.c_semantics.specs.Runs.{CallState, Run, and_then, use_value, ◌>>=◌}
 use Rattle.c_semantics.specs.Objects as objects
 use Rattle.c_semantics.specs.Objects.{Scope, ValuePlace}
-use Rattle.c_semantics.specs.Operators.{outcome, integers, binary, unary, test, pure_truth, convert}
+use Rattle.c_semantics.specs.Operators.{outcome, integers, apply_binary, apply_unary, test, pure_truth, convert}
 use Rattle.c_semantics.specs.Evaluates.{Functions, choose, converted_from, eval, place, last_of}
 use Rattle.lowering_states.specs.Runs.{opens}
 use Rattle.lowering_bounds.proofs.Typing.{one, two, three, same}
@@ -79,7 +79,7 @@ integers_given op (Some t) None x y n s e = absent n e
 integers_given op (Some t) (Some r) x y n s e = outcome_given (integers_with op t r x y) n s e
 
 operator_given : (ds : List StructDef) (op : BinaryOp) (left right : PlainType) (x y n : ℕ) (s : CallState) → binary_value op (integer_of left) (integer_of right) x y ≡ Some n
-    → binary ds op left right (Word x) (Word y) s ≡ Gives (Word n) s
+    → apply_binary ds op left right (Word x) (Word y) s ≡ Gives (Word n) s
 operator_given ds op Void right x y n s e = absent n e
 operator_given ds op (Pointer t) right x y n s e = absent n e
 operator_given ds op (Array t k) right x y n s e = absent n e
@@ -91,12 +91,12 @@ operator_given ds op (Int a c) (Struct k) x y n s e = no_second op (integer_type
 operator_given ds op (Int a c) (Int b d) x y n s e = integers_given op (integer_type a c) (integer_type b d) x y n s e
 
 both_given : (ds : List StructDef) (op : BinaryOp) (left right : PlainType) (run other : Run Value) (x y : Option ℕ) (n : ℕ) (s : CallState) → ((m : ℕ) → x ≡ Some m → GivesWord run m s) → ((m : ℕ) → y ≡ Some m → GivesWord other m s)
-    → both_values (binary_value op (integer_of left) (integer_of right)) x y ≡ Some n → and_then (run s) (λ v t. and_then (other t) (λ w. binary ds op left right v w)) ≡ Gives (Word n) s
+    → both_values (binary_value op (integer_of left) (integer_of right)) x y ≡ Some n → and_then (run s) (λ v t. and_then (other t) (λ w. apply_binary ds op left right v w)) ≡ Gives (Word n) s
 both_given ds op left right run other x y n s hx hy e =
     let first = then_found (λ m. option_and_then (binary_value op (integer_of left) (integer_of right) m) y) x n e in
     let second = then_found (binary_value op (integer_of left) (integer_of right) first.value) y n first.leads in
-    ap (λ z. and_then z (λ v t. and_then (other t) (λ w. binary ds op left right v w))) (hx first.value first.is_there)
-    ∙ ap (λ z. and_then z (λ w. binary ds op left right (Word first.value) w)) (hy second.value second.is_there) ∙ operator_given ds op left right first.value second.value n s second.leads
+    ap (λ z. and_then z (λ v t. and_then (other t) (λ w. apply_binary ds op left right v w))) (hx first.value first.is_there)
+    ∙ ap (λ z. and_then z (λ w. apply_binary ds op left right (Word first.value) w)) (hy second.value second.is_there) ∙ operator_given ds op left right first.value second.value n s second.leads
 
 -- in front of a word: by the type of the operand, which is the one of the whole but for `!`
 minus_given : (t : Option IntegerType) (x n : ℕ) (s : CallState) → unary_value u.Minus t x ≡ Some n → outcome (negation (unwrap_or t i.UnsignedLong) x) s ≡ Gives (Word n) s
@@ -119,7 +119,7 @@ no_operator : {X : Type 0} (op : UnaryOp) (t : Option IntegerType) (x n : ℕ) �
 no_operator op None x n h e = absent n e
 no_operator op (Some t) x n h e = absent n (sym (h t) ∙ e)
 
-integer_is : (ty : PlainType) → objects.integer_of ty ≡ unwrap_or (integer_of ty) i.UnsignedLong
+integer_is : (ty : PlainType) → objects.integer_or_word ty ≡ unwrap_or (integer_of ty) i.UnsignedLong
 integer_is Void = refl
 integer_is (Int a c) = refl
 integer_is (Pointer t) = refl
@@ -229,7 +229,7 @@ module _ (k : Context) (ls : List l.Local) (functions : Functions) (scope : Scop
   same_as ty x h = same (type_of x) ty (back (is_promoted (type_of x)) (is_same_type (type_of x) ty) h)
 
   operands : (op : BinaryOp) (x y : Expr) (n : ℕ) (s : CallState) → ((m : ℕ) → constant x ≡ Some m → Given x m s) → ((m : ℕ) → constant y ≡ Some m → Given y m s) → both_values (binary_value op (integer_of (type_of x)) (integer_of (type_of y))) (constant x) (constant y) ≡ Some n
-      → and_then (eval k.structs ls functions scope x s) (λ v t. and_then (eval k.structs ls functions scope y t) (λ w. binary k.structs op (type_of x) (type_of y) v w)) ≡ Gives (Word n) s
+      → and_then (eval k.structs ls functions scope x s) (λ v t. and_then (eval k.structs ls functions scope y t) (λ w. apply_binary k.structs op (type_of x) (type_of y) v w)) ≡ Gives (Word n) s
   operands op x y n s hx hy e = both_given k.structs op (type_of x) (type_of y) (eval k.structs ls functions scope x) (eval k.structs ls functions scope y) (constant x) (constant y) n s hx hy e
 
   typed_operands : (ty : PlainType) (op : BinaryOp) (x y : Expr) → IsTrue (is_typed k (Binary ty op x y)) → IsTrue (has_rule k (Binary ty op x y)) × IsTrue (is_typed k x) × IsTrue (is_typed k y)
@@ -250,13 +250,13 @@ module _ (k : Context) (ls : List l.Local) (functions : Functions) (scope : Scop
     given (Unary ty u.Minus x) n h e s =
         let o = one (is_fit k.structs ty) (has_rule k (Unary ty u.Minus x)) (is_typed k x) h in
         let f = then_found (unary_value u.Minus (integer_of (type_of x))) (constant x) n e in
-        ap (λ z. and_then z (unary u.Minus ty)) (given x f.value o.1 f.is_there s)
-        ∙ ap (λ z. outcome (negation z f.value) s) (ap objects.integer_of (sym (same_as ty x o.0)) ∙ integer_is (type_of x)) ∙ minus_given (integer_of (type_of x)) f.value n s f.leads
+        ap (λ z. and_then z (apply_unary u.Minus ty)) (given x f.value o.1 f.is_there s)
+        ∙ ap (λ z. outcome (negation z f.value) s) (ap objects.integer_or_word (sym (same_as ty x o.0)) ∙ integer_is (type_of x)) ∙ minus_given (integer_of (type_of x)) f.value n s f.leads
     given (Unary ty u.Invert x) n h e s =
         let o = one (is_fit k.structs ty) (has_rule k (Unary ty u.Invert x)) (is_typed k x) h in
         let f = then_found (unary_value u.Invert (integer_of (type_of x))) (constant x) n e in
-        ap (λ z. and_then z (unary u.Invert ty)) (given x f.value o.1 f.is_there s)
-        ∙ ap (λ z. Gives (Word (complement z f.value)) s) (ap objects.integer_of (sym (same_as ty x o.0)) ∙ integer_is (type_of x))
+        ap (λ z. and_then z (apply_unary u.Invert ty)) (given x f.value o.1 f.is_there s)
+        ∙ ap (λ z. Gives (Word (complement z f.value)) s) (ap objects.integer_or_word (sym (same_as ty x o.0)) ∙ integer_is (type_of x))
         ∙ ap (λ z. Gives (Word z) s) (invert_given (integer_of (type_of x)) f.value n f.leads)
     given (Unary ty u.Not x) n h e s =
         let o = one (is_fit k.structs ty) (has_rule k (Unary ty u.Not x)) (is_typed k x) h in

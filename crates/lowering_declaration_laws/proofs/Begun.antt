@@ -9,12 +9,12 @@ use Rattle.mem_model.specs.Related.{Names, with_name}
 use Rattle.c_typed_tree.specs.declared.units.Local.{Local}
 use Rattle.c_typed_tree.specs.View.{type_view}
 use Rattle.c_typed_tree.specs.Layout.{size_of}
-use Rattle.c_semantics.specs.Runs.{CallState, Run, and_then, in_world, with_registers, with_register, write_register, ◌>>◌}
-use Rattle.c_semantics.specs.Objects.{Scope, with_object, with_locals, with_local, with_local_object}
+use Rattle.c_semantics.specs.Runs.{CallState, Run, and_then, in_world, with_registers, with_local_value, write_register, ◌>>◌}
+use Rattle.c_semantics.specs.Objects.{Scope, bind_object, with_locals, with_local, with_local_object}
 use Rattle.c_semantics.specs.Executes.{StatementFlow, Returns}
 use Rattle.vm_meaning.specs.Behave.{Registers}
 use Rattle.lowering_code.specs.declared.item.CodeItem.{CodeItem}
-use Rattle.lowering_code.specs.Registers.{object_of}
+use Rattle.lowering_code.specs.Registers.{object_index}
 use Rattle.lowering_states.specs.Places.{CodePlace, start_of_block}
 use Rattle.lowering_states.specs.Runs.{opens, CodeObservation, Resumes}
 use Rattle.lowering_states.proofs.States.{ne_eqb, fits_unset}
@@ -91,7 +91,7 @@ module _ (c : Setting) where
     register_begun : l.in_memory ≡ false → Begun scope f r s m (k ∷ ks)
     unfolding opens
     register_begun e =
-        let s1 : CallState = with_registers s (with_register s.registers k Unset) in
+        let s1 : CallState = with_registers s (with_local_value s.registers k Unset) in
         let b : Begun scope f r s1 m ks = others scope kept f s1 (fits_unset k fit) in
         record {
           names = b.names;
@@ -111,8 +111,8 @@ module _ (c : Setting) where
     unfolding opens
     object_begun e =
         let o : ℕ = length s.world.outer.memory in
-        let name : ℕ = c.own + object_of c.locals k in
-        let scope1 : Scope = with_object scope k o in
+        let name : ℕ = c.own + object_index c.locals k in
+        let scope1 : Scope = bind_object scope k o in
         let f1 : Names = with_name f o name in
         let s1 : CallState = in_world s (with_memory s.world (begin_object s.world.outer.memory size true)) in
         let none : scope k ≡ None = apart k (let one = one_more k k ks in let this = this_one k k refl in omega (arith, one, this)) in

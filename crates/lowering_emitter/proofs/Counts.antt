@@ -2,9 +2,9 @@
 use Rattle.std.proofs.Common.{◌≤◌, ℕ, List, [], ◌∷◌, length, arith}
 use Rattle.lowering_code.specs.declared.item.CodeItem.{CodeItem}
 use Rattle.lowering_code.specs.declared.item.CodeItem.TheVariants.{Start, Plain, Jump, Branch, Loop, Enter, Again, Repeat, Return}
-use Rattle.lowering_code.specs.Items.{count}
+use Rattle.lowering_code.specs.Items.{block_total}
 
-pub count_le : (is : List CodeItem) → count is ≤ length is
+pub count_le : (is : List CodeItem) → block_total is ≤ length is
 count_le [] = omega arith
 count_le (Start ∷ is) = omega (arith, count_le is)
 count_le (Plain insn ∷ is) = omega (arith, count_le is)

@@ -1,7 +1,7 @@
 //! EmittedCode that is made from its end to its start.
 
 ghost use Rattle.std.specs.Prelude.{◌≡◌, [], ◌∷◌, reverse, OnOk};
-ghost use Rattle.lowering_code.specs.Items.{count};
+ghost use Rattle.lowering_code.specs.Items.{block_total};
 
 use lowering_code::CodeItem;
 use std::alloc::{AllocError, Global};
@@ -21,13 +21,13 @@ pub struct EmittedCode {
 impl Model for EmittedCode {
     ghost use Rattle.std.specs.Prelude.{◌≡◌, List, reverse};
     ghost use Rattle.lowering_code.specs.declared.item.CodeItem.{CodeItem};
-    ghost use Rattle.lowering_code.specs.Items.{count};
+    ghost use Rattle.lowering_code.specs.Items.{block_total};
 
     ghost Value = { List CodeItem };
 
     ghost view = { λ c. reverse c.items.items };
 
-    ghost invariant = { λ c. c.blocks ≡ count (reverse c.items.items) };
+    ghost invariant = { λ c. c.blocks ≡ block_total (reverse c.items.items) };
 }
 
 impl EmittedCode {
@@ -43,7 +43,7 @@ impl EmittedCode {
 
     /// The name of the block that begins with the code so far.
     pub fn name(&self) -> usize
-        ensures { result ≡ count self.now }
+        ensures { result ≡ block_total self.now }
     {
         self.blocks
     }
@@ -58,7 +58,7 @@ impl EmittedCode {
 
     /// An item behind which, or with which, a block begins.
     fn begin(&mut self, item: CodeItem) -> Result<(), AllocError>
-        requires { count (item ∷ []) ≡ 1 }
+        requires { block_total (item ∷ []) ≡ 1 }
         ensures { OnOk result (self.new ≡ item ∷ self.old) }
     {
         self.items.push(item)?;

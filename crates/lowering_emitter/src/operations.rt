@@ -2,9 +2,9 @@
 
 ghost use Rattle.std.specs.Prelude.{◌≡◌, option_map};
 ghost use Rattle.c_typed_tree.specs.View.{type_view};
-ghost use Rattle.c_semantics.specs.Objects.{integer_of};
+ghost use Rattle.c_semantics.specs.Objects.{integer_or_word};
 ghost use Rattle.c_semantics.specs.Operators.{operator_of, operation_type, step_operator, one_type};
-ghost use Rattle.lowering_code.specs.Expressions.{operation_of, right_shift, operation_insn, element_of, is_signed_type, plain_of, alignment_of};
+ghost use Rattle.lowering_code.specs.Expressions.{operation_of, right_shift_kind, operation_insn, element_of, is_signed_type, plain_of, alignment_of};
 
 use c_arithmetic::integer_type::IntegerType;
 use c_tree::{AssignOp, BinaryOp, StepOp};
@@ -38,7 +38,7 @@ pub fn operation_of(op: BinaryOp, signed: bool) -> RegisterOperation
 }
 
 fn right_shift(signed: bool) -> ShiftOp
-    ensures { result ≡ right_shift signed }
+    ensures { result ≡ right_shift_kind signed }
 {
     if signed {
         ShiftOp::ArithmeticRight
@@ -120,7 +120,7 @@ pub fn is_signed_type(ty: &CType) -> bool
 /// The integer type of a type; what is none has the type of a word.
 #[tactic(auto, unfolding(c_typed_tree::specs::model::View::opens))]
 pub fn integer_of(ty: &CType) -> IntegerType
-    ensures { result ≡ integer_of (type_view ty.now) }
+    ensures { result ≡ integer_or_word (type_view ty.now) }
 {
     match ty {
         CType::Int { bytes, signed } => {

@@ -5,7 +5,7 @@
 ghost use Rattle.std.specs.Prelude.{◌≡◌, ◌+◌, ◌*◌, ◌^◌, ◌<◌, OnOk};
 ghost use Rattle.c_typed_tree.specs.View.{type_view};
 ghost use Rattle.lowering_code.specs.Registers.{value_register, address_register};
-ghost use Rattle.lowering_code.specs.Expressions.{load_from, address_code, narrow_type, is_whole, is_kept, is_same_register, constant_code, move_code, moved_code, load_code, store_code, convert_code, sized_code, scaled_code, add_code, negate_code, divided_code, unary_code, not_code, branch_code};
+ghost use Rattle.lowering_code.specs.Expressions.{load_from, address_code, narrow_type, fills_register, keeps_register, is_same_register, constant_code, move_code, moved_code, load_code, store_code, convert_code, sized_code, scaled_code, add_code, negate_code, divided_code, unary_code, not_code, branch_code};
 
 use crate::code::EmittedCode;
 use crate::registers::{Registers, memory_type, register_type};
@@ -359,7 +359,7 @@ fn narrow_type(from: &CType, to: &CType) -> MemoryType
 /// Every word of the register is one of the type.
 #[tactic(auto, unfolding(c_typed_tree::specs::model::View::opens))]
 fn is_whole(ty: &CType) -> bool
-    ensures { result ≡ is_whole (type_view ty.now) }
+    ensures { result ≡ fills_register (type_view ty.now) }
 {
     match ty {
         CType::Int { bytes, .. } => *bytes == 8 || *bytes == 4,
@@ -385,7 +385,7 @@ fn is_same_register(a: VmType, b: VmType) -> bool
 
 /// A conversion leaves the register as it is.
 fn is_kept(from: &CType, to: &CType) -> bool
-    ensures { result ≡ is_kept (type_view from.now) (type_view to.now) }
+    ensures { result ≡ keeps_register (type_view from.now) (type_view to.now) }
 {
     is_same_register(register_type(from), register_type(to)) && is_whole(to)
 }

@@ -26,7 +26,7 @@ use Rattle.suifvm_ir.specs.declared.insn.VmBranchOp.TheVariants.{IfTrue, IfFalse
 use Rattle.suifvm_ir.specs.declared.insn.VmInsn.TheVariants as n
 use Rattle.vm_meaning.specs.declared.answer.Answer.TheVariants.{Gives, Fails}
 use Rattle.vm_meaning.specs.Operations as vm
-use Rattle.vm_meaning.specs.Effect.{writes, is_taken}
+use Rattle.vm_meaning.specs.Effect.{writes, is_branch_taken}
 use Rattle.vm_meaning.specs.Behave.{Registers, set_register}
 use Rattle.lowering_code.specs.declared.item.CodeItem.{CodeItem}
 use Rattle.lowering_code.specs.declared.item.CodeItem.TheVariants.{Start, Jump}
@@ -113,25 +113,25 @@ module _ (c : Setting) (found : slice_get c.functions c.number ≡ Some c.code) 
     holds : vm.value_holds m (register_type ty) (r (value_register L d ty)) ≡ Some x
     holds = holds_there f s.world.outer.memory m ty v (r (value_register L d ty)) x scalar fit.memory held stands is
 
-    pub goes : {o : CodeObservation} (block : ℕ) → block + name ≡ c.last → is_taken op x ≡ true → EndsSo c o (start_of_block block) r s.world m → EndsSo c o q r s.world m
+    pub goes : {o : CodeObservation} (block : ℕ) → block + name ≡ c.last → is_branch_taken op x ≡ true → EndsSo c o (start_of_block block) r s.world m → EndsSo c o q r s.world m
     goes block e taken next =
         branch_taken c.rooms c.functions c.number c.code found c.own c.waiting op (register_type ty) (value_register L d ty) (c.last - name) x q r s.world m at.has.0 holds taken
         (at_block r s.world m block (c.last - name) (omega (arith, e)) next)
 
-    pub passes : {o : CodeObservation} → is_taken op x ≡ false → EndsSo c o (next_block q) r s.world m → EndsSo c o q r s.world m
+    pub passes : {o : CodeObservation} → is_branch_taken op x ≡ false → EndsSo c o (next_block q) r s.world m → EndsSo c o q r s.world m
     passes passed next = branch_passed c.rooms c.functions c.number c.code found c.own c.waiting op (register_type ty) (value_register L d ty) (c.last - name) x q r s.world m at.has.0 holds passed at.has.1 next
 
-  module _ (op : VmBranchOp) (stop : Bool) (taken : is_taken op stop ≡ true) (passed : is_taken op (not stop) ≡ false) (x y : Expr) (sx : IsScalarType (type_of x)) (sy : IsScalarType (type_of y)) (hx : ExprMeets c x) (hy : ExprMeets c y) where
+  module _ (op : VmBranchOp) (stop : Bool) (taken : is_branch_taken op stop ≡ true) (passed : is_branch_taken op (not stop) ≡ false) (x y : Expr) (sx : IsScalarType (type_of x)) (sy : IsScalarType (type_of y)) (hx : ExprMeets c x) (hy : ExprMeets c y) where
     module _ (d : ℕ) (rest : List CodeItem) (heads : List ℕ) where
       abbrev stops : List CodeItem
       stops = constant_code L d T (truth stop) (Start ∷ rest)
 
       abbrev ends : List CodeItem
-      ends = branch_code L op d (type_of y) (items.count stops) (constant_code L d T (truth (not stop)) (Jump (items.count rest) ∷ stops))
+      ends = branch_code L op d (type_of y) (items.block_total stops) (constant_code L d T (truth (not stop)) (Jump (items.block_total rest) ∷ stops))
 
       -- where the code for the value that ends the evaluation stands, and what comes behind
       stops_at : (q : CodePlace) → Stands c heads q ends → Stands c heads (next_block (next_place (next_block q))) stops
-      stops_at q at = at_jump c.code.blocks c.last c.end (items.count rest) (at_plain c.code.blocks c.last c.end _ (at_branch c.code.blocks c.last c.end op _ _ _ at))
+      stops_at q at = at_jump c.code.blocks c.last c.end (items.block_total rest) (at_plain c.code.blocks c.last c.end _ (at_branch c.code.blocks c.last c.end op _ _ _ at))
 
       module _ (f : Names) (scope : Scope) (r : Registers) (s : CallState) (m : Memory) (K : Value → CallState → CodeObservation) (next : Follows c d T heads rest f scope r s m K) where
         -- the value comes into the register, and the code goes on behind
@@ -148,16 +148,16 @@ module _ (c : Setting) (found : slice_get c.functions c.number ≡ Some c.code) 
             (fall c.rooms c.functions c.number c.code found c.own c.waiting (next_place q) (set_register (value_register L d T) (Word (truth stop)) q1) t.world m1 at2.has.0
             (value_meets stop (next_block (next_place q)) g t q1 m1 (at_start c.code.blocks c.last c.end at2) aft fit kept))
 
-        end_meets : (q : CodePlace) (g : Names) (t : CallState) (q1 : Registers) (m1 : Memory) → Stands c heads q (constant_code L d T (truth (not stop)) (Jump (items.count rest) ∷ stops)) → Aft c f s m g t m1 → Fit c g scope q1 t m1 → KeepsLower L d r q1
+        end_meets : (q : CodePlace) (g : Names) (t : CallState) (q1 : Registers) (m1 : Memory) → Stands c heads q (constant_code L d T (truth (not stop)) (Jump (items.block_total rest) ∷ stops)) → Aft c f s m g t m1 → Fit c g scope q1 t m1 → KeepsLower L d r q1
             → EndsSo c (K (Word (truth (not stop))) t) q q1 t.world m1
         end_meets q g t q1 m1 at aft fit kept =
             let at2 = at_plain c.code.blocks c.last c.end _ at in
-            let at3 = at_jump c.code.blocks c.last c.end (items.count rest) at2 in
+            let at3 = at_jump c.code.blocks c.last c.end (items.block_total rest) at2 in
             let at4 = at_start c.code.blocks c.last c.end (at_plain c.code.blocks c.last c.end _ at3) in
             let block : ℕ = suc (suc q.block) in
-            constant_on d (not stop) (Jump (items.count rest) ∷ stops) heads q q1 t.world m1 at
-            (jump c.rooms c.functions c.number c.code found c.own c.waiting (c.last - items.count rest) (next_place q) (set_register (value_register L d T) (Word (truth (not stop))) q1) t.world m1 at2.has.0
-            (at_block (set_register (value_register L d T) (Word (truth (not stop))) q1) t.world m1 block (c.last - items.count rest) (omega (arith, at4.size))
+            constant_on d (not stop) (Jump (items.block_total rest) ∷ stops) heads q q1 t.world m1 at
+            (jump c.rooms c.functions c.number c.code found c.own c.waiting (c.last - items.block_total rest) (next_place q) (set_register (value_register L d T) (Word (truth (not stop))) q1) t.world m1 at2.has.0
+            (at_block (set_register (value_register L d T) (Word (truth (not stop))) q1) t.world m1 block (c.last - items.block_total rest) (omega (arith, at4.size))
             (value_meets (not stop) (start_of_block block) g t q1 m1 at4 aft fit kept)))
 
         -- the second operand
@@ -176,35 +176,35 @@ module _ (c : Setting) (found : slice_get c.functions c.number ≡ Some c.code) 
                 → IsInRegister h (type_of y) v (q3 (value_register L d (type_of y))) → TestIs u.world.outer.memory v z → (z ≡ stop) ⊎ (z ≡ not stop) → EndsSo c (K (Word (truth z)) u) q2 q3 u.world m2
             by_test q2 h u q3 m2 v z at2 aft2 fit2 kept2 held stands is (inl e) =
                 let there = stops_at q2 at2 in
-                goes op d (type_of y) sy (items.count stops) _ heads q2 h scope q3 u m2 v z at2 fit2 held stands is (suc (suc q2.block)) there.size (ap (is_taken op) e ∙ taken)
+                goes op d (type_of y) sy (items.block_total stops) _ heads q2 h scope q3 u m2 v z at2 fit2 held stands is (suc (suc q2.block)) there.size (ap (is_branch_taken op) e ∙ taken)
                 (subst (λ k. EndsSo c (K (Word (truth k)) u) (start_of_block (suc (suc q2.block))) q3 u.world m2) (sym e) (stop_meets (start_of_block (suc (suc q2.block))) h u q3 m2 there aft2 fit2 kept2))
             by_test q2 h u q3 m2 v z at2 aft2 fit2 kept2 held stands is (inr e) =
-                passes op d (type_of y) sy (items.count stops) _ heads q2 h scope q3 u m2 v z at2 fit2 held stands is (ap (is_taken op) e ∙ passed)
+                passes op d (type_of y) sy (items.block_total stops) _ heads q2 h scope q3 u m2 v z at2 fit2 held stands is (ap (is_branch_taken op) e ∙ passed)
                 (subst (λ k. EndsSo c (K (Word (truth k)) u) (next_block q2) q3 u.world m2) (sym e) (end_meets (next_block q2) h u q3 m2 (at_branch c.code.blocks c.last c.end op _ _ _ at2) aft2 fit2 kept2))
 
         -- both
         first : (p : CodePlace) (run : Bool → Run Value) → ((t : CallState) → finish (run stop t) K ≡ K (Word (truth stop)) t)
             → ((t : CallState) → finish (run (not stop) t) K ≡ finish (and_then (and_then (eval c.structs c.locals c.calls scope y t) test) pure_truth) K)
-            → Stands c heads p (expr_code L c.structs c.locals d x (branch_code L op d (type_of x) (items.count stops) (expr_code L c.structs c.locals d y ends))) → Fit c f scope r s m → s.world.meter.turns ≤ c.level
+            → Stands c heads p (expr_code L c.structs c.locals d x (branch_code L op d (type_of x) (items.block_total stops) (expr_code L c.structs c.locals d y ends))) → Fit c f scope r s m → s.world.meter.turns ≤ c.level
             → EndsSo c (finish (and_then (and_then (eval c.structs c.locals c.calls scope x s) test) run) K) p r s.world m
         unfolding opens
         first p run at_stop at_go at fit low =
             bound c found (and_then (eval c.structs c.locals c.calls scope x s) test) run K p r s.world m
             (bound c found (eval c.structs c.locals c.calls scope x s) test (λ z t. finish (run z t) K) p r s.world m
-            (hx.by d (branch_code L op d (type_of x) (items.count stops) (expr_code L c.structs c.locals d y ends)) heads p f scope r s m (λ v t. finish (test v t) (λ z t. finish (run z t) K)) at fit low
+            (hx.by d (branch_code L op d (type_of x) (items.block_total stops) (expr_code L c.structs c.locals d y ends)) heads p f scope r s m (λ v t. finish (test v t) (λ z t. finish (run z t) K)) at fit low
             (λ q v g t q1 m1 at1 aft fit1 kept held stands.
             test_meets v t (λ z t. finish (run z t) K) _ (λ z is. by_test q g t q1 m1 v z at1 aft fit1 kept held stands is (either z stop)))))
           where
-            by_test : (q : CodePlace) (g : Names) (t : CallState) (q1 : Registers) (m1 : Memory) (v : Value) (z : Bool) → Stands c heads q (branch_code L op d (type_of x) (items.count stops) (expr_code L c.structs c.locals d y ends)) → Aft c f s m g t m1 → Fit c g scope q1 t m1 → KeepsLower L d r q1
+            by_test : (q : CodePlace) (g : Names) (t : CallState) (q1 : Registers) (m1 : Memory) (v : Value) (z : Bool) → Stands c heads q (branch_code L op d (type_of x) (items.block_total stops) (expr_code L c.structs c.locals d y ends)) → Aft c f s m g t m1 → Fit c g scope q1 t m1 → KeepsLower L d r q1
                 → IsHeld (type_of x) v → IsInRegister g (type_of x) v (q1 (value_register L d (type_of x))) → TestIs t.world.outer.memory v z → (z ≡ stop) ⊎ (z ≡ not stop) → EndsSo c (finish (run z t) K) q q1 t.world m1
             by_test q g t q1 m1 v z at1 aft fit1 kept held stands is (inl e) =
                 let behind : Somewhere c.code.blocks c.last c.end heads ends = left_expr c.code.blocks c.last c.end L c.structs c.locals y d heads ends (record { place = next_block q; at = at_branch c.code.blocks c.last c.end op _ _ _ at1 }) in
                 let there = stops_at behind.place behind.at in
                 let block : ℕ = suc (suc behind.place.block) in
-                goes op d (type_of x) sx (items.count stops) _ heads q g scope q1 t m1 v z at1 fit1 held stands is block there.size (ap (is_taken op) e ∙ taken)
+                goes op d (type_of x) sx (items.block_total stops) _ heads q g scope q1 t m1 v z at1 fit1 held stands is block there.size (ap (is_branch_taken op) e ∙ taken)
                 (meets_same c.rooms c.functions (ap (λ k. finish (run k t) K) e ∙ at_stop t) (stop_meets (start_of_block block) g t q1 m1 there aft fit1 kept))
             by_test q g t q1 m1 v z at1 aft fit1 kept held stands is (inr e) =
-                passes op d (type_of x) sx (items.count stops) _ heads q g scope q1 t m1 v z at1 fit1 held stands is (ap (is_taken op) e ∙ passed)
+                passes op d (type_of x) sx (items.block_total stops) _ heads q g scope q1 t m1 v z at1 fit1 held stands is (ap (is_branch_taken op) e ∙ passed)
                 (meets_same c.rooms c.functions (ap (λ k. finish (run k t) K) e ∙ at_go t)
                 (second (next_block q) g t q1 m1 (at_branch c.code.blocks c.last c.end op _ _ _ at1) aft fit1 kept (omega (arith, aft.turned, low))))
 
@@ -242,30 +242,30 @@ module _ (c : Setting) (found : slice_get c.functions c.number ≡ Some c.code) 
           (next (next_block q2) v h u q3 m2 (at_start c.code.blocks c.last c.end at2) (after_on aft aft2) fit2 (kept_on (omega arith) kept kept2)
           (subst (λ k. IsHeld k v) ez held) (subst (λ k. IsInRegister h k v (q3 (value_register L d k))) ez stands)))
 
-      arm_holds : (q : CodePlace) (g : Names) (t : CallState) (q1 : Registers) (m1 : Memory) → Stands c heads q (expr_code L c.structs c.locals d y (Jump (items.count rest) ∷ fails)) → Aft c f s m g t m1 → Fit c g scope q1 t m1 → KeepsLower L d r q1
+      arm_holds : (q : CodePlace) (g : Names) (t : CallState) (q1 : Registers) (m1 : Memory) → Stands c heads q (expr_code L c.structs c.locals d y (Jump (items.block_total rest) ∷ fails)) → Aft c f s m g t m1 → Fit c g scope q1 t m1 → KeepsLower L d r q1
           → t.world.meter.turns ≤ c.level → EndsSo c (finish (value y t) K) q q1 t.world m1
       arm_holds q g t q1 m1 at aft fit kept low =
-          hy.by d (Jump (items.count rest) ∷ fails) heads q g scope q1 t m1 K at fit low
+          hy.by d (Jump (items.block_total rest) ∷ fails) heads q g scope q1 t m1 K at fit low
           (λ q2 v h u q3 m2 at2 aft2 fit2 kept2 held stands.
-          let behind : Somewhere c.code.blocks c.last c.end heads (Start ∷ rest) = left_expr c.code.blocks c.last c.end L c.structs c.locals z d heads (Start ∷ rest) (record { place = next_block q2; at = at_jump c.code.blocks c.last c.end (items.count rest) at2 }) in
+          let behind : Somewhere c.code.blocks c.last c.end heads (Start ∷ rest) = left_expr c.code.blocks c.last c.end L c.structs c.locals z d heads (Start ∷ rest) (record { place = next_block q2; at = at_jump c.code.blocks c.last c.end (items.block_total rest) at2 }) in
           let there = at_start c.code.blocks c.last c.end behind.at in
           let block : ℕ = suc behind.place.block in
-          jump c.rooms c.functions c.number c.code found c.own c.waiting (c.last - items.count rest) q2 q3 u.world m2 at2.has.0
-          (at_block q3 u.world m2 block (c.last - items.count rest) (omega (arith, there.size))
+          jump c.rooms c.functions c.number c.code found c.own c.waiting (c.last - items.block_total rest) q2 q3 u.world m2 at2.has.0
+          (at_block q3 u.world m2 block (c.last - items.block_total rest) (omega (arith, there.size))
           (next (start_of_block block) v h u q3 m2 there (after_on aft aft2) fit2 (kept_on (omega arith) kept kept2)
           (subst (λ k. IsHeld k v) ey held) (subst (λ k. IsInRegister h k v (q3 (value_register L d k))) ey stands))))
 
-      choice_meets : (q : CodePlace) (g : Names) (t : CallState) (q1 : Registers) (m1 : Memory) (v : Value) (k : Bool) → Stands c heads q (branch_code L IfFalse d (type_of x) (items.count fails) (expr_code L c.structs c.locals d y (Jump (items.count rest) ∷ fails)))
+      choice_meets : (q : CodePlace) (g : Names) (t : CallState) (q1 : Registers) (m1 : Memory) (v : Value) (k : Bool) → Stands c heads q (branch_code L IfFalse d (type_of x) (items.block_total fails) (expr_code L c.structs c.locals d y (Jump (items.block_total rest) ∷ fails)))
           → Aft c f s m g t m1 → Fit c g scope q1 t m1 → KeepsLower L d r q1 → IsHeld (type_of x) v → IsInRegister g (type_of x) v (q1 (value_register L d (type_of x))) → TestIs t.world.outer.memory v k → t.world.meter.turns ≤ c.level
           → EndsSo c (finish (choose (value y) (value z) k t) K) q q1 t.world m1
       choice_meets q g t q1 m1 v true at aft fit kept held stands is low =
-          passes IfFalse d (type_of x) sx (items.count fails) _ heads q g scope q1 t m1 v true at fit held stands is refl
+          passes IfFalse d (type_of x) sx (items.block_total fails) _ heads q g scope q1 t m1 v true at fit held stands is refl
           (arm_holds (next_block q) g t q1 m1 (at_branch c.code.blocks c.last c.end IfFalse _ _ _ at) aft fit kept low)
       choice_meets q g t q1 m1 v false at aft fit kept held stands is low =
-          let behind : Somewhere c.code.blocks c.last c.end heads (Jump (items.count rest) ∷ fails) = left_expr c.code.blocks c.last c.end L c.structs c.locals y d heads (Jump (items.count rest) ∷ fails) (record { place = next_block q; at = at_branch c.code.blocks c.last c.end IfFalse _ _ _ at }) in
-          let there = at_jump c.code.blocks c.last c.end (items.count rest) behind.at in
+          let behind : Somewhere c.code.blocks c.last c.end heads (Jump (items.block_total rest) ∷ fails) = left_expr c.code.blocks c.last c.end L c.structs c.locals y d heads (Jump (items.block_total rest) ∷ fails) (record { place = next_block q; at = at_branch c.code.blocks c.last c.end IfFalse _ _ _ at }) in
+          let there = at_jump c.code.blocks c.last c.end (items.block_total rest) behind.at in
           let block : ℕ = suc behind.place.block in
-          goes IfFalse d (type_of x) sx (items.count fails) _ heads q g scope q1 t m1 v false at fit held stands is block there.size refl
+          goes IfFalse d (type_of x) sx (items.block_total fails) _ heads q g scope q1 t m1 v false at fit held stands is block there.size refl
           (arm_fails (start_of_block block) g t q1 m1 there aft fit kept low)
 
     pub choices : ExprMeets c (Conditional ty x y z)

@@ -24,10 +24,10 @@ use Rattle.c_typed_tree.specs.Constants.{integers_with}
 use Rattle.c_typed_tree.specs.Types.{PlainType}
 use Rattle.c_typed_tree.specs.Expressions.{Expr, Number, Unary, Binary, Cast, Convert, type_of}
 use Rattle.c_semantics.specs.Reasons.{UsesNoValue}
-use Rattle.c_semantics.specs.Runs.{CallState, Run, and_then, use_value, number, pure}
+use Rattle.c_semantics.specs.Runs.{CallState, Run, and_then, use_value, use_number, pure}
 use Rattle.c_semantics.specs.Objects as objects
 use Rattle.c_semantics.specs.Objects.{Scope}
-use Rattle.c_semantics.specs.Operators.{outcome, unary, integers, binary, convert}
+use Rattle.c_semantics.specs.Operators.{outcome, apply_unary, integers, apply_binary, convert}
 use Rattle.c_semantics.specs.Evaluates.{eval, place, converted_from}
 use Rattle.suifvm_ir.specs.declared.insn.VmInsn.{VmInsn}
 use Rattle.suifvm_ir.specs.declared.insn.VmInsn.TheVariants as n
@@ -41,18 +41,18 @@ use Rattle.vm_meaning.specs.Behave.{Registers, set_register, set_registers}
 use Rattle.lowering_code.specs.declared.item.CodeItem.{CodeItem}
 use Rattle.lowering_code.specs.declared.item.CodeItem.TheVariants.{Plain}
 use Rattle.lowering_code.specs.Registers.{register_type, value_register, temporary}
-use Rattle.lowering_code.specs.Expressions.{plain_of, is_kept, narrow_type, operation_of, operation_insn, binary_code, conversion_code, convert_code, plus_of, expr_code, place_code}
+use Rattle.lowering_code.specs.Expressions.{plain_of, keeps_register, narrow_type, operation_of, operation_insn, binary_code, conversion_code, convert_code, plus_of, expr_code, place_code}
 use Rattle.lowering_states.specs.Places.{CodePlace, next_place, stands_at}
 use Rattle.lowering_states.specs.Runs.{opens, CodeObservation, ObservesTrap, view, finish}
 use Rattle.lowering_states.specs.States.{IsHeld, IsInRegister, KeepsLower}
 use Rattle.lowering_states.proofs.Steps.{finish-bind, meets_same, plain, traps, used_meets, number_meets, outcome_meets}
 use Rattle.lowering_states.proofs.States.{kept_all, kept_on, kept_temporary, kept_reads, value_at, after_same, after_on, fits_temporary}
-use Rattle.lowering_values.specs.Laws.{is_shift, does_in}
+use Rattle.lowering_values.specs.Laws.{is_shift_operator, does_in}
 use Rattle.lowering_values.proofs.Integers.{kept_is, register-promoted, integer_of-plain, register-plain, promoted_word, kept_conversion, made_conversion}
 use Rattle.lowering_values.proofs.Operators.{word_true, unary_is, operators_correspond}
 use Rattle.lowering_expression_places.proofs.Behind.{at_plain}
 use Rattle.lowering_expression_laws.specs.Parts.{Setting, count, EndsSo, Stands, Fit, Aft, Follows, ExprMeets}
-use Rattle.lowering_expression_laws.specs.Laws.{is_logical, result_type}
+use Rattle.lowering_expression_laws.specs.Laws.{is_logical_operator, result_type}
 
 -- ---- words in registers
 
@@ -76,7 +76,7 @@ word_in f L d ty t v k q e is held stands =
     let s : IsInRegister f (plain_of t) (Word k) (q (value_register L d (plain_of t))) = subst (λ z. IsInRegister f z (Word k) (q (value_register L d z))) e (subst (λ z. IsInRegister f ty z (q (value_register L d ty))) is stands) in
     record { is_one = word_held t k h; stands = s }
 
-kept_register : (s t : IntegerType) → is_kept (plain_of s) (plain_of t) ≡ true → register_type (plain_of s) ≡ register_type (plain_of t)
+kept_register : (s t : IntegerType) → keeps_register (plain_of s) (plain_of t) ≡ true → register_type (plain_of s) ≡ register_type (plain_of t)
 kept_register s t e = sym (register-promoted s) ∙ ap (λ z. register_type (plain_of z)) (kept_is s t e)
 
 -- what an operator gives is a word of its type
@@ -164,12 +164,12 @@ module _ (c : Setting) (found : slice_get c.functions c.number ≡ Some c.code) 
     by = λ d rest heads place f scope r s m K at fit low next.
         let insn : VmInsn = n.Unary Negate (register_type (plain_of t)) (value_register L d (plain_of t)) (value_register L d (plain_of t)) in
         let rest1 = Plain insn ∷ rest in
-        let run : Value → Run Value = λ v. unary u.Minus (plain_of t) v in
+        let run : Value → Run Value = λ v. apply_unary u.Minus (plain_of t) v in
         bound (eval c.structs c.locals c.calls scope x s) run K place r s.world m
         (h.by d rest1 heads place f scope r s m (λ v t1. finish (run v t1) K) at fit low
         (λ q v g t1 q1 m1 at1 aft fit1 kept held stands.
-        bound (number v t1) (λ k. outcome (negation (objects.integer_of (plain_of t)) k)) K q q1 t1.world m1
-        (number_meets c.rooms c.functions v t1 (λ k t2. finish (outcome (negation (objects.integer_of (plain_of t)) k) t2) K) _ (λ k is.
+        bound (use_number v t1) (λ k. outcome (negation (objects.integer_or_word (plain_of t)) k)) K q q1 t1.world m1
+        (number_meets c.rooms c.functions v t1 (λ k t2. finish (outcome (negation (objects.integer_or_word (plain_of t)) k) t2) K) _ (λ k is.
         let word = word_in g L d (type_of x) t v k q1 e is held stands in
         let done = unary_on Negate d t k q1 t1.world m1 p word in
         meets_same c.rooms c.functions (ap (λ z. finish (outcome (negation z k) t1) K) (integer_of-plain t))
@@ -187,12 +187,12 @@ module _ (c : Setting) (found : slice_get c.functions c.number ≡ Some c.code) 
     by = λ d rest heads place f scope r s m K at fit low next.
         let insn : VmInsn = n.Unary Complement (register_type (plain_of t)) (value_register L d (plain_of t)) (value_register L d (plain_of t)) in
         let rest1 = Plain insn ∷ rest in
-        let run : Value → Run Value = λ v. unary u.Invert (plain_of t) v in
+        let run : Value → Run Value = λ v. apply_unary u.Invert (plain_of t) v in
         bound (eval c.structs c.locals c.calls scope x s) run K place r s.world m
         (h.by d rest1 heads place f scope r s m (λ v t1. finish (run v t1) K) at fit low
         (λ q v g t1 q1 m1 at1 aft fit1 kept held stands.
-        bound (number v t1) (λ k. pure (Word (complement (objects.integer_of (plain_of t)) k))) K q q1 t1.world m1
-        (number_meets c.rooms c.functions v t1 (λ k t2. K (Word (complement (objects.integer_of (plain_of t)) k)) t2) _ (λ k is.
+        bound (use_number v t1) (λ k. pure (Word (complement (objects.integer_or_word (plain_of t)) k))) K q q1 t1.world m1
+        (number_meets c.rooms c.functions v t1 (λ k t2. K (Word (complement (objects.integer_or_word (plain_of t)) k)) t2) _ (λ k is.
         let word = word_in g L d (type_of x) t v k q1 e is held stands in
         let k1 = complement t k in
         let done = unary_on Complement d t k q1 t1.world m1 p word in
@@ -205,9 +205,9 @@ module _ (c : Setting) (found : slice_get c.functions c.number ≡ Some c.code) 
   -- ---- operators between integers
 
   -- the meaning, and the code, of an operator between two integers
-  eval_is : (op : BinaryOp) → is_logical op ≡ false → (ty : PlainType) (x y : Expr) (scope : Scope) (s : CallState)
+  eval_is : (op : BinaryOp) → is_logical_operator op ≡ false → (ty : PlainType) (x y : Expr) (scope : Scope) (s : CallState)
       → eval c.structs c.locals c.calls scope (Binary ty op x y) s
-      ≡ and_then (eval c.structs c.locals c.calls scope x s) (λ v t. and_then (eval c.structs c.locals c.calls scope y t) (λ w. binary c.structs op (type_of x) (type_of y) v w))
+      ≡ and_then (eval c.structs c.locals c.calls scope x s) (λ v t. and_then (eval c.structs c.locals c.calls scope y t) (λ w. apply_binary c.structs op (type_of x) (type_of y) v w))
   unfolding opens
   eval_is b.LogicalOr h ty x y scope s = absurd (cc)
   eval_is b.LogicalAnd h ty x y scope s = absurd (cc)
@@ -228,7 +228,7 @@ module _ (c : Setting) (found : slice_get c.functions c.number ≡ Some c.code) 
   eval_is b.Divide h ty x y scope s = refl
   eval_is b.Remainder h ty x y scope s = refl
 
-  code_is : (op : BinaryOp) → is_logical op ≡ false → (ty : PlainType) (x y : Expr) (d : ℕ) (rest : List CodeItem)
+  code_is : (op : BinaryOp) → is_logical_operator op ≡ false → (ty : PlainType) (x y : Expr) (d : ℕ) (rest : List CodeItem)
       → expr_code L c.structs c.locals d (Binary ty op x y) rest
       ≡ expr_code L c.structs c.locals d x (expr_code L c.structs c.locals (suc d) y (binary_code L c.structs op d ty (type_of x) (type_of y) rest))
   code_is b.LogicalOr h ty x y d rest = absurd (cc)
@@ -295,7 +295,7 @@ module _ (c : Setting) (found : slice_get c.functions c.number ≡ Some c.code) 
   puts_is b.Divide d ty t o = refl
   puts_is b.Remainder d ty t o = refl
 
-  module _ (op : BinaryOp) (plain_op : is_logical op ≡ false) (t o : IntegerType) (pt : promote t ≡ t) (same : is_shift op ≡ false → o ≡ t) where
+  module _ (op : BinaryOp) (plain_op : is_logical_operator op ≡ false) (t o : IntegerType) (pt : promote t ≡ t) (same : is_shift_operator op ≡ false → o ≡ t) where
     abbrev R : PlainType
     R = plain_of (result_type op t)
 
@@ -333,7 +333,7 @@ module _ (c : Setting) (found : slice_get c.functions c.number ≡ Some c.code) 
           code_is op plain_op R x y d rest
           ∙ ap (λ z. expr_code L c.structs c.locals d x (expr_code L c.structs c.locals (suc d) y (binary_code L c.structs op d R z (type_of y) rest))) ex
           ∙ ap (λ z. expr_code L c.structs c.locals d x (expr_code L c.structs c.locals (suc d) y (binary_code L c.structs op d R (plain_of t) z rest))) ey in
-          let run : Value → Value → Run Value = λ v w. binary c.structs op (type_of x) (type_of y) v w in
+          let run : Value → Value → Run Value = λ v w. apply_binary c.structs op (type_of x) (type_of y) v w in
           meets_same c.rooms c.functions (ap (λ z. finish z K) (eval_is op plain_op R x y scope s))
           (bound (eval c.structs c.locals c.calls scope x s) (λ v t1. and_then (eval c.structs c.locals c.calls scope y t1) (run v)) K place r s.world m
           (hx.by d (expr_code L c.structs c.locals (suc d) y (Plain insn ∷ rest)) heads place f scope r s m (λ v t1. finish (and_then (eval c.structs c.locals c.calls scope y t1) (run v)) K)
@@ -343,11 +343,11 @@ module _ (c : Setting) (found : slice_get c.functions c.number ≡ Some c.code) 
           (hy.by (suc d) (Plain insn ∷ rest) heads q g scope q1 t1 m1 (λ w t2. finish (run v w t2) K) at1 fit1 (omega (arith, aft.turned, low))
           (λ q2 w g2 t2 q3 m2 at2 aft2 fit2 kept2 held2 stands2.
           meets_same c.rooms c.functions
-          (ap (λ z. finish (binary c.structs op z (type_of y) v w t2) K) ex ∙ ap (λ z. finish (binary c.structs op (plain_of t) z v w t2) K) ey
-          ∙ ap (λ z. finish (integers op z (objects.integer_of (plain_of o)) v w t2) K) (integer_of-plain t) ∙ ap (λ z. finish (integers op t z v w t2) K) (integer_of-plain o))
-          (bound (number v t2) (λ i t3. and_then (number w t3) (λ j. outcome (integers_with op t o i j))) K q2 q3 t2.world m2
-          (number_meets c.rooms c.functions v t2 (λ i t3. finish (and_then (number w t3) (λ j. outcome (integers_with op t o i j))) K) _ (λ i vi.
-          bound (number w t2) (λ j. outcome (integers_with op t o i j)) K q2 q3 t2.world m2
+          (ap (λ z. finish (apply_binary c.structs op z (type_of y) v w t2) K) ex ∙ ap (λ z. finish (apply_binary c.structs op (plain_of t) z v w t2) K) ey
+          ∙ ap (λ z. finish (integers op z (objects.integer_or_word (plain_of o)) v w t2) K) (integer_of-plain t) ∙ ap (λ z. finish (integers op t z v w t2) K) (integer_of-plain o))
+          (bound (use_number v t2) (λ i t3. and_then (use_number w t3) (λ j. outcome (integers_with op t o i j))) K q2 q3 t2.world m2
+          (number_meets c.rooms c.functions v t2 (λ i t3. finish (and_then (use_number w t3) (λ j. outcome (integers_with op t o i j))) K) _ (λ i vi.
+          bound (use_number w t2) (λ j. outcome (integers_with op t o i j)) K q2 q3 t2.world m2
           (number_meets c.rooms c.functions w t2 (λ j t3. finish (outcome (integers_with op t o i j) t3) K) _ (λ j wj.
           let one = word_in g L d (type_of x) t v i q1 ex vi held stands in
           let kept_one : q3 (value_register L d (plain_of t)) ≡ q1 (value_register L d (plain_of t)) = kept_reads d (register_type (plain_of t)) (omega arith) kept2 in
@@ -362,7 +362,7 @@ module _ (c : Setting) (found : slice_get c.functions c.number ≡ Some c.code) 
     conversion_meets : (d : ℕ) (rest : List CodeItem) (heads : List ℕ) (f : Names) (scope : Scope) (r : Registers) (s : CallState) (m : Memory) (K : Value → CallState → CodeObservation) → Follows c d (plain_of o) heads rest f scope r s m K
         → (q : CodePlace) (k : ℕ) (g : Names) (t1 : CallState) (q1 : Registers) (m1 : Memory) → Stands c heads q (convert_code L d (plain_of t) (plain_of o) rest) → Aft c f s m g t1 m1 → Fit c g scope q1 t1 m1
         → KeepsLower L d r q1 → WordIn L d t k q1 → EndsSo c (K (Word (conversion t o k)) t1) q q1 t1.world m1
-    conversion_meets d rest heads f scope r s m K next q k g t1 q1 m1 at1 aft fit1 kept word = by_kept (is_kept (plain_of t) (plain_of o)) refl at1
+    conversion_meets d rest heads f scope r s m K next q k g t1 q1 m1 at1 aft fit1 kept word = by_kept (keeps_register (plain_of t) (plain_of o)) refl at1
       where
         k1 : ℕ
         k1 = conversion t o k
@@ -370,7 +370,7 @@ module _ (c : Setting) (found : slice_get c.functions c.number ≡ Some c.code) 
         insn : VmInsn
         insn = n.Convert (narrow_type (plain_of t) (plain_of o)) (register_type (plain_of o)) (value_register L d (plain_of o)) (value_register L d (plain_of t))
 
-        by_kept : (x : Bool) → is_kept (plain_of t) (plain_of o) ≡ x → Stands c heads q (if x then rest else Plain insn ∷ rest) → EndsSo c (K (Word k1) t1) q q1 t1.world m1
+        by_kept : (x : Bool) → keeps_register (plain_of t) (plain_of o) ≡ x → Stands c heads q (if x then rest else Plain insn ∷ rest) → EndsSo c (K (Word k1) t1) q q1 t1.world m1
         by_kept true e at2 =
             let register : register_type (plain_of t) ≡ register_type (plain_of o) = kept_register t o e in
             let stands : q1 (value_register L d (plain_of o)) ≡ Word k1 = ap (λ z. q1 (temporary L d z)) (sym register) ∙ word.stands ∙ ap Word (sym (kept_conversion t o k word.is_one e)) in
@@ -398,9 +398,9 @@ module _ (c : Setting) (found : slice_get c.functions c.number ≡ Some c.code) 
           (bound (eval c.structs c.locals c.calls scope x s) (λ v. convert (plain_of t) (plain_of o) v) K p r s.world m
           (hx.by d (convert_code L d (plain_of t) (plain_of o) rest) heads p f scope r s m (λ v t1. finish (convert (plain_of t) (plain_of o) v t1) K) (subst (λ z. Stands c heads p z) code_e at) fit low
           (λ q v g t1 q1 m1 at1 aft fit1 kept held stands.
-          bound (number v t1) (λ k. pure (Word (conversion (objects.integer_of (plain_of t)) (objects.integer_of (plain_of o)) k))) K q q1 t1.world m1
-          (number_meets c.rooms c.functions v t1 (λ k t2. K (Word (conversion (objects.integer_of (plain_of t)) (objects.integer_of (plain_of o)) k)) t2) _ (λ k is.
-          meets_same c.rooms c.functions (ap (λ z. K (Word (conversion z (objects.integer_of (plain_of o)) k)) t1) (integer_of-plain t) ∙ ap (λ z. K (Word (conversion t z k)) t1) (integer_of-plain o))
+          bound (use_number v t1) (λ k. pure (Word (conversion (objects.integer_or_word (plain_of t)) (objects.integer_or_word (plain_of o)) k))) K q q1 t1.world m1
+          (number_meets c.rooms c.functions v t1 (λ k t2. K (Word (conversion (objects.integer_or_word (plain_of t)) (objects.integer_or_word (plain_of o)) k)) t2) _ (λ k is.
+          meets_same c.rooms c.functions (ap (λ z. K (Word (conversion z (objects.integer_or_word (plain_of o)) k)) t1) (integer_of-plain t) ∙ ap (λ z. K (Word (conversion t z k)) t1) (integer_of-plain o))
           (conversion_meets d rest heads f scope r s m K next1 q k g t1 q1 m1 at1 aft fit1 kept (word_in g L d (type_of x) t v k q1 ex is held stands)))))));
     }
 

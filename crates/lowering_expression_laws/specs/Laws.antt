@@ -10,7 +10,7 @@ use Rattle.c_tree.specs.declared.expressions.BinaryOp.TheVariants as b
 use Rattle.c_typed_tree.specs.Types.{PlainType, Pointer}
 use Rattle.c_typed_tree.specs.Expressions.{Expr, Number, Unary, Binary, Conditional, Cast, Convert, type_of}
 use Rattle.lowering_code.specs.Expressions.{plain_of}
-use Rattle.lowering_values.specs.Laws.{is_shift}
+use Rattle.lowering_values.specs.Laws.{is_shift_operator}
 use Rattle.lowering_expression_laws.specs.Parts.{Setting, ExprMeets}
 
 -- a scalar type: an integer type or a pointer
@@ -18,10 +18,10 @@ abbrev pub IsScalarType : PlainType → Type 0
 IsScalarType ty = ((t : IntegerType) × (ty ≡ plain_of t)) ⊎ ((target : PlainType) × (ty ≡ Pointer target))
 
 -- `&&` and `||` are no operators between values
-abbrev pub is_logical : BinaryOp → Bool
-is_logical b.LogicalOr = true
-is_logical b.LogicalAnd = true
-is_logical op = false
+abbrev pub is_logical_operator : BinaryOp → Bool
+is_logical_operator b.LogicalOr = true
+is_logical_operator b.LogicalAnd = true
+is_logical_operator op = false
 
 -- the type of an operator in an integer type: that of a comparison is `int`
 abbrev pub result_type : BinaryOp → IntegerType → IntegerType
@@ -41,8 +41,8 @@ pub record Forms (c : Setting) : Type 0 where
       → ExprMeets c (Unary (plain_of t) u.Minus x)
   pub complements : (t : IntegerType) (x : Expr) → promote t ≡ t → type_of x ≡ plain_of t → ExprMeets c x
       → ExprMeets c (Unary (plain_of t) u.Invert x)
-  pub operators : (op : BinaryOp) (t o : IntegerType) (x y : Expr) → is_logical op ≡ false → promote t ≡ t
-      → (is_shift op ≡ false → o ≡ t) → type_of x ≡ plain_of t → type_of y ≡ plain_of o → ExprMeets c x
+  pub operators : (op : BinaryOp) (t o : IntegerType) (x y : Expr) → is_logical_operator op ≡ false → promote t ≡ t
+      → (is_shift_operator op ≡ false → o ≡ t) → type_of x ≡ plain_of t → type_of y ≡ plain_of o → ExprMeets c x
       → ExprMeets c y → ExprMeets c (Binary (plain_of (result_type op t)) op x y)
   pub conversions : (t o : IntegerType) (x : Expr) → type_of x ≡ plain_of t → ExprMeets c x
       → ExprMeets c (Convert (plain_of o) x)

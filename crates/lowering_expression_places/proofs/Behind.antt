@@ -12,7 +12,7 @@ use Rattle.c_typed_tree.specs.Types.{PlainType, Void, Int, Pointer, Array, Struc
 use Rattle.c_typed_tree.specs.Expressions.{Expr, Number, Global, Call, Unary, Binary, Assign, Conditional, Cast, Convert, Index, Field, Arrow, Postfix, Comma, Exprs, no_exprs, more_exprs, type_of}
 use Rattle.c_typed_tree.specs.Expressions as e
 use Rattle.c_arithmetic.specs.IntegerTypes.{is_signed}
-use Rattle.c_semantics.specs.Objects.{integer_of}
+use Rattle.c_semantics.specs.Objects.{integer_or_word}
 use Rattle.c_semantics.specs.Operators.{operator_of, operation_type, step_operator, one_type}
 use Rattle.lowering_code.specs.Registers.{register_type, value_register}
 use Rattle.suifvm_ir.specs.declared.insn.VmInsn.{VmInsn}
@@ -21,8 +21,8 @@ use Rattle.suifvm_ir.specs.declared.insn.VmBranchOp.TheVariants.{IfTrue, IfFalse
 use Rattle.suifvm_ir.specs.declared.types.VmType.{VmType}
 use Rattle.lowering_code.specs.declared.item.CodeItem.{CodeItem}
 use Rattle.lowering_code.specs.declared.item.CodeItem.TheVariants.{Start, Plain, Jump, Branch}
-use Rattle.lowering_code.specs.Items.{count}
-use Rattle.lowering_code.specs.Expressions.{plain_of, operation_of, operation_insn, stride, member_plus, element_of, is_kept, moved_code, load_code, convert_code, sized_code, scaled_code, divided_code, integer_code, converted_code, place_moved_code, step_code, step_back_code, pointers_code, binary_by, combine_by, element_by, stepped_code, step_register_code, step_memory_code, set_memory_code, combine_memory_code, register_if, register_of, local_code, change_code, assign_code, conversion_code, expr_code, place_code, exprs_code, commas_code, constant_code, branch_code}
+use Rattle.lowering_code.specs.Items.{block_total}
+use Rattle.lowering_code.specs.Expressions.{plain_of, operation_of, operation_insn, stride, member_plus, element_of, keeps_register, moved_code, load_code, convert_code, sized_code, scaled_code, divided_code, integer_code, converted_code, place_moved_code, step_code, step_back_code, pointers_code, binary_by, combine_by, element_by, stepped_code, step_register_code, step_memory_code, set_memory_code, combine_memory_code, register_if, register_of, local_code, change_code, assign_code, conversion_code, expr_code, place_code, exprs_code, commas_code, constant_code, branch_code}
 use Rattle.lowering_states.specs.Places.{CodePlace, next_place, next_block, At}
 use Rattle.lowering_expression_places.specs.Behind.{IsLeft}
 
@@ -77,7 +77,7 @@ module _ (blocks : List (List VmInsn)) (last : ℕ) (end : List VmInsn) where
     left_load d (Struct n) plus heads rest h = left_moved d plus heads rest h
 
     left_convert : (d : ℕ) (from to : PlainType) → Left (λ is. convert_code L d from to is)
-    left_convert d from to = left_if (is_kept from to) left_none (left_plain _)
+    left_convert d from to = left_if (keeps_register from to) left_none (left_plain _)
 
     left_sized : (d free size : ℕ) → Left (λ is. sized_code L d free size is)
     left_sized d free size = left_if (size == 1) left_none (left_on (left_plain _) (left_plain _))
@@ -162,7 +162,7 @@ module _ (blocks : List (List VmInsn)) (last : ℕ) (end : List VmInsn) where
       left_combine : (op : BinaryOp) (o d free : ℕ) (left ty : PlainType) (target : Option PlainType) → Left (λ is. combine_by L ds op o d free left ty target is)
       left_combine op o d free left ty (Some x) = left_step op o d free x ty
       left_combine op o d free left ty None =
-          let t = operation_type op (integer_of left) (integer_of ty) in
+          let t = operation_type op (integer_or_word left) (integer_or_word ty) in
           left_on (left_convert o left (plain_of t))
           (left_on (left_plain (operation_insn (operation_of op (is_signed t)) (register_type (plain_of t)) (value_register L o (plain_of t)) (value_register L o (plain_of t)) (value_register L d ty)))
           (left_convert o (plain_of t) left))
@@ -219,15 +219,15 @@ module _ (blocks : List (List VmInsn)) (last : ℕ) (end : List VmInsn) where
         left_conversion d (Struct n) to plus place value p v = left_on v (left_converted d (Struct n) to)
 
         left_both : (op : VmBranchOp) (first second d : ℕ) (ty tx tz : PlainType) (f g : List CodeItem → List CodeItem) → Left f → Left g
-            → Left (λ is. f (branch_code L op d tx (count (constant_code L d ty first (Start ∷ is))) (g (branch_code L op d tz (count (constant_code L d ty first (Start ∷ is)))
-            (constant_code L d ty second (Jump (count is) ∷ constant_code L d ty first (Start ∷ is)))))))
+            → Left (λ is. f (branch_code L op d tx (block_total (constant_code L d ty first (Start ∷ is))) (g (branch_code L op d tz (block_total (constant_code L d ty first (Start ∷ is)))
+            (constant_code L d ty second (Jump (block_total is) ∷ constant_code L d ty first (Start ∷ is)))))))
         left_both op first second d ty tx tz f g a c heads rest h =
-            left_start heads rest (left_plain _ heads _ (left_jump (λ is. count rest) heads _ (left_plain _ heads _ (left_branch _ _ _ _ heads _ (c heads _ (left_branch _ _ _ _ heads _ (a heads _ h)))))))
+            left_start heads rest (left_plain _ heads _ (left_jump (λ is. block_total rest) heads _ (left_plain _ heads _ (left_branch _ _ _ _ heads _ (c heads _ (left_branch _ _ _ _ heads _ (a heads _ h)))))))
 
         left_choice : (d : ℕ) (tx : PlainType) (f g k : List CodeItem → List CodeItem) → Left f → Left g → Left k
-            → Left (λ is. f (branch_code L IfFalse d tx (count (k (Start ∷ is))) (g (Jump (count is) ∷ k (Start ∷ is)))))
+            → Left (λ is. f (branch_code L IfFalse d tx (block_total (k (Start ∷ is))) (g (Jump (block_total is) ∷ k (Start ∷ is)))))
         left_choice d tx f g k a c o heads rest h =
-            left_start heads rest (o heads _ (left_jump (λ is. count rest) heads _ (c heads _ (left_branch _ _ _ _ heads _ (a heads _ h)))))
+            left_start heads rest (o heads _ (left_jump (λ is. block_total rest) heads _ (c heads _ (left_branch _ _ _ _ heads _ (a heads _ h)))))
 
         mutual
           pub left_expr : (x : Expr) (d : ℕ) → Left (λ is. expr_code L ds ls d x is)

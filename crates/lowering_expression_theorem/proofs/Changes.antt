@@ -16,7 +16,7 @@ use Rattle.c_typed_tree.specs.Types.{PlainType, Void, Int, Pointer, Array, Struc
 use Rattle.c_typed_tree.specs.Layout.{is_object, size_of}
 use Rattle.c_typed_tree.specs.Constants.{is_integer}
 use Rattle.c_typed_tree.specs.Expressions.{Expr, Assign, type_of}
-use Rattle.c_typed_tree.specs.Typing.{Context, Signature, is_same_type, is_scalar, is_struct, is_promoted, is_common, is_compound, is_compound_sum, is_compound_shift, has_assigned_type, has_step_type, points_to_object, is_place, is_in_memory, is_type, is_typed}
+use Rattle.c_typed_tree.specs.Typing.{Context, Signature, is_same_type, is_scalar, is_struct, is_promoted, is_common, is_compound, is_compound_sum, is_compound_shift, has_assigned_type, has_step_type, points_to_object, is_place, is_in_memory, is_valid_type, is_typed}
 use Rattle.c_typed_tree.specs.Lawful.{IsLawfulStruct, is_lawful_local}
 use Rattle.c_semantics.specs.Operators.{operator_of, operation_type}
 use Rattle.lowering_expression_laws.specs.Parts.{Setting, ExprMeets}
@@ -24,7 +24,7 @@ use Rattle.lowering_expression_laws.specs.Laws.{IsScalarType}
 use Rattle.lowering_place_laws.specs.Places.{PlaceMeets}
 use Rattle.lowering_struct_laws.proofs.Structs.{structs_and_arrays_meet}
 use Rattle.lowering_operand_laws.proofs.Operands.{promoted_again}
-use Rattle.lowering_change_laws.specs.Laws.{moving, StepsMeet, ChangesMeet}
+use Rattle.lowering_change_laws.specs.Laws.{change_operator, StepsMeet, ChangesMeet}
 use Rattle.lowering_change_laws.proofs.Changes.{registers_are_changed, memory_is_changed}
 use Rattle.c_layout_laws.proofs.Truth.{no_true, front, back, either}
 use Rattle.lowering_bounds.proofs.Typing.{same, large_memory, place_memory}
@@ -62,7 +62,7 @@ module _ (c : Setting) (found : slice_get c.functions c.number ≡ Some c.code) 
             (registers_are_changed c found r.ty r.number (record { local = r.local; is_there = r.is_there; in_register = r.in_register; is_of_type = r.is_of_type }))
 
     pointer_small : (target : PlainType) → X ≡ Pointer target → IsTrue (is_object c.structs target) → size_of c.structs target ≤ MOST_DATA
-    pointer_small target e h = object_small c.structs structs target (subst (λ z. IsTrue (is_type c.structs z)) e (types K x tx)) h
+    pointer_small target e h = object_small c.structs structs target (subst (λ z. IsTrue (is_valid_type c.structs z)) e (types K x tx)) h
 
     -- ---- `++` and `--`
 
@@ -93,12 +93,12 @@ module _ (c : Setting) (found : slice_get c.functions c.number ≡ Some c.code) 
           subst (λ z. ExprMeets c (Assign z op x y)) e
           (changes.integers left.type left.is op o right.type y is right.is (subst (λ z. promote z ≡ z) (sym (result left.type right.type)) (promoted_again left.type)) hy)
 
-      sum_meets : (s : StepOp) (o : BinaryOp) → operator_of (moving s) ≡ Some o → ((left right : IntegerType) → operation_type o left right ≡ right) → IsTrue (is_compound_sum c.structs X Y) → ExprMeets c (Assign ty (moving s) x y)
+      sum_meets : (s : StepOp) (o : BinaryOp) → operator_of (change_operator s) ≡ Some o → ((left right : IntegerType) → operation_type o left right ≡ right) → IsTrue (is_compound_sum c.structs X Y) → ExprMeets c (Assign ty (change_operator s) x y)
       sum_meets s o is result h =
-          either (is_compound X Y) (points_to_object c.structs X && is_integer Y) (λ g. compound_meets (moving s) o is result g)
+          either (is_compound X Y) (points_to_object c.structs X && is_integer Y) (λ g. compound_meets (change_operator s) o is result g)
           (λ g. let p = object_pointer_known c.structs X (front (points_to_object c.structs X) (is_integer Y) g) in
           let n = integer_known Y (back (points_to_object c.structs X) (is_integer Y) g) in
-          subst (λ z. ExprMeets c (Assign z (moving s) x y)) e (changes.pointers p.target p.is (pointer_small p.target p.is p.object) s n.type y n.is hy)) h
+          subst (λ z. ExprMeets c (Assign z (change_operator s) x y)) e (changes.pointers p.target p.is (pointer_small p.target p.is p.object) s n.type y n.is hy)) h
 
       -- ---- assignments
 
@@ -122,7 +122,7 @@ module _ (c : Setting) (found : slice_get c.functions c.number ≡ Some c.code) 
       set_struct (Struct n) is h same_type =
           let inside = large_memory K lawful x tx px (ap is_scalar is) in
           let none = unregistered c found globals signatures structs lawful statics x inside in
-          let whole = whole_struct c structs n (subst (λ z. IsTrue (is_type c.structs z)) is (types K x tx)) (subst (λ z. IsTrue (is_object c.structs z)) is (place_object c found globals signatures structs lawful statics x tx px)) in
+          let whole = whole_struct c structs n (subst (λ z. IsTrue (is_valid_type c.structs z)) is (types K x tx)) (subst (λ z. IsTrue (is_object c.structs z)) is (place_object c found globals signatures structs lawful statics x tx px)) in
           subst (λ z. ExprMeets c (Assign z a.Set x y)) (sym is ∙ e) ((structs_and_arrays_meet c found).structs n x y none (same_type ∙ is) whole (place inside) hy)
 
       set_meets : IsTrue (is_same_type Y X && (is_scalar X || is_struct X)) → ExprMeets c (Assign ty a.Set x y)

@@ -12,7 +12,7 @@ use Rattle.c_typed_tree.specs.declared.units.TypedUnit.{TypedUnit}
 use Rattle.c_typed_tree.specs.Types.{PlainType, Void, Int, Pointer, Array, Struct}
 use Rattle.c_typed_tree.specs.View.{type_view}
 use Rattle.c_typed_tree.specs.Expressions.{Expr, Number, Local, Global, Call, Unary, Binary, Assign, Conditional, Cast, Convert, Index, Field, Arrow, Postfix, Comma, Exprs, no_exprs, more_exprs, type_of}
-use Rattle.c_typed_tree.specs.Typing.{Context, Signature, is_same_type, is_fit, is_type, is_scalar, is_array, has_step_type, has_assigned_type, points_to, is_member, target_of, are_arguments, is_place, is_in_memory, has_last_type, are_operands, has_rule, is_typed, are_typed}
+use Rattle.c_typed_tree.specs.Typing.{Context, Signature, is_same_type, is_fit, is_valid_type, is_scalar, is_array, has_step_type, has_assigned_type, points_to, is_member, target_of, are_arguments, is_place, is_in_memory, has_last_type, are_operands, has_rule, is_typed, are_typed}
 use Rattle.c_typed_tree.specs.Lawful.{IsLawfulStruct, IsTypedUnit, IsTypedFn, is_lawful_local, is_result, context_of, signature_of}
 use Rattle.lowering_expression_laws.specs.Parts.{Setting, ExprMeets}
 use Rattle.lowering_place_laws.specs.Places.{PlaceMeets}
@@ -61,16 +61,16 @@ module _ (c : Setting) (found : slice_get c.functions c.number ≡ Some c.code) 
   address_meets : (ty : PlainType) (x : Expr) → IsTrue (is_same_type ty (Pointer (type_of x))) → PlaceMeets c x → ExprMeets c (Unary ty u.Address x)
   address_meets ty x h hx = subst (λ z. ExprMeets c (Unary z u.Address x)) (sym (same ty (Pointer (type_of x)) h)) ((accesses c found).addresses (type_of x) x hx)
 
-  whole : (x : Expr) → T x → IsTrue (is_type c.structs (type_of x))
+  whole : (x : Expr) → T x → IsTrue (is_valid_type c.structs (type_of x))
   whole x h = types K x h
 
-  target_meets : (ty : PlainType) (x : Expr) → IsTrue (is_type c.structs ty) → IsTrue (points_to c.structs ty (type_of x)) → ExprMeets c x → ExprMeets c (Unary ty u.Dereference x)
+  target_meets : (ty : PlainType) (x : Expr) → IsTrue (is_valid_type c.structs ty) → IsTrue (points_to c.structs ty (type_of x)) → ExprMeets c x → ExprMeets c (Unary ty u.Dereference x)
   target_meets ty x t h hx = (accesses c found).targets ty ty x (whole_known c.structs ty t) (pointer_to_known c.structs ty (type_of x) h).is hx
 
   target_place_meets : (ty : PlainType) (x : Expr) → IsTrue (points_to c.structs ty (type_of x)) → ExprMeets c x → PlaceMeets c (Unary ty u.Dereference x)
   target_place_meets ty x h hx = (places c found).targets ty ty x (pointer_to_known c.structs ty (type_of x) h).is hx
 
-  field_meets : (ty : PlainType) (x : Expr) (member : ℕ) → IsTrue (is_type c.structs ty) → IsTrue (is_member c.structs ty (type_of x) member) → PlaceMeets c x → ExprMeets c (Field ty x member)
+  field_meets : (ty : PlainType) (x : Expr) (member : ℕ) → IsTrue (is_valid_type c.structs ty) → IsTrue (is_member c.structs ty (type_of x) member) → PlaceMeets c x → ExprMeets c (Field ty x member)
   field_meets ty x member t h hx = (accesses c found).members ty x member (whole_known c.structs ty t) (within c K refl structs ty (type_of x) member h) hx
 
   field_place_meets : (ty : PlainType) (x : Expr) (member : ℕ) → IsTrue (is_member c.structs ty (type_of x) member) → PlaceMeets c x → PlaceMeets c (Field ty x member)
@@ -84,7 +84,7 @@ module _ (c : Setting) (found : slice_get c.functions c.number ≡ Some c.code) 
   behind ty (Array t n) member h = no_true h
   behind ty (Struct n) member h = no_true h
 
-  arrow_meets : (ty : PlainType) (x : Expr) (member : ℕ) → IsTrue (is_type c.structs ty) → IsTrue (is_member c.structs ty (target_of (type_of x)) member) → ExprMeets c x → ExprMeets c (Arrow ty x member)
+  arrow_meets : (ty : PlainType) (x : Expr) (member : ℕ) → IsTrue (is_valid_type c.structs ty) → IsTrue (is_member c.structs ty (target_of (type_of x)) member) → ExprMeets c x → ExprMeets c (Arrow ty x member)
   arrow_meets ty x member t h hx =
       (accesses c found).arrows ty (target_of (type_of x)) x member (whole_known c.structs ty t) (behind ty (type_of x) member h) (within c K refl structs ty (target_of (type_of x)) member h) hx
 

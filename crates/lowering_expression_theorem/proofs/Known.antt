@@ -8,7 +8,7 @@ use Rattle.c_typed_tree.specs.Types.{PlainType, Void, Int, Pointer, Array, Struc
 use Rattle.c_typed_tree.specs.View.{type_view}
 use Rattle.c_typed_tree.specs.Layout.{is_complete, is_object, size_of, align_of, struct_member}
 use Rattle.c_typed_tree.specs.Expressions.{Expr, Number, Local, Global, Call, Unary, Binary, Assign, Conditional, Cast, Convert, Index, Field, Arrow, Postfix, Comma, type_of}
-use Rattle.c_typed_tree.specs.Typing.{Context, depth_behind, depth_of, is_fit, is_type, has_member_type, is_member, has_rule, is_typed, are_typed}
+use Rattle.c_typed_tree.specs.Typing.{Context, depth_behind, depth_of, is_fit, is_valid_type, has_member_type, is_member, has_rule, is_typed, are_typed}
 use Rattle.c_typed_tree.specs.Lawful.{IsLawfulStruct, is_object_type}
 use Rattle.c_semantics.specs.Objects.{offset_of}
 use Rattle.lowering_expression_laws.specs.Parts.{Setting}
@@ -115,10 +115,10 @@ module _ (k : Context) where
   fits (Postfix ty op x) h = first_of_three (is_fit k.structs ty) (has_rule k (Postfix ty op x)) (is_typed k x) h
   fits (Comma ty xs) h = first_of_three (is_fit k.structs ty) (has_rule k (Comma ty xs)) (are_typed k xs) h
 
-  pub fit_type : (ty : PlainType) → IsTrue (is_fit k.structs ty) → IsTrue (is_type k.structs ty)
-  fit_type ty h = front (is_type k.structs ty) (nat_le (depth_behind ty) 257) h
+  pub fit_type : (ty : PlainType) → IsTrue (is_fit k.structs ty) → IsTrue (is_valid_type k.structs ty)
+  fit_type ty h = front (is_valid_type k.structs ty) (nat_le (depth_behind ty) 257) h
 
-  pub types : (x : Expr) → IsTrue (is_typed k x) → IsTrue (is_type k.structs (type_of x))
+  pub types : (x : Expr) → IsTrue (is_typed k x) → IsTrue (is_valid_type k.structs (type_of x))
   types x h = fit_type (type_of x) (fits x h)
 
 -- ---- members
@@ -134,8 +134,8 @@ member_object ds lawful ty (Struct n) member h = by (slice_get ds n) refl h
     typed : (d : StructDef) (m : Member) → IsTrue (is_object_type ds (type_view m.ty)) → IsTrue (has_member_type (Some m) ty) → IsTrue (is_object ds ty)
     typed d m h g =
         let own = type_view m.ty in
-        let both = front (is_type ds own && is_object ds own) (nat_le (depth_of ds own) 256) h in
-        subst (λ z. IsTrue (is_object ds z)) (same own ty g) (back (is_type ds own) (is_object ds own) both)
+        let both = front (is_valid_type ds own && is_object ds own) (nat_le (depth_of ds own) 256) h in
+        subst (λ z. IsTrue (is_object ds z)) (same own ty g) (back (is_valid_type ds own) (is_object ds own) both)
 
     found : (d : StructDef) (o : Option Member) → slice_get d.members member ≡ o → slice_get ds n ≡ Some d → IsTrue d.complete → IsTrue (has_member_type o ty) → IsTrue (is_object ds ty)
     found d None e f h g = no_true g
@@ -162,7 +162,7 @@ within c k e lawful ty t member h = record {
 }
 
 -- a complete struct is copied whole
-pub whole_struct : (c : Setting) → All (IsLawfulStruct c.structs) c.structs → (n : ℕ) → IsTrue (is_type c.structs (Struct n)) → IsTrue (is_object c.structs (Struct n)) → IsWholeStruct c n
+pub whole_struct : (c : Setting) → All (IsLawfulStruct c.structs) c.structs → (n : ℕ) → IsTrue (is_valid_type c.structs (Struct n)) → IsTrue (is_object c.structs (Struct n)) → IsWholeStruct c n
 whole_struct c lawful n t h = record {
   size = struct_small c.structs lawful n h;
   align = alignment_known (align_of c.structs (Struct n)) (aligned c.structs lawful (Struct n) t h);

@@ -13,12 +13,12 @@ use Rattle.c_typed_tree.specs.Layout.{is_object, size_of}
 use Rattle.c_typed_tree.specs.Constants.{is_integer}
 use Rattle.c_typed_tree.specs.Expressions.{Expr, Unary, Binary, Conditional, Index, type_of}
 use Rattle.c_typed_tree.specs.Typing as rules
-use Rattle.c_typed_tree.specs.Typing.{is_same_type, int, long, is_void, is_pointer, is_struct, is_scalar, is_promoted, points_to_object, points_to, is_type, has_promoted_type, has_truth_type, is_arithmetic, is_sum, is_difference, is_comparison, has_binary_type, is_choice, is_element}
+use Rattle.c_typed_tree.specs.Typing.{is_same_type, int, long, is_void, is_pointer, is_struct, is_scalar, is_promoted, points_to_object, points_to, is_valid_type, has_promoted_type, has_truth_type, is_arithmetic, is_sum, is_difference, is_comparison, has_binary_type, is_choice, is_element}
 use Rattle.c_typed_tree.specs.Lawful.{IsLawfulStruct}
 use Rattle.lowering_code.specs.Expressions.{plain_of}
 use Rattle.lowering_values.specs.Laws as values
 use Rattle.lowering_expression_laws.specs.Parts.{Setting, ExprMeets}
-use Rattle.lowering_expression_laws.specs.Laws.{is_logical, result_type}
+use Rattle.lowering_expression_laws.specs.Laws.{is_logical_operator, result_type}
 use Rattle.lowering_place_laws.specs.Places.{PlaceMeets}
 use Rattle.lowering_pointer_laws.specs.Laws.{Comparisons}
 use Rattle.lowering_pointer_laws.proofs.Differences.{pointers_are_moved}
@@ -70,15 +70,15 @@ module _ (c : Setting) (found : slice_get c.functions c.number ≡ Some c.code) 
       let f = same left ty (back (is_promoted left && is_same_type left right) (is_same_type left ty) h) in
       record { type = p.type; stays = p.stays; left_is = p.is; right_is = sym e ∙ p.is; is = sym p.is ∙ f }
 
-  arithmetic_meets : (op : BinaryOp) → is_logical op ≡ false → ((t : IntegerType) → result_type op t ≡ t) → (ty : PlainType) (x y : Expr) → IsTrue (is_arithmetic ty (type_of x) (type_of y)) → ExprMeets c x → ExprMeets c y → ExprMeets c (Binary ty op x y)
+  arithmetic_meets : (op : BinaryOp) → is_logical_operator op ≡ false → ((t : IntegerType) → result_type op t ≡ t) → (ty : PlainType) (x y : Expr) → IsTrue (is_arithmetic ty (type_of x) (type_of y)) → ExprMeets c x → ExprMeets c y → ExprMeets c (Binary ty op x y)
   arithmetic_meets op plain result ty x y h hx hy =
       let a = arithmetic_known ty (type_of x) (type_of y) h in
       subst (λ z. ExprMeets c (Binary z op x y)) (ap plain_of (result a.type) ∙ a.is) ((forms c found).operators op a.type a.type x y plain a.stays (λ _. refl) a.left_is a.right_is hx hy)
 
-  no_shift : {X : Type 0} (op : BinaryOp) → values.is_shift op ≡ true → values.is_shift op ≡ false → X
+  no_shift : {X : Type 0} (op : BinaryOp) → values.is_shift_operator op ≡ true → values.is_shift_operator op ≡ false → X
   no_shift op e f = no_true (sym f ∙ e)
 
-  shift_meets : (op : BinaryOp) → is_logical op ≡ false → values.is_shift op ≡ true → ((t : IntegerType) → result_type op t ≡ t) → (ty : PlainType) (x y : Expr) → IsTrue (rules.is_shift ty (type_of x) (type_of y)) → ExprMeets c x → ExprMeets c y
+  shift_meets : (op : BinaryOp) → is_logical_operator op ≡ false → values.is_shift_operator op ≡ true → ((t : IntegerType) → result_type op t ≡ t) → (ty : PlainType) (x y : Expr) → IsTrue (rules.is_shift ty (type_of x) (type_of y)) → ExprMeets c x → ExprMeets c y
       → ExprMeets c (Binary ty op x y)
   shift_meets op plain shifts result ty x y h hx hy =
       let both = front (is_promoted (type_of x) && is_promoted (type_of y)) (is_same_type (type_of x) ty) h in
@@ -89,7 +89,7 @@ module _ (c : Setting) (found : slice_get c.functions c.number ≡ Some c.code) 
 
   -- ---- comparisons
 
-  comparison_meets : (op : BinaryOp) → is_logical op ≡ false → ((t : IntegerType) → result_type op t ≡ i.Int) → (ty : PlainType) (x y : Expr) → (Comparisons c x y → ExprMeets c (Binary (plain_of i.Int) op x y))
+  comparison_meets : (op : BinaryOp) → is_logical_operator op ≡ false → ((t : IntegerType) → result_type op t ≡ i.Int) → (ty : PlainType) (x y : Expr) → (Comparisons c x y → ExprMeets c (Binary (plain_of i.Int) op x y))
       → IsTrue (is_comparison ty (type_of x) (type_of y)) → ExprMeets c x → ExprMeets c y → ExprMeets c (Binary ty op x y)
   comparison_meets op plain result ty x y pick h hx hy =
       let left = type_of x in
@@ -104,10 +104,10 @@ module _ (c : Setting) (found : slice_get c.functions c.number ≡ Some c.code) 
 
   -- ---- sums and differences
 
-  target_small : (ty target : PlainType) → ty ≡ Pointer target → IsTrue (is_type c.structs ty) → IsTrue (is_object c.structs target) → size_of c.structs target ≤ MOST_DATA
-  target_small ty target e t h = object_small c.structs structs target (subst (λ z. IsTrue (is_type c.structs z)) e t) h
+  target_small : (ty target : PlainType) → ty ≡ Pointer target → IsTrue (is_valid_type c.structs ty) → IsTrue (is_object c.structs target) → size_of c.structs target ≤ MOST_DATA
+  target_small ty target e t h = object_small c.structs structs target (subst (λ z. IsTrue (is_valid_type c.structs z)) e t) h
 
-  module _ (x y : Expr) (tx : IsTrue (is_type c.structs (type_of x))) (ty1 : IsTrue (is_type c.structs (type_of y))) (hx : ExprMeets c x) (hy : ExprMeets c y) where
+  module _ (x y : Expr) (tx : IsTrue (is_valid_type c.structs (type_of x))) (ty1 : IsTrue (is_valid_type c.structs (type_of y))) (hx : ExprMeets c x) (hy : ExprMeets c y) where
     abbrev X : PlainType
     X = type_of x
 
@@ -195,7 +195,7 @@ module _ (c : Setting) (found : slice_get c.functions c.number ≡ Some c.code) 
 
     -- ---- elements
 
-    pub element_meets : (ty : PlainType) → IsTrue (is_type c.structs ty) → IsTrue (is_element c.structs ty X Y) → ExprMeets c (Index ty x y)
+    pub element_meets : (ty : PlainType) → IsTrue (is_valid_type c.structs ty) → IsTrue (is_element c.structs ty X Y) → ExprMeets c (Index ty x y)
     element_meets ty t h =
         either (points_to c.structs ty X && is_integer Y) (is_integer X && points_to c.structs ty Y)
         (λ g. let p = pointer_to_known c.structs ty X (front (points_to c.structs ty X) (is_integer Y) g) in
@@ -205,7 +205,7 @@ module _ (c : Setting) (found : slice_get c.functions c.number ≡ Some c.code) 
         let p = pointer_to_known c.structs ty Y (back (is_integer X) (points_to c.structs ty Y) g) in
         (pointers_above_are_moved c found).elements ty ty n.type x y (whole_known c.structs ty t) (object_small c.structs structs ty t p.object) n.is p.is hx hy) h
 
-    pub element_place_meets : (ty : PlainType) → IsTrue (is_type c.structs ty) → IsTrue (is_element c.structs ty X Y) → PlaceMeets c (Index ty x y)
+    pub element_place_meets : (ty : PlainType) → IsTrue (is_valid_type c.structs ty) → IsTrue (is_element c.structs ty X Y) → PlaceMeets c (Index ty x y)
     element_place_meets ty t h =
         either (points_to c.structs ty X && is_integer Y) (is_integer X && points_to c.structs ty Y)
         (λ g. let p = pointer_to_known c.structs ty X (front (points_to c.structs ty X) (is_integer Y) g) in

@@ -11,7 +11,7 @@ use Rattle.c_typed_tree.specs.View.{type_view}
 use Rattle.c_typed_tree.specs.Layout.{is_object, size_of}
 use Rattle.c_typed_tree.specs.Constants.{is_integer}
 use Rattle.c_typed_tree.specs.Expressions.{Expr, Number, Local, Global, Call, Unary, Binary, Assign, Conditional, Cast, Convert, Index, Field, Arrow, Postfix, Comma, type_of}
-use Rattle.c_typed_tree.specs.Typing.{Context, Signature, depth_of, is_fit, is_type, is_scalar, has_local_type, has_global_type, points_to, is_element, is_member, target_of, is_place, is_memory_local, is_in_memory, has_rule, is_typed}
+use Rattle.c_typed_tree.specs.Typing.{Context, Signature, depth_of, is_fit, is_valid_type, is_scalar, has_local_type, has_global_type, points_to, is_element, is_member, target_of, is_place, is_memory_local, is_in_memory, has_rule, is_typed}
 use Rattle.c_typed_tree.specs.Lawful.{IsLawfulStruct, is_lawful_local, is_object_type, type_of_local}
 use Rattle.lowering_code.specs.Expressions.{register_if, register_of}
 use Rattle.lowering_expression_laws.specs.Parts.{Setting, count, ExprMeets}
@@ -63,7 +63,7 @@ module _ (c : Setting) (found : slice_get c.functions c.number ≡ Some c.code) 
   local_rule : (ty : PlainType) (k : ℕ) → Typed (Local ty k) → IsTrue (has_local_type (slice_get c.locals k) ty)
   local_rule ty k h = back (is_fit c.structs ty) (has_rule K (Local ty k)) h
 
-  local_type : (ty : PlainType) (k : ℕ) → Typed (Local ty k) → IsTrue (is_type c.structs ty)
+  local_type : (ty : PlainType) (k : ℕ) → Typed (Local ty k) → IsTrue (is_valid_type c.structs ty)
   local_type ty k h = fit_type K ty (front (is_fit c.structs ty) (has_rule K (Local ty k)) h)
 
   pub local_meets : (ty : PlainType) (k : ℕ) → Typed (Local ty k) → ExprMeets c (Local ty k)
@@ -156,7 +156,7 @@ module _ (c : Setting) (found : slice_get c.functions c.number ≡ Some c.code) 
   local_object ty (Some x) k e h =
       let own = type_of_local x in
       let all = front (is_object_type c.structs own) (is_scalar own || x.in_memory) (all_pass (is_lawful_local c.structs) c.locals k x lawful e) in
-      subst (λ z. IsTrue (is_object c.structs z)) (same own ty h) (back (is_type c.structs own) (is_object c.structs own) (front (is_type c.structs own && is_object c.structs own) (nat_le (depth_of c.structs own) 256) all))
+      subst (λ z. IsTrue (is_object c.structs z)) (same own ty h) (back (is_valid_type c.structs own) (is_object c.structs own) (front (is_valid_type c.structs own && is_object c.structs own) (nat_le (depth_of c.structs own) 256) all))
 
   global_object : (ty : PlainType) (o : Option DataObject) → IsTrue (has_global_type c.structs o ty) → IsTrue (is_object c.structs ty)
   global_object ty None h = no_true h

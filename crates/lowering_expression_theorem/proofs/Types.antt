@@ -12,7 +12,7 @@ use Rattle.c_typed_tree.specs.Types.{PlainType, Void, Int, Pointer, Array, Struc
 use Rattle.c_typed_tree.specs.Layout.{integer_of, is_complete, is_object, size_of, struct_size}
 use Rattle.c_typed_tree.specs.Lawful.{IsLawfulStruct}
 use Rattle.c_typed_tree.specs.Constants.{is_integer}
-use Rattle.c_typed_tree.specs.Typing.{is_same_type, is_same_integer, is_promoted_integer, is_promoted, is_common_integer, is_common, is_scalar, is_pointer, is_void, points_to_object, points_to, is_number, is_type}
+use Rattle.c_typed_tree.specs.Typing.{is_same_type, is_same_integer, is_promoted_integer, is_promoted, is_common_integer, is_common, is_scalar, is_pointer, is_void, points_to_object, points_to, is_number_of, is_valid_type}
 use Rattle.lowering_code.specs.Expressions.{plain_of}
 use Rattle.lowering_expression_laws.specs.Laws.{IsScalarType}
 use Rattle.lowering_place_laws.specs.Laws.{HasWholeIntegers}
@@ -82,8 +82,8 @@ pub record NumberIs (ty : PlainType) (n : ℕ) : Type 0 where
   pub is : ty ≡ plain_of type
   pub word : is_word type n ≡ true
 
-pub number_known : (ty : PlainType) (n : ℕ) → IsTrue (is_number (integer_of ty) n) → NumberIs ty n
-number_known ty n h = let o = of_integer (λ z. is_number z n) refl ty h in record { type = o.0; is = o.1; word = o.2 }
+pub number_known : (ty : PlainType) (n : ℕ) → IsTrue (is_number_of (integer_of ty) n) → NumberIs ty n
+number_known ty n h = let o = of_integer (λ z. is_number_of z n) refl ty h in record { type = o.0; is = o.1; word = o.2 }
 
 -- a type is an integer type that is its own promotion
 pub record PromotedIs (ty : PlainType) : Type 0 where
@@ -202,7 +202,7 @@ void_known (Array t n) h = no_true h
 void_known (Struct n) h = no_true h
 
 -- a number of bytes and a sign that there are
-pub whole_known : (ds : List StructDef) (ty : PlainType) → IsTrue (is_type ds ty) → HasWholeIntegers ty
+pub whole_known : (ds : List StructDef) (ty : PlainType) → IsTrue (is_valid_type ds ty) → HasWholeIntegers ty
 whole_known ds Void h = tt
 whole_known ds (Int n s) h = let o = integer_known (Int n s) h in (o.type, o.is)
 whole_known ds (Pointer t) h = tt
@@ -229,7 +229,7 @@ struct_small ds lawful n h = by (slice_get ds n) refl h
     by None e h = no_true h
     by (Some d) e h = (complete_at ds lawful n d e h).size
 
-pub object_small : (ds : List StructDef) → All (IsLawfulStruct ds) ds → (ty : PlainType) → IsTrue (is_type ds ty) → IsTrue (is_object ds ty) → size_of ds ty ≤ MOST_DATA
+pub object_small : (ds : List StructDef) → All (IsLawfulStruct ds) ds → (ty : PlainType) → IsTrue (is_valid_type ds ty) → IsTrue (is_object ds ty) → size_of ds ty ≤ MOST_DATA
 object_small ds lawful Void t h = no_true h
 object_small ds lawful (Int n s) t h = let o = integer_known (Int n s) t in subst (λ z. size_of ds z ≤ MOST_DATA) (sym o.is) (integer_small o.type ds)
 object_small ds lawful (Pointer x) t h = omega arith

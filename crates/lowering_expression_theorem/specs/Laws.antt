@@ -5,7 +5,7 @@ use Rattle.c_typed_tree.specs.declared.units.TypedUnit.{TypedUnit}
 use Rattle.c_typed_tree.specs.View.{type_view}
 use Rattle.c_typed_tree.specs.Expressions.{Expr}
 use Rattle.c_typed_tree.specs.Typing.{is_in_memory, is_typed}
-use Rattle.c_typed_tree.specs.Lawful.{IsTypedUnit, IsTypedFn, context_of, parameters_of}
+use Rattle.c_typed_tree.specs.Lawful.{IsTypedUnit, IsTypedFn, context_of, types_of_parameters}
 use Rattle.lowering_expression_laws.specs.Parts.{Setting, ExprMeets}
 use Rattle.lowering_place_laws.specs.Places.{PlaceMeets}
 use Rattle.lowering_call_laws.specs.Laws.{FunctionMeets}
@@ -18,7 +18,7 @@ pub record IsSetting (u : TypedUnit) (f : TypedFn) (c : Setting) : Type 0 where
   pub locals : c.locals ≡ f.locals
   pub statics : c.statics ≡ length u.globals
   pub calls : (k : ℕ) (g : TypedFn) → slice_get u.functions k ≡ Some g
-      → FunctionMeets c k (parameters_of g) (type_view g.result)
+      → FunctionMeets c k (types_of_parameters g) (type_view g.result)
 
 -- the code of each well typed expression does what it means
 abbrev pub ExpressionsMeet : Type 0

@@ -12,7 +12,7 @@ use Rattle.std.proofs.lemmas.List.{take_more, length-take}
 use Rattle.c_typed_tree.specs.Expressions.{type_of}
 use Rattle.lowering_code.specs.Registers.{value_register}
 use Rattle.lowering_expressions.specs.declared.scope.LoweringScope.{LoweringScope}
-use Rattle.lowering_expressions.specs.Scopes.{argument_registers}
+use Rattle.lowering_expressions.specs.Scopes.{call_registers}
 use Rattle.lowering_expressions.specs.Levels.{levels, levels_above, levels_of_each}
 
 pub own_levels : (x : Expr) → 5 ≤ levels x
@@ -55,21 +55,21 @@ comma_is v ty xs ys h same = ap expr_view h ∙ view_comma ty xs ∙ ap (λ l. p
 
 -- one more argument
 registers_end : (s : LoweringScope) (d : ℕ) (xs : List e.TExpr) (x : e.TExpr)
-    → argument_registers s d (exprs_view (xs ++ x ∷ [])) ≡ argument_registers s d (exprs_view xs) ++ value_register s.registers.locals (d + length xs) (type_of (expr_view x)) ∷ []
+    → call_registers s d (exprs_view (xs ++ x ∷ [])) ≡ call_registers s d (exprs_view xs) ++ value_register s.registers.locals (d + length xs) (type_of (expr_view x)) ∷ []
 registers_end s d [] x =
     let e : d ≡ d + 0 = omega arith in
     ap (λ k. value_register s.registers.locals k (type_of (expr_view x)) ∷ []) e
 registers_end s d (y ∷ xs) x =
     let e : suc d + length xs ≡ d + suc (length xs) = omega arith in
     ap (λ l. value_register s.registers.locals d (type_of (expr_view y)) ∷ l)
-    (registers_end s (suc d) xs x ∙ ap (λ k. argument_registers s (suc d) (exprs_view xs) ++ value_register s.registers.locals k (type_of (expr_view x)) ∷ []) e)
+    (registers_end s (suc d) xs x ∙ ap (λ k. call_registers s (suc d) (exprs_view xs) ++ value_register s.registers.locals k (type_of (expr_view x)) ∷ []) e)
 
 pub registers_more : (s : LoweringScope) (d at i : ℕ) (xs : List e.TExpr) (x : e.TExpr) → i < length xs → x ≡ get_or xs i x → at ≡ d + i
-    → argument_registers s d (exprs_view (take (i + 1) xs)) ≡ argument_registers s d (exprs_view (take i xs)) ++ value_register s.registers.locals at (type_of (expr_view x)) ∷ []
+    → call_registers s d (exprs_view (take (i + 1) xs)) ≡ call_registers s d (exprs_view (take i xs)) ++ value_register s.registers.locals at (type_of (expr_view x)) ∷ []
 registers_more s d at i xs x lt is h =
     let n : d + length (take i xs) ≡ at = omega (arith, length-take i xs, lt, h) in
-    ap (λ l. argument_registers s d (exprs_view l)) (take_more xs i x lt ∙ ap (λ y. take i xs ++ y ∷ []) (sym is)) ∙ registers_end s d (take i xs) x
-    ∙ ap (λ k. argument_registers s d (exprs_view (take i xs)) ++ value_register s.registers.locals k (type_of (expr_view x)) ∷ []) n
+    ap (λ l. call_registers s d (exprs_view l)) (take_more xs i x lt ∙ ap (λ y. take i xs ++ y ∷ []) (sym is)) ∙ registers_end s d (take i xs) x
+    ∙ ap (λ k. call_registers s d (exprs_view (take i xs)) ++ value_register s.registers.locals k (type_of (expr_view x)) ∷ []) n
 
 pub register_there : (s : LoweringScope) (d at i : ℕ) (xs : List e.TExpr) (x : e.TExpr) → i < length xs → x ≡ get_or xs i x → at ≡ d + i
     → s.registers.locals + 5 * (d + levels_above (exprs_view xs)) < 2 ^ 32 → s.registers.locals + 5 * (at + 1) < 2 ^ 32

@@ -9,8 +9,8 @@ use Rattle.suifvm_ir.specs.declared.insn.VmObject.TheVariants as p
 use Rattle.suifvm_ir.specs.declared.insn.VmInsn.TheVariants as n
 use Rattle.lowering_code.specs.declared.item.CodeItem.{CodeItem}
 use Rattle.lowering_code.specs.declared.item.CodeItem.TheVariants.{Start, Plain, Jump}
-use Rattle.lowering_code.specs.Registers.{value_register, object_of}
-use Rattle.lowering_code.specs.Items.{count}
+use Rattle.lowering_code.specs.Registers.{value_register, object_index}
+use Rattle.lowering_code.specs.Items.{block_total}
 use Rattle.lowering_code.specs.Expressions as code
 use Rattle.lowering_expressions.specs.declared.scope.LoweringScope.{LoweringScope}
 
@@ -49,7 +49,7 @@ HasLevels s d levels = s.registers.locals + 5 * (d + levels) < 2 ^ 32
 
 -- the address of a memory local
 abbrev pub local_address : LoweringScope → (depth number plus : ℕ) → List CodeItem → List CodeItem
-local_address s d k plus rest = code.address_code s.registers.locals d (p.Local (object_of s.locals.now k)) plus rest
+local_address s d k plus rest = code.address_code s.registers.locals d (p.Local (object_index s.locals.now k)) plus rest
 
 abbrev pub local_code : LoweringScope → (depth : ℕ) → PlainType → (number : ℕ) → List CodeItem → List CodeItem
 local_code s d ty k rest =
@@ -62,12 +62,12 @@ global_code s d ty k rest =
 abbrev pub destination_of : LoweringScope → (depth : ℕ) → PlainType → Option ℕ
 destination_of s d ty = code.destination_of s.registers.locals s.structs.now s.locals.now d ty
 
-abbrev pub argument_registers : LoweringScope → (depth : ℕ) → Exprs → List ℕ
-argument_registers s d xs = code.argument_registers s.registers.locals s.structs.now s.locals.now d xs
+abbrev pub call_registers : LoweringScope → (depth : ℕ) → Exprs → List ℕ
+call_registers s d xs = code.call_registers s.registers.locals s.structs.now s.locals.now d xs
 
 abbrev pub call_code : LoweringScope → (depth : ℕ) → PlainType → Callee → Exprs → List CodeItem → List CodeItem
 call_code s d ty callee xs rest =
-    Plain (n.Call (destination_of s d ty) (code.vm_callee callee) (argument_registers s d xs)) ∷ rest
+    Plain (n.Call (destination_of s d ty) (code.vm_callee callee) (call_registers s d xs)) ∷ rest
 
 -- a compound assignment to a register, behind its right side
 abbrev pub combine_register_code : LoweringScope → (depth : ℕ) → BinaryOp → (ty right : PlainType) → (local : ℕ) →
@@ -85,7 +85,7 @@ decided_code locals d ty word rest = code.constant_code locals d ty word (Start 
 -- in front of it the value where none decides
 abbrev pub both_code : (locals depth : ℕ) → PlainType → (word other : ℕ) → List CodeItem → List CodeItem
 both_code locals d ty word other rest =
-    code.constant_code locals d ty other (Jump (count rest) ∷ decided_code locals d ty word rest)
+    code.constant_code locals d ty other (Jump (block_total rest) ∷ decided_code locals d ty word rest)
 
 -- ---- forms with one operand
 

@@ -3,10 +3,10 @@
 ghost use Rattle.std.specs.Prelude.{◌≡◌, ◌+◌, ◌*◌, ◌^◌, ◌<◌, OnOk, IfOk};
 ghost use Rattle.c_typed_tree.specs.View.{type_view};
 ghost use Rattle.c_typed_tree.specs.model.View.{exprs_view};
-ghost use Rattle.lowering_code.specs.Items.{count};
+ghost use Rattle.lowering_code.specs.Items.{block_total};
 ghost use Rattle.lowering_code.specs.Expressions.{vm_builtin, vm_callee};
 ghost use Rattle.lowering_expressions.specs.Levels.{levels_above};
-ghost use Rattle.lowering_expressions.specs.Scopes.{HasLevels, local_address, local_code, global_code, destination_of, argument_registers, call_code, combine_register_code, decided_code, both_code};
+ghost use Rattle.lowering_expressions.specs.Scopes.{HasLevels, local_address, local_code, global_code, destination_of, call_registers, call_code, combine_register_code, decided_code, both_code};
 
 use crate::places::register_if;
 use crate::scope::LoweringScope;
@@ -116,7 +116,7 @@ fn argument_registers(
     arguments: &[TExpr],
 ) -> Result<ArgumentRegisters, AllocError>
     requires { HasLevels scope.now depth (levels_above (exprs_view arguments.now)) }
-    ensures { IfOk result (λ o. o ≡ argument_registers scope.now depth (exprs_view arguments.now)) }
+    ensures { IfOk result (λ o. o ≡ call_registers scope.now depth (exprs_view arguments.now)) }
 {
     let mut registers = ArgumentRegisters::new(alloc);
     let mut at = depth;
@@ -186,7 +186,7 @@ pub(crate) fn decision(
     other: u64,
 ) -> Result<usize, AllocError>
     requires { r.locals + 5 * (depth + 1) < 2 ^ 32 }
-    ensures name { IfOk result (λ n. n ≡ count (decided_code r.locals depth (type_view ty.now) word code.old)) }
+    ensures name { IfOk result (λ n. n ≡ block_total (decided_code r.locals depth (type_view ty.now) word code.old)) }
     ensures code { OnOk result (code.new ≡ both_code r.locals depth (type_view ty.now) word other code.old) }
 {
     let end = code.name();

@@ -1,7 +1,7 @@
 //! What the numbers in a function name.
 
 ghost use Rattle.std.specs.Prelude.{◌≡◌, ℕ, IfOk, get_or, length, ◌<◌, ◌^◌};
-ghost use Rattle.lowering_code.specs.Registers.{object_of};
+ghost use Rattle.lowering_code.specs.Registers.{object_index};
 
 use c_typed_tree::{Local, StructDef};
 use lowering_emitter::registers::Registers;
@@ -17,7 +17,7 @@ pub struct LoweringScope<'a> {
     pub objects: Vec<u32>,
     /// The number of objects.
     pub object_count: u32,
-    pub ghost objects_are: { (k : ℕ) → get_or objects.items k object_count ≡ object_of locals.now k },
+    pub ghost objects_are: { (k : ℕ) → get_or objects.items k object_count ≡ object_index locals.now k },
 }
 
 impl<'a> LoweringScope<'a> {
@@ -51,7 +51,7 @@ impl<'a> LoweringScope<'a> {
 
     /// The object of a memory local.
     pub fn object(&self, local: u32) -> u32
-        ensures { result ≡ object_of self.now.locals.now local }
+        ensures { result ≡ object_index self.now.locals.now local }
     {
         match self.objects.get(local as usize) {
             Some(object) => *object,

@@ -71,7 +71,7 @@ module _ (c : Setting) (levels : LevelMeanings) (found : slice_get c.functions c
     step_items = after_code L c.structs c.locals step test_items
 
     abbrev body_items : List CodeItem
-    body_items = stmt_code L c.structs c.locals (items.count rest) (items.count step_items) body (Start ∷ step_items)
+    body_items = stmt_code L c.structs c.locals (items.block_total rest) (items.block_total step_items) body (Start ∷ step_items)
 
     -- where the step, and what comes behind, begin
     record Places : Type 0 where
@@ -116,15 +116,15 @@ module _ (c : Setting) (levels : LevelMeanings) (found : slice_get c.functions c
         let aft1 : Aft c f s m f t1 m = record { names = λ o a e. e; lives = λ o. refl; sizes = λ o l. refl; locals = λ a size h. h; turned = omega (arith, less) } in
         turning c.rooms c.functions c.number c.code found c.own c.waiting n.Mark (start_of_block head) r s.world t1.world m m mt [] here.mark refl some refl refl
         (bound c found (exec c.structs c.locals (levels.functions k) (levels.statements k) scope body t1) (after_body (again_run k scope)) K (next_place (start_of_block head)) r t1.world m
-        ((hb k).by (items.count rest) (items.count step_items) (Start ∷ step_items) (head ∷ heads) (next_place (start_of_block head)) f scope r t1 m (λ z u. finish (after_body (again_run k scope) z u) K) apart here.body_at fit (omega (arith, less, low))
+        ((hb k).by (items.block_total rest) (items.block_total step_items) (Start ∷ step_items) (head ∷ heads) (next_place (start_of_block head)) f scope r t1 m (λ z u. finish (after_body (again_run k scope) z u) K) apart here.body_at fit (omega (arith, less, low))
         (record {
           goes = λ q2 h u r2 m2 at2 aft2 fit2.
               fall c.rooms c.functions c.number c.code found c.own c.waiting q2 r2 u.world m2 at2.has.0
               (again_meets k below (next_block q2) h scope r2 u m2 K brk con apart (at_start c.code.blocks c.last c.end at2) fit2 (omega (arith, aft2.turned, less, low)) (onward_on (after_on aft1 aft2) way));
           breaks = λ h u r2 m2 aft2 fit2.
-              at_block c found r2 u.world m2 here.rest_block (c.last - items.count rest) (let size = here.rest_at.size in omega (arith, size)) (way.goes (start_of_block here.rest_block) h u r2 m2 here.rest_at (after_on aft1 aft2) fit2);
+              at_block c found r2 u.world m2 here.rest_block (c.last - items.block_total rest) (let size = here.rest_at.size in omega (arith, size)) (way.goes (start_of_block here.rest_block) h u r2 m2 here.rest_at (after_on aft1 aft2) fit2);
           continues = λ h u r2 m2 aft2 fit2.
-              at_block c found r2 u.world m2 here.step_block (c.last - items.count step_items) (let size = here.step_at.size in omega (arith, size))
+              at_block c found r2 u.world m2 here.step_block (c.last - items.block_total step_items) (let size = here.step_at.size in omega (arith, size))
               (again_meets k below (start_of_block here.step_block) h scope r2 u m2 K brk con apart here.step_at fit2 (omega (arith, aft2.turned, less, low)) (onward_on (after_on aft1 aft2) way));
           returns = λ v1 ws h u r2 m2 aft2 fit2 ret. way.returns v1 ws h u r2 m2 (after_on aft1 aft2) fit2 ret;
         }))))
@@ -147,7 +147,7 @@ module _ (c : Setting) (levels : LevelMeanings) (found : slice_get c.functions c
 
   -- the loop behind its first part
   abbrev loop_items : List CodeItem → List CodeItem
-  loop_items rest = Loop (items.count (test_items rest [] 0)) ∷ body_items rest [] 0
+  loop_items rest = Loop (items.block_total (test_items rest [] 0)) ∷ body_items rest [] 0
 
   pub enters : (k : ℕ) (rest : List CodeItem) (heads : List ℕ) (p : CodePlace) (f : Names) (scope : Scope) (r : Registers) (s : CallState) (m : Memory) (K : StatementFlow → CallState → CodeObservation) (brk con : ℕ) → IsApart scope body → Stands c heads p (loop_items rest) → Fit c f scope r s m → s.world.meter.turns ≤ k
       → Onward c scope f s m K heads rest brk con → EndsSo c (finish (loop_run k scope s) K) p r s.world m
@@ -155,8 +155,8 @@ module _ (c : Setting) (levels : LevelMeanings) (found : slice_get c.functions c
       let head : ℕ = suc p.block in
       let tests = test_code L c.structs c.locals test rest in
       let steps = after_code L c.structs c.locals step tests in
-      let body_at = at_loop c.code.blocks c.last c.end (items.count tests) at in
-      let behind : Somewhere c.code.blocks c.last c.end (head ∷ heads) (Start ∷ steps) = left_stmt c.code.blocks c.last c.end L c.structs c.locals body (items.count rest) (items.count steps) (head ∷ heads) (Start ∷ steps) (record { place = next_place (next_block p); at = body_at }) in
+      let body_at = at_loop c.code.blocks c.last c.end (items.block_total tests) at in
+      let behind : Somewhere c.code.blocks c.last c.end (head ∷ heads) (Start ∷ steps) = left_stmt c.code.blocks c.last c.end L c.structs c.locals body (items.block_total rest) (items.block_total steps) (head ∷ heads) (Start ∷ steps) (record { place = next_place (next_block p); at = body_at }) in
       let step_at = at_start c.code.blocks c.last c.end behind.at in
       let step_block : ℕ = suc behind.place.block in
       let test_at = left_step c step (head ∷ heads) tests (step_block, step_at) in
@@ -169,8 +169,8 @@ module _ (c : Setting) (levels : LevelMeanings) (found : slice_get c.functions c
         mark = at.has.1;
         body_at = body_at;
       } in
-      jump c.rooms c.functions c.number c.code found c.own c.waiting (c.last - items.count tests) p r s.world m at.has.0
-      (at_block c found r s.world m test_at.0 (c.last - items.count tests) (let size = test_at.1.size in omega (arith, size))
+      jump c.rooms c.functions c.number c.code found c.own c.waiting (c.last - items.block_total tests) p r s.world m at.has.0
+      (at_block c found r s.world m test_at.0 (c.last - items.block_total tests) (let size = test_at.1.size in omega (arith, size))
       (rounds rest heads head here k (start_of_block test_at.0) f scope r s m K brk con apart test_at.1 fit low way))
 
   loops : ForLoops c levels test step body

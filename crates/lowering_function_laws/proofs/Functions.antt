@@ -13,7 +13,7 @@ use Rattle.machine_model.specs.Code as machine
 use Rattle.c_typed_tree.specs.declared.units.TypedFn.{TypedFn}
 use Rattle.c_typed_tree.specs.Types.{PlainType, Void, Int}
 use Rattle.c_typed_tree.specs.View.{type_view, stmt_view}
-use Rattle.c_typed_tree.specs.Lawful.{is_main, parameters_of}
+use Rattle.c_typed_tree.specs.Lawful.{is_main, types_of_parameters}
 use Rattle.c_typed_tree.specs.Statements.{Stmt}
 use Rattle.c_semantics.specs.Runs.{CallState, Run, ◌>>=◌}
 use Rattle.c_semantics.specs.Objects.{Scope, no_scope}
@@ -27,7 +27,7 @@ use Rattle.vm_meaning.specs.Behave.{Registers, registers_of, set_register, first
 use Rattle.lowering_code.specs.declared.item.CodeItem.{CodeItem}
 use Rattle.lowering_code.specs.Registers.{temporary}
 use Rattle.lowering_code.specs.Statements.{stmt_code}
-use Rattle.lowering_code.specs.Functions.{end_of, items_of}
+use Rattle.lowering_code.specs.Functions.{end_code, items_of}
 use Rattle.lowering_states.specs.Places.{CodePlace, next_place, start_of_block, HasInsns}
 use Rattle.lowering_states.specs.Runs.{opens, CodeObservation, finish, Meets, Resumes, config}
 use Rattle.lowering_states.specs.States.{IsHeld, After, is_live, size_in}
@@ -38,7 +38,7 @@ use Rattle.lowering_expression_laws.specs.Parts.{Setting, EndsSo, Stands, Fit, A
 use Rattle.lowering_expression_laws.proofs.Forms.{insn_on, bound}
 use Rattle.lowering_statement_laws.specs.Parts.{IsApart, IsReturned, world_left, Onward, StmtMeets}
 use Rattle.lowering_call_laws.specs.Laws.{AreArguments}
-use Rattle.lowering_function_laws.specs.Laws.{code_for, within, IsCalled, FunctionsMeet, FunctionsWithoutTurnsMeet}
+use Rattle.lowering_function_laws.specs.Laws.{code_for, callee_setting, IsCalled, FunctionsMeet, FunctionsWithoutTurnsMeet}
 use Rattle.lowering_function_laws.proofs.Objects.{sizes_of, entered, left_memory, left_after}
 use Rattle.lowering_function_laws.proofs.Parameters.{Entered, Passed, parameters}
 
@@ -55,7 +55,7 @@ taken (suc n) (y ∷ xs) (suc i) x e = taken n xs i x e
 
 module _ (c : Setting) (k : ℕ) (fn : TypedFn) (prev : Level) (called : IsCalled c k fn prev) (below : Functions) (again : Scope → Stmt → Run StatementFlow) (level : ℕ)
     (body_is : (scope : Scope) → prev k scope (stmt_view fn.body) ≡ exec c.structs fn.locals below again scope (stmt_view fn.body))
-    (meets : (own : ℕ) (waiting : List (Frame Registers)) → StmtMeets (within c k fn own waiting below level) again (stmt_view fn.body)) where
+    (meets : (own : ℕ) (waiting : List (Frame Registers)) → StmtMeets (callee_setting c k fn own waiting below level) again (stmt_view fn.body)) where
   abbrev ty : PlainType
   ty = type_view fn.result
 
@@ -68,12 +68,12 @@ module _ (c : Setting) (k : ℕ) (fn : TypedFn) (prev : Level) (called : IsCalle
   abbrev body_code : List CodeItem
   body_code = stmt_code L c.structs fn.locals 0 0 (stmt_view fn.body) []
 
-  module _ (vs ws : List Value) (f : Names) (s : CallState) (n0 : Memory) (waiting : List (Frame Registers)) (K : Value → CallState → CodeObservation) (args : AreArguments f (parameters_of fn) vs ws) (statics : (j : ℕ) → j < c.statics → f j ≡ Some j) (mem : IsMemoryOf f s.world.outer.memory n0)
+  module _ (vs ws : List Value) (f : Names) (s : CallState) (n0 : Memory) (waiting : List (Frame Registers)) (K : Value → CallState → CodeObservation) (args : AreArguments f (types_of_parameters fn) vs ws) (statics : (j : ℕ) → j < c.statics → f j ≡ Some j) (mem : IsMemoryOf f s.world.outer.memory n0)
       (small : (o : ℕ) → is_live s.world.outer.memory o ≡ true → size_in s.world.outer.memory o ≤ MOST_DATA) (bytes : All (λ b. b < 256) s.world.outer.input) (low : s.world.meter.turns ≤ level)
       (next : (v : Value) (us : List Value) (g : Names) (t : CallState) (n1 : Memory) → IsHeld ty v → IsValueOf g v (first_or_unset us) → After f s.world.outer.memory n0 s.world.meter.turns g t.world.outer.memory n1 t.world.meter.turns → IsMemoryOf g t.world.outer.memory n1 → All (λ b. b < 256) t.world.outer.input
       → Resumes c.rooms c.functions (K v t) us (with_memory (with_meter t.world (leave_call c.rooms k t.world.meter)) n1) waiting) where
     abbrev S : Setting
-    S = within c k fn (length n0) waiting below level
+    S = callee_setting c k fn (length n0) waiting below level
 
     found : slice_get S.functions S.number ≡ Some S.code
     found = called.found
@@ -112,7 +112,7 @@ module _ (c : Setting) (k : ℕ) (fn : TypedFn) (prev : Level) (called : IsCalle
           (left_memory c.statics c.structs fn.locals (length n0) h r (left u).registers (left u).world.outer.memory n2 (left u).world.outer.input b) b.bytes)
 
       -- the end of the code, to which a body comes that does not return
-      falls : (b : Bool) → is_main fn ≡ b → (q : CodePlace) (h : Names) (u : CallState) (r : Registers) (n2 : Memory) → HasInsns S.code.blocks S.last S.end q (end_of L b) → Aft S g t n1 h u n2 → Fit S h inner r u n2 → EndsSo S (K (no_value b) (left u)) q r u.world n2
+      falls : (b : Bool) → is_main fn ≡ b → (q : CodePlace) (h : Names) (u : CallState) (r : Registers) (n2 : Memory) → HasInsns S.code.blocks S.last S.end q (end_code L b) → Aft S g t n1 h u n2 → Fit S h inner r u n2 → EndsSo S (K (no_value b) (left u)) q r u.world n2
       unfolding opens
       falls false main q h u r n2 has aft fit1 =
           returning S.rooms S.functions S.number S.code found S.own S.waiting (n.Return None) q r u.world n2 [] has.0 refl refl (leaves Unset [] h u r n2 aft fit1 (unset_held ty) tt)
@@ -163,7 +163,7 @@ module _ (c : Setting) (k : ℕ) (fn : TypedFn) (prev : Level) (called : IsCalle
     call_meets =
         bound S found (body_of c.structs prev k fn vs s0) (value_of_call (is_main fn)) K (start_of_block 0) (registers_of ws) s.world m0
         (parameters S found fn.params (λ scope. prev k scope (stmt_view fn.body)) [] body_code called.may.small (take fn.params fn.locals) 0 vs ws f no_scope (registers_of ws) s0 m0 (start_of_block 0) K1 passed fit0
-        (blocks_have_items (end_of L (is_main fn)) (items_of c.structs fn)) body_meets)
+        (blocks_have_items (end_code L (is_main fn)) (items_of c.structs fn)) body_meets)
 
 pub functions_meet : FunctionsMeet
 functions_meet c k fn prev below again level called up body_is meets = record {

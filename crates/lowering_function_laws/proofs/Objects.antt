@@ -18,7 +18,7 @@ use Rattle.c_typed_tree.specs.Layout.{size_of}
 use Rattle.c_semantics.specs.Runs as c
 use Rattle.c_semantics.specs.Objects.{no_scope}
 use Rattle.vm_meaning.specs.Behave.{Registers}
-use Rattle.lowering_code.specs.Registers.{object_of}
+use Rattle.lowering_code.specs.Registers.{object_index}
 use Rattle.lowering_code.specs.Functions.{objects_of}
 use Rattle.lowering_states.specs.States.{Fits, After, is_live, size_in, type_at}
 use Rattle.lowering_states.proofs.States.{unset_held}
@@ -28,13 +28,13 @@ use Rattle.lowering_states.proofs.States.{unset_held}
 abbrev pub sizes_of : List StructDef → List Local → List ℕ
 sizes_of ds ls = map (λ o. o.size) (objects_of ds ls)
 
-one_more : (l : Local) (ls : List Local) (k : ℕ) → object_of (l ∷ ls) (suc k) ≡ cond l.in_memory 1 0 + object_of ls k
+one_more : (l : Local) (ls : List Local) (k : ℕ) → object_index (l ∷ ls) (suc k) ≡ cond l.in_memory 1 0 + object_index ls k
 one_more l ls k = sum_by-cons (λ (x : Local). cond x.in_memory 1 0) l (take k ls)
 
-in_one : (l : Local) (ls : List Local) (k : ℕ) → l.in_memory ≡ true → object_of (l ∷ ls) (suc k) ≡ suc (object_of ls k)
+in_one : (l : Local) (ls : List Local) (k : ℕ) → l.in_memory ≡ true → object_index (l ∷ ls) (suc k) ≡ suc (object_index ls k)
 in_one l ls k e = let h = one_more l ls k in let one : cond l.in_memory (suc zero) zero ≡ suc zero = ap (λ b. cond b (suc zero) zero) e in omega (arith, h, one)
 
-in_none : (l : Local) (ls : List Local) (k : ℕ) → l.in_memory ≡ false → object_of (l ∷ ls) (suc k) ≡ object_of ls k
+in_none : (l : Local) (ls : List Local) (k : ℕ) → l.in_memory ≡ false → object_index (l ∷ ls) (suc k) ≡ object_index ls k
 in_none l ls k e = let h = one_more l ls k in let none : cond l.in_memory (suc zero) zero ≡ zero = ap (λ b. cond b (suc zero) zero) e in omega (arith, h, none)
 
 sizes_more : (ds : List StructDef) (l : Local) (ls : List Local) (b : Bool) → l.in_memory ≡ b → sizes_of ds (l ∷ ls) ≡ cond b (size_of ds (type_view l.ty) ∷ sizes_of ds ls) (sizes_of ds ls)
@@ -42,16 +42,16 @@ sizes_more ds l ls true e = rw e refl
 sizes_more ds l ls false e = rw e refl
 
 -- a local in memory has an object of its size
-pub object_has_size : (ds : List StructDef) (ls : List Local) (k : ℕ) (x : Local) → slice_get ls k ≡ Some x → x.in_memory ≡ true → slice_get (sizes_of ds ls) (object_of ls k) ≡ Some (size_of ds (type_view x.ty))
+pub object_has_size : (ds : List StructDef) (ls : List Local) (k : ℕ) (x : Local) → slice_get ls k ≡ Some x → x.in_memory ≡ true → slice_get (sizes_of ds ls) (object_index ls k) ≡ Some (size_of ds (type_view x.ty))
 object_has_size ds [] k x e m = absurd (cc)
 object_has_size ds (l ∷ ls) zero x e m =
     let same : l ≡ x = cc in
     ap (λ z. slice_get z 0) (sizes_more ds l ls true (ap (λ (y : Local). y.in_memory) same ∙ m)) ∙ ap (λ (y : Local). Some (size_of ds (type_view y.ty))) same
 object_has_size ds (l ∷ ls) (suc k) x e m = by_place l.in_memory refl (object_has_size ds ls k x e m)
   where
-    by_place : (b : Bool) → l.in_memory ≡ b → slice_get (sizes_of ds ls) (object_of ls k) ≡ Some (size_of ds (type_view x.ty)) → slice_get (sizes_of ds (l ∷ ls)) (object_of (l ∷ ls) (suc k)) ≡ Some (size_of ds (type_view x.ty))
-    by_place true p h = ap (λ z. slice_get z (object_of (l ∷ ls) (suc k))) (sizes_more ds l ls true p) ∙ ap (slice_get (size_of ds (type_view l.ty) ∷ sizes_of ds ls)) (in_one l ls k p) ∙ h
-    by_place false p h = ap (λ z. slice_get z (object_of (l ∷ ls) (suc k))) (sizes_more ds l ls false p) ∙ ap (slice_get (sizes_of ds ls)) (in_none l ls k p) ∙ h
+    by_place : (b : Bool) → l.in_memory ≡ b → slice_get (sizes_of ds ls) (object_index ls k) ≡ Some (size_of ds (type_view x.ty)) → slice_get (sizes_of ds (l ∷ ls)) (object_index (l ∷ ls) (suc k)) ≡ Some (size_of ds (type_view x.ty))
+    by_place true p h = ap (λ z. slice_get z (object_index (l ∷ ls) (suc k))) (sizes_more ds l ls true p) ∙ ap (slice_get (size_of ds (type_view l.ty) ∷ sizes_of ds ls)) (in_one l ls k p) ∙ h
+    by_place false p h = ap (λ z. slice_get z (object_index (l ∷ ls) (suc k))) (sizes_more ds l ls false p) ∙ ap (slice_get (sizes_of ds ls)) (in_none l ls k p) ∙ h
 
 -- each object is that of a local
 pub record IsObjectOf (ls : List Local) (number : ℕ) : Type 0 where
@@ -59,13 +59,13 @@ pub record IsObjectOf (ls : List Local) (number : ℕ) : Type 0 where
   pub is : Local
   pub found : slice_get ls local ≡ Some is
   pub inside : is.in_memory ≡ true
-  pub here : object_of ls local ≡ number
+  pub here : object_index ls local ≡ number
 
 object_of_local : (ds : List StructDef) (ls : List Local) (number : ℕ) → number < length (sizes_of ds ls) → IsObjectOf ls number
 object_of_local ds [] number lt = absurd (omega (arith, lt))
 object_of_local ds (l ∷ ls) number lt = by_place (λ n h. object_of_local ds ls n h) l.in_memory refl number lt
   where
-    further : (j : ℕ) → IsObjectOf ls j → (k : ℕ) → ((i : ℕ) → object_of (l ∷ ls) (suc i) ≡ object_of ls i + k) → (n : ℕ) → n ≡ j + k → IsObjectOf (l ∷ ls) n
+    further : (j : ℕ) → IsObjectOf ls j → (k : ℕ) → ((i : ℕ) → object_index (l ∷ ls) (suc i) ≡ object_index ls i + k) → (n : ℕ) → n ≡ j + k → IsObjectOf (l ∷ ls) n
     further j o k shift n sum = record { local = suc o.local; is = o.is; found = o.found; inside = o.inside; here = let h = shift o.local in let at = o.here in omega (arith, h, at, sum) }
 
     by_place : ((j : ℕ) → j < length (sizes_of ds ls) → IsObjectOf ls j) → (b : Bool) → l.in_memory ≡ b → (n : ℕ) → n < length (sizes_of ds (l ∷ ls)) → IsObjectOf (l ∷ ls) n
@@ -93,17 +93,17 @@ local_same m n q size e l = record {
 }
 
 -- the objects of a call stand once it is entered
-pub objects_stand : (ds : List StructDef) (ls : List Local) (n : Memory) (k : ℕ) (x : Local) → slice_get ls k ≡ Some x → x.in_memory ≡ true → IsLocal (begin_objects n (sizes_of ds ls)) (length n + object_of ls k) (size_of ds (type_view x.ty))
+pub objects_stand : (ds : List StructDef) (ls : List Local) (n : Memory) (k : ℕ) (x : Local) → slice_get ls k ≡ Some x → x.in_memory ≡ true → IsLocal (begin_objects n (sizes_of ds ls)) (length n + object_index ls k) (size_of ds (type_view x.ty))
 objects_stand ds ls n k x e m =
     let sizes = sizes_of ds ls in
     let there = object_has_size ds ls k x e m in
-    let lt : object_of ls k < length sizes = slice_get_within sizes (object_of ls k) (size_of ds (type_view x.ty)) there in
-    let size : slice_index sizes (object_of ls k) ≡ size_of ds (type_view x.ty) = get_or_from_slice_get sizes (object_of ls k) (size_of ds (type_view x.ty)) 0 there in
-    let here = (begins_change n sizes).here (object_of ls k) lt in
+    let lt : object_index ls k < length sizes = slice_get_within sizes (object_index ls k) (size_of ds (type_view x.ty)) there in
+    let size : slice_index sizes (object_index ls k) ≡ size_of ds (type_view x.ty) = get_or_from_slice_get sizes (object_index ls k) (size_of ds (type_view x.ty)) 0 there in
+    let here = (begins_change n sizes).here (object_index ls k) lt in
     record {
       lives = ap (λ (y : Object). y.live) here;
       writable = ap (λ (y : Object). y.writable) here;
-      size_is = ap (λ (y : Object). length y.cells) here ∙ length-replicate (slice_index sizes (object_of ls k)) _ ∙ size;
+      size_is = ap (λ (y : Object). length y.cells) here ∙ length-replicate (slice_index sizes (object_index ls k)) _ ∙ size;
     }
 
 -- states correspond at the entry of a call, where no local has a value yet
@@ -119,8 +119,8 @@ entered G ds ls f r m n input statics mem small bytes = record {
   stands = λ k x e inside. objects_stand ds ls n k x e inside;
   owned = λ k o x e inside live named.
       let had = mem.each o live in
-      let names : Some had.name ≡ Some (length n + object_of ls k) = sym had.named ∙ named in
-      let name : had.name ≡ length n + object_of ls k = cc in
+      let names : Some had.name ≡ Some (length n + object_index ls k) = sym had.named ∙ named in
+      let name : had.name ≡ length n + object_index ls k = cc in
       let lt = live_within n had.name had.lives in
       absurd (omega (arith, name, lt));
   bytes = bytes;

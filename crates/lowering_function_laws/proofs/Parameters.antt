@@ -18,15 +18,15 @@ use Rattle.c_typed_tree.specs.View.{type_view}
 use Rattle.c_typed_tree.specs.Layout.{size_of}
 use Rattle.c_typed_tree.specs.Lawful.{type_of_local}
 use Rattle.c_semantics.specs.Reasons.{UsesDeadObject}
-use Rattle.c_semantics.specs.Runs.{CallState, Run, and_then, in_world, with_registers, with_register, pure, or_undefined, write_register, ◌>>◌}
+use Rattle.c_semantics.specs.Runs.{CallState, Run, and_then, in_world, with_registers, with_local_value, pure, or_undefined, write_register, ◌>>◌}
 use Rattle.c_semantics.specs.Objects as obj
-use Rattle.c_semantics.specs.Objects.{Scope, with_object, with_local_object, local_place, start_of, write, write_at}
+use Rattle.c_semantics.specs.Objects.{Scope, bind_object, with_local_object, local_place, start_pointer, write, write_at}
 use Rattle.c_semantics.specs.Executes.{StatementFlow, with_parameters}
 use Rattle.suifvm_ir.specs.declared.types.VmType.TheVariants.{P64}
 use Rattle.suifvm_ir.specs.declared.insn.VmObject.TheVariants as vp
 use Rattle.vm_meaning.specs.Behave.{Registers, set_register}
 use Rattle.lowering_code.specs.declared.item.CodeItem.{CodeItem}
-use Rattle.lowering_code.specs.Registers.{address_register, object_of}
+use Rattle.lowering_code.specs.Registers.{address_register, object_index}
 use Rattle.lowering_code.specs.Expressions.{store_code, address_code}
 use Rattle.lowering_code.specs.Functions.{parameters_code}
 use Rattle.lowering_states.specs.Places.{CodePlace, next_place}
@@ -67,11 +67,11 @@ module _ (c : Setting) (found : slice_get c.functions c.number ≡ Some c.code) 
 
   -- a parameter has its argument in its register
   fits_argument : {f : Names} {scope : Scope} {r : Registers} {m : Memory} (s : CallState) (k : ℕ) (v : Value) → IsValueOf f v (r k) → IsHeld (type_at (slice_get c.locals k)) v → Fit c f scope r s m
-      → Fit c f scope r (with_registers s (with_register s.registers k v)) m
+      → Fit c f scope r (with_registers s (with_local_value s.registers k v)) m
   fits_argument {f = f} {r = r} s k v rel held a =
       let b = fits_local k v (r k) rel held a in
       record {
-        locals = λ j lt. subst (λ z. IsValueOf f (with_register s.registers k v j) z) (set_back r k j) (b.locals j lt);
+        locals = λ j lt. subst (λ z. IsValueOf f (with_local_value s.registers k v j) z) (set_back r k j) (b.locals j lt);
         held = b.held;
         statics = b.statics;
         memory = b.memory;
@@ -135,8 +135,8 @@ module _ (c : Setting) (found : slice_get c.functions c.number ≡ Some c.code) 
       argument : IsValueOf f v (r k)
       argument = let e : k ≡ k + 0 = omega arith in subst (λ z. IsValueOf f v z) (sym (ap r e ∙ all.registers 0 p refl)) all.given.2
 
-      code_is : (b : Bool) → p.in_memory ≡ b → parameters_code L c.structs c.locals k (p ∷ ps) rest ≡ if◌then◌else◌ {A = List CodeItem} b (address_code L 0 (vp.Local (object_of c.locals k)) 0 tail) code
-      code_is b e = ap (λ z. if◌then◌else◌ {A = List CodeItem} z (address_code L 0 (vp.Local (object_of c.locals k)) 0 tail) code) e
+      code_is : (b : Bool) → p.in_memory ≡ b → parameters_code L c.structs c.locals k (p ∷ ps) rest ≡ if◌then◌else◌ {A = List CodeItem} b (address_code L 0 (vp.Local (object_index c.locals k)) 0 tail) code
+      code_is b e = ap (λ z. if◌then◌else◌ {A = List CodeItem} z (address_code L 0 (vp.Local (object_index c.locals k)) 0 tail) code) e
 
       run_is : (b : Bool) → p.in_memory ≡ b → with_parameters c.structs k (p ∷ ps) (v ∷ vs) run scope s ≡ if◌then◌else◌ {A = Run StatementFlow} b (with_local_object size k (λ inner. put inner >> body inner) scope) (write_register k v >> body scope) s
       unfolding opens
@@ -145,7 +145,7 @@ module _ (c : Setting) (found : slice_get c.functions c.number ≡ Some c.code) 
       in_register : p.in_memory ≡ false → EndsSo c (finish (with_parameters c.structs k (p ∷ ps) (v ∷ vs) run scope s) K) q r s.world m
       unfolding opens
       in_register e =
-          let s1 : CallState = with_registers s (with_register s.registers k v) in
+          let s1 : CallState = with_registers s (with_local_value s.registers k v) in
           let all1 : Passed past (suc k) ps vs ws f scope r = record {
             bounded = let h = all.bounded in omega (arith, h);
             there = λ i x h. let n : suc k + i ≡ k + suc i = omega arith in ap (slice_get c.locals) n ∙ all.there (suc i) x h;
@@ -162,8 +162,8 @@ module _ (c : Setting) (found : slice_get c.functions c.number ≡ Some c.code) 
       unfolding opens
       in_object e =
           let o : ℕ = length s.world.outer.memory in
-          let name : ℕ = c.own + object_of c.locals k in
-          let scope1 : Scope = with_object scope k o in
+          let name : ℕ = c.own + object_index c.locals k in
+          let scope1 : Scope = bind_object scope k o in
           let f1 : Names = with_name f o name in
           let s1 : CallState = in_world s (with_memory s.world (begin_object s.world.outer.memory size true)) in
           let ended : CallState → CallState = (λ t. in_world t (with_memory t.world (end_object t.world.outer.memory o))) in
@@ -187,18 +187,18 @@ module _ (c : Setting) (found : slice_get c.functions c.number ≡ Some c.code) 
             registers = λ i x h. let n : suc k + i ≡ k + suc i = omega arith in kept (suc k + i) (slice_get_within c.locals (suc k + i) x (ap (slice_get c.locals) n ∙ all.there (suc i) x h)) ∙ ap r n ∙ all.registers (suc i) x h;
           } in
           let K1 : StatementFlow → CallState → CodeObservation = (λ z t. K z (ended t)) in
-          let base : IsValueOf f1 (start_of o) (r2 (address_register L 0)) = subst (λ z. IsValueOf f1 (start_of o) z) (sym (set_same r (address_register L 0) a)) (address_of c found f1 o name 0 (fit1.scopes k o here)) in
+          let base : IsValueOf f1 (start_pointer o) (r2 (address_register L 0)) = subst (λ z. IsValueOf f1 (start_pointer o) z) (sym (set_same r (address_register L 0) a)) (address_of c found f1 o name 0 (fit1.scopes k o here)) in
           let held : IsValueOf f1 v (r2 k) = subst (λ z. IsValueOf f1 v z) (sym (kept k (slice_get_within c.locals k p first_here))) (values_stay f f1 v (r k) more argument) in
-          let place_is : local_place scope1 k (Some p) s1 ≡ Gives (obj.At (start_of o)) s1 =
-          ap (λ b. if◌then◌else◌ {A = Run obj.ValuePlace} b (λ t. and_then (or_undefined UsesDeadObject (scope1 k) t) (λ o. pure (obj.At (start_of o)))) (pure (obj.Register k)) s1) e
-          ∙ ap (λ z. and_then (or_undefined UsesDeadObject z s1) (λ o. pure (obj.At (start_of o)))) here in
-          let at1 : Stands c heads q (address_code L 0 (vp.Local (object_of c.locals k)) 0 tail) = subst (λ z. Stands c heads q z) (code_is true e) at in
+          let place_is : local_place scope1 k (Some p) s1 ≡ Gives (obj.At (start_pointer o)) s1 =
+          ap (λ b. if◌then◌else◌ {A = Run obj.ValuePlace} b (λ t. and_then (or_undefined UsesDeadObject (scope1 k) t) (λ o. pure (obj.At (start_pointer o)))) (pure (obj.Register k)) s1) e
+          ∙ ap (λ z. and_then (or_undefined UsesDeadObject z s1) (λ o. pure (obj.At (start_pointer o)))) here in
+          let at1 : Stands c heads q (address_code L 0 (vp.Local (object_index c.locals k)) 0 tail) = subst (λ z. Stands c heads q z) (code_is true e) at in
           meets_same c.rooms c.functions (ap (λ z. finish z K) (run_is true e))
           (bound c found (and_then (put scope1 s1) (λ _. body scope1)) (λ z t. Gives z (ended t)) K q r s.world m
           (bound c found (put scope1 s1) (λ _. body scope1) K1 q r s.world m
           (meets_same c.rooms c.functions (ap (λ z. finish (and_then z (λ a. write c.structs ty a v)) (λ _ t. finish (body scope1 t) K1)) place_is)
-          (address_meets c found 0 (vp.Local (object_of c.locals k)) 0 tail heads q r s.world m at1
-          ((writes_meet c found).scalars ty (all.scalars 0 p refl) (address_register L 0) 0 k code heads (next_place q) (start_of o) (start_of o) v f1 scope1 r2 s1 m (λ _ t. finish (body scope1 t) K1) (at_plain c.code.blocks c.last c.end _ at1) (fits_temporary 0 P64 a fit1) all.given.1 held base (inl (refl, refl))
+          (address_meets c found 0 (vp.Local (object_index c.locals k)) 0 tail heads q r s.world m at1
+          ((writes_meet c found).scalars ty (all.scalars 0 p refl) (address_register L 0) 0 k code heads (next_place q) (start_pointer o) (start_pointer o) v f1 scope1 r2 s1 m (λ _ t. finish (body scope1 t) K1) (at_plain c.code.blocks c.last c.end _ at1) (fits_temporary 0 P64 a fit1) all.given.1 held base (inl (refl, refl))
           (λ t n at2 aft2 fit2.
           others f1 scope1 r2 t n (next_place (next_place q)) K1 all1 fit2 at2
           (λ q2 inner g r1 u n1 left at3 fit3 b.

@@ -11,13 +11,13 @@ use Rattle.c_typed_tree.specs.Types.{Int}
 use Rattle.c_typed_tree.specs.View.{type_view, stmt_view}
 use Rattle.c_typed_tree.specs.Layout.{size_of}
 use Rattle.c_typed_tree.specs.Statements.{Stmt}
-use Rattle.c_typed_tree.specs.Lawful.{is_main, parameters_of}
+use Rattle.c_typed_tree.specs.Lawful.{is_main, types_of_parameters}
 use Rattle.c_semantics.specs.Runs.{Run, turn, ◌>>=◌, ◌>>◌}
 use Rattle.c_semantics.specs.Objects.{Scope}
 use Rattle.c_semantics.specs.Evaluates.{Functions}
 use Rattle.c_semantics.specs.Executes.{StatementFlow, Level, exec, within_call, body_of, value_of_call}
-use Rattle.lowering_code.specs.Items.{count}
-use Rattle.lowering_code.specs.Functions.{objects_of, end_of, items_of, function_blocks}
+use Rattle.lowering_code.specs.Items.{block_total}
+use Rattle.lowering_code.specs.Functions.{objects_of, end_code, items_of, function_blocks}
 use Rattle.lowering_expression_laws.specs.Parts.{Setting}
 use Rattle.lowering_expression_laws.specs.Laws.{IsScalarType}
 use Rattle.lowering_statement_laws.specs.Parts.{inner_declarations, StmtMeets}
@@ -28,16 +28,17 @@ abbrev pub code_for : List StructDef → TypedFn → FunctionCode
 code_for ds f = record { sizes = map (λ o. o.size) (objects_of ds f.locals); blocks = function_blocks ds f }
 
 -- a call of the function with a number, beside what the C meaning has one level down
-abbrev pub within : Setting → (number : ℕ) → TypedFn → (own : ℕ) → (waiting : List (Frame Registers)) → Functions
+abbrev pub callee_setting : Setting → (number : ℕ) → TypedFn → (own : ℕ) → (waiting : List (Frame Registers)) →
+    Functions
     → (level : ℕ) → Setting
-within c k f own waiting below level = record {
+callee_setting c k f own waiting below level = record {
   rooms = c.rooms;
   functions = c.functions;
   number = k;
   own = own;
   code = code_for c.structs f;
-  last = count (items_of c.structs f);
-  end = end_of (length f.locals) (is_main f);
+  last = block_total (items_of c.structs f);
+  end = end_code (length f.locals) (is_main f);
   waiting = waiting;
   statics = c.statics;
   structs = c.structs;
@@ -65,7 +66,7 @@ pub record IsCalled (c : Setting) (k : ℕ) (f : TypedFn) (prev : Level) : Type 
 
 -- its code does what it means, and its meaning is that of its body
 pub record IsMet (c : Setting) (k : ℕ) (f : TypedFn) (prev : Level) : Type 0 where
-  pub meets : FunctionMeets c k (parameters_of f) (type_view f.result)
+  pub meets : FunctionMeets c k (types_of_parameters f) (type_view f.result)
   pub body : (vs : List Value) → meets.body vs ≡ (body_of c.structs prev k f vs >>= value_of_call (is_main f))
 
 -- below is what functions do one level down from the body, and again what statements do
@@ -76,7 +77,7 @@ FunctionsMeet =
     IsCalled c k f prev → c.level ≡ suc level →
     ((scope : Scope) → prev k scope (stmt_view f.body) ≡ exec c.structs f.locals below again scope (stmt_view f.body)) →
     ((own : ℕ) (waiting : List (Frame Registers)) →
-    StmtMeets (within c k f own waiting below level) again (stmt_view f.body)) → IsMet c k f prev
+    StmtMeets (callee_setting c k f own waiting below level) again (stmt_view f.body)) → IsMet c k f prev
 
 abbrev pub FunctionsWithoutTurnsMeet : Type 0
 FunctionsWithoutTurnsMeet =

@@ -19,8 +19,8 @@ use Rattle.suifvm_ir.specs.declared.insn.VmObject.TheVariants as p
 use Rattle.suifvm_ir.specs.declared.insn.VmInsn.TheVariants as n
 use Rattle.lowering_code.specs.declared.item.CodeItem.{CodeItem}
 use Rattle.lowering_code.specs.declared.item.CodeItem.TheVariants.{Start, Jump, Loop, Enter, Again}
-use Rattle.lowering_code.specs.Items.{count}
-use Rattle.lowering_code.specs.Registers.{register_type, temporary, value_register, address_register, object_of}
+use Rattle.lowering_code.specs.Items.{block_total}
+use Rattle.lowering_code.specs.Registers.{register_type, temporary, value_register, address_register, object_index}
 use Rattle.lowering_code.specs.Expressions as x
 use Rattle.lowering_code.specs.Statements as code
 use Rattle.lowering_code.specs.Statements.{Target}
@@ -50,9 +50,9 @@ module _ (most locals : ℕ) (ds : List StructDef) (ls : List Local) (same : len
   -- ---- values come into locals
 
   put_scalar : (ty : PlainType) (k : ℕ) (rest : List CodeItem) → Has most locals 0 5
-      → E 2 rest (x.address_code locals 1 (p.Local (object_of ls k)) 0 (x.store_code ty (address_register locals 1) 0 (value_register locals 0 ty) rest))
+      → E 2 rest (x.address_code locals 1 (p.Local (object_index ls k)) 0 (x.store_code ty (address_register locals 1) 0 (value_register locals 0 ty) rest))
   put_scalar ty k rest h =
-      m.joins most 1 1 rest _ _ (m.address_emits most locals 1 (p.Local (object_of ls k)) 0 _ (omega (arith, h)))
+      m.joins most 1 1 rest _ _ (m.address_emits most locals 1 (p.Local (object_index ls k)) 0 _ (omega (arith, h)))
       (m.store_emits most ty _ 0 _ rest (m.address_there most locals 1 (omega (arith, h))) (m.value_there most locals 0 ty (omega (arith, h))))
 
   put_emits : (ty : PlainType) (k : ℕ) (rest : List CodeItem) → Has most locals 0 5 → E 2 rest (code.put_code locals ds ls ty k rest)
@@ -61,7 +61,7 @@ module _ (most locals : ℕ) (ds : List StructDef) (ls : List Local) (same : len
   put_emits (Pointer target) k rest h = put_scalar (Pointer target) k rest h
   put_emits (Array element count) k rest h = put_scalar (Array element count) k rest h
   put_emits (Struct number) k rest h =
-      m.joins most 1 1 rest _ _ (m.address_emits most locals 1 (p.Local (object_of ls k)) 0 _ (omega (arith, h)))
+      m.joins most 1 1 rest _ _ (m.address_emits most locals 1 (p.Local (object_index ls k)) 0 _ (omega (arith, h)))
       (m.copy_emits most ds _ _ (Struct number) rest (m.address_there most locals 1 (omega (arith, h))) (m.address_there most locals 0 (omega (arith, h))))
 
   put_local_emits : (k : ℕ) (l : Option Local) → slice_get ls k ≡ l → (rest : List CodeItem) → Has most locals 0 5 → E 2 rest (code.put_local_code locals ds ls k l rest)
@@ -94,7 +94,7 @@ module _ (most locals : ℕ) (ds : List StructDef) (ls : List Local) (same : len
 
   record Closes (k : ℕ) (rest is : List CodeItem) : Type 0 where
     good : (loops : ℕ) → IsGood most loops rest → IsGood most (suc loops) is
-    grows : count rest ≤ count is
+    grows : block_total rest ≤ block_total is
     size : length is ≤ k + length rest
 
   again_closes : (y : Expr) (rest : List CodeItem) → Has most locals 0 (max 5 (levels y)) → Closes (16 * expr_nodes y + 1) rest (code.again_code locals ds ls y rest)
@@ -123,7 +123,7 @@ module _ (most locals : ℕ) (ds : List StructDef) (ls : List Local) (same : len
 
   -- ---- loops, by what their parts emit
 
-  while_emits : (j k : ℕ) (rest test body : List CodeItem) → Closes j rest test → E k (Start ∷ test) body → E (j + k + 2) rest (Loop (count test) ∷ body)
+  while_emits : (j k : ℕ) (rest test body : List CodeItem) → Closes j rest test → E k (Start ∷ test) body → E (j + k + 2) rest (Loop (block_total test) ∷ body)
   while_emits j k rest test body c e = record {
     good = λ loops g. (omega (arith, e.grows), e.good (suc loops) (c.good loops g));
     grows = omega (arith, e.grows, c.grows);
@@ -137,7 +137,7 @@ module _ (most locals : ℕ) (ds : List StructDef) (ls : List Local) (same : len
     size = omega (arith, e.size, c.size);
   }
 
-  for_emits : (i j k : ℕ) (rest test after body : List CodeItem) → Closes i rest test → E j test after → E k (Start ∷ after) body → E (i + j + k + 2) rest (Loop (count test) ∷ body)
+  for_emits : (i j k : ℕ) (rest test after body : List CodeItem) → Closes i rest test → E j test after → E k (Start ∷ after) body → E (i + j + k + 2) rest (Loop (block_total test) ∷ body)
   for_emits i j k rest test after body c a e = record {
     good = λ loops g. (omega (arith, e.grows, a.grows), e.good (suc loops) (a.good (suc loops) (c.good loops g)));
     grows = omega (arith, e.grows, a.grows, c.grows);
@@ -162,7 +162,7 @@ module _ (most locals : ℕ) (ds : List StructDef) (ls : List Local) (same : len
   default_below top otherwise [] le h = le
   default_below top otherwise (t ∷ ts) le h = either_below top t.label t.name (code.default_name otherwise ts) h.0 (default_below top otherwise ts le h.1)
 
-  label_emits : (ty : PlainType) (label : TLabel) (name : ℕ) (rest : List CodeItem) → name ≤ count rest → Has most locals 0 5 → E 3 rest (code.label_code locals ds ls ty label name rest)
+  label_emits : (ty : PlainType) (label : TLabel) (name : ℕ) (rest : List CodeItem) → name ≤ block_total rest → Has most locals 0 5 → E 3 rest (code.label_code locals ds ls ty label name rest)
   label_emits ty Default name rest le h = same_code 3 rest
   label_emits ty (Case word) name rest le h =
       m.joins most 1 2 rest _ _ (m.constant_emits most locals 1 ty word _ (omega (arith, h)))
@@ -171,7 +171,7 @@ module _ (most locals : ℕ) (ds : List StructDef) (ls : List Local) (same : len
       (omega (arith, m.there most locals 1 S32 (omega (arith, h)), m.value_there most locals 0 ty (omega (arith, h)), m.value_there most locals 1 ty (omega (arith, h)))))
       (m.branch_emits most locals IfTrue 1 (Int 4 true) name rest (omega (arith, h)) le))
 
-  labels_emits : (ty : PlainType) (ts : List Target) (rest : List CodeItem) → NamesBelow (count rest) ts → Has most locals 0 5 → E (3 * length ts) rest (code.labels_code locals ds ls ty ts rest)
+  labels_emits : (ty : PlainType) (ts : List Target) (rest : List CodeItem) → NamesBelow (block_total rest) ts → Has most locals 0 5 → E (3 * length ts) rest (code.labels_code locals ds ls ty ts rest)
   labels_emits ty [] rest below h = m.none most rest
   labels_emits ty (t ∷ ts) rest below h =
       let e : E (3 * length ts) rest (code.labels_code locals ds ls ty ts rest) = labels_emits ty ts rest below.1 h in
@@ -182,13 +182,13 @@ module _ (most locals : ℕ) (ds : List StructDef) (ls : List Local) (same : len
   bodies_most no_sections = 0
   bodies_most (more_sections label ss sections) = 1 + (16 * stmts_parts ss + bodies_most sections)
 
-  targets_length : (brk con : ℕ) (sections : Sections) (rest : List CodeItem) → 3 * length (code.targets_of locals ds ls brk con sections rest) + bodies_most sections ≤ 16 * sections_parts sections
+  targets_length : (brk con : ℕ) (sections : Sections) (rest : List CodeItem) → 3 * length (code.switch_targets locals ds ls brk con sections rest) + bodies_most sections ≤ 16 * sections_parts sections
   targets_length brk con no_sections rest = omega arith
   targets_length brk con (more_sections label ss sections) rest = omega (arith, targets_length brk con sections rest)
 
   -- ---- statements
 
-  if_emits : (i j k : ℕ) (rest : List CodeItem) (condition : Expr) (over body : List CodeItem) (name : ℕ) → Has most locals 0 (max 5 (levels condition)) → E j rest over → E k over body → name ≤ count over
+  if_emits : (i j k : ℕ) (rest : List CodeItem) (condition : Expr) (over body : List CodeItem) (name : ℕ) → Has most locals 0 (max 5 (levels condition)) → E j rest over → E k over body → name ≤ block_total over
       → E (16 * expr_nodes condition + (1 + (k + j))) rest (code.value_code locals ds ls condition (x.branch_code locals IfFalse 0 (type_of condition) name body))
   if_emits i j k rest condition over body name h a e le =
       m.joins most (16 * expr_nodes condition) (1 + (k + j)) rest _ _ (value_emits condition _ (omega (arith, h)))
@@ -196,34 +196,34 @@ module _ (most locals : ℕ) (ds : List StructDef) (ls : List Local) (same : len
       (m.joins most k j rest over body e a))
 
   mutual
-    pub stmt_emits : (brk con : ℕ) (s : Stmt) (rest : List CodeItem) → brk ≤ count rest → con ≤ count rest → Has most locals 0 (max 5 (stmt_levels s))
+    pub stmt_emits : (brk con : ℕ) (s : Stmt) (rest : List CodeItem) → brk ≤ block_total rest → con ≤ block_total rest → Has most locals 0 (max 5 (stmt_levels s))
         → E (16 * stmt_parts s) rest (code.stmt_code locals ds ls brk con s rest)
     stmt_emits brk con (q.Block ss) rest b c h = m.at_most most (16 * stmts_parts ss) _ rest _ (omega arith) (stmts_emits brk con ss rest b c h)
     stmt_emits brk con (q.If y s no_else) rest b c h =
         m.at_most most (16 * expr_nodes y + (1 + (16 * stmt_parts s + 1))) _ rest _ (omega arith)
-        (if_emits 0 1 (16 * stmt_parts s) rest y (Start ∷ rest) _ (count rest) (omega (arith, h)) (m.start most rest)
+        (if_emits 0 1 (16 * stmt_parts s) rest y (Start ∷ rest) _ (block_total rest) (omega (arith, h)) (m.start most rest)
         (stmt_emits brk con s (Start ∷ rest) (omega (arith, b)) (omega (arith, c)) (omega (arith, h))) (omega arith))
     stmt_emits brk con (q.If y s (else_stmt t)) rest b c h =
         let fails : List CodeItem = code.stmt_code locals ds ls brk con t (Start ∷ rest) in
         let e : E (16 * stmt_parts t) (Start ∷ rest) fails = stmt_emits brk con t (Start ∷ rest) (omega (arith, b)) (omega (arith, c)) (omega (arith, h)) in
         let f : E (16 * stmt_parts t + 1) rest fails = m.joins most (16 * stmt_parts t) 1 rest (Start ∷ rest) fails e (m.start most rest) in
-        let over : List CodeItem = Jump (count rest) ∷ fails in
-        let g : E (1 + (16 * stmt_parts t + 1)) rest over = m.joins most 1 (16 * stmt_parts t + 1) rest fails over (m.jump most (count rest) fails (f.grows)) f in
+        let over : List CodeItem = Jump (block_total rest) ∷ fails in
+        let g : E (1 + (16 * stmt_parts t + 1)) rest over = m.joins most 1 (16 * stmt_parts t + 1) rest fails over (m.jump most (block_total rest) fails (f.grows)) f in
         m.at_most most (16 * expr_nodes y + (1 + (16 * stmt_parts s + (1 + (16 * stmt_parts t + 1))))) _ rest _ (omega arith)
-        (if_emits 0 (1 + (16 * stmt_parts t + 1)) (16 * stmt_parts s) rest y over _ (count fails) (omega (arith, h)) g
+        (if_emits 0 (1 + (16 * stmt_parts t + 1)) (16 * stmt_parts s) rest y over _ (block_total fails) (omega (arith, h)) g
         (stmt_emits brk con s over (omega (arith, b, g.grows)) (omega (arith, c, g.grows)) (omega (arith, h))) (omega arith))
     stmt_emits brk con (q.While y s) rest b c h =
         let test : List CodeItem = code.again_code locals ds ls y rest in
         let k : Closes (16 * expr_nodes y + 1) rest test = again_closes y rest (omega (arith, h)) in
         m.at_most most (16 * expr_nodes y + 1 + 16 * stmt_parts s + 2) _ rest _ (omega arith)
         (while_emits (16 * expr_nodes y + 1) (16 * stmt_parts s) rest test _ k
-        (stmt_emits (count rest) (count test) s (Start ∷ test) (omega (arith, k.grows)) (omega arith) (omega (arith, h))))
+        (stmt_emits (block_total rest) (block_total test) s (Start ∷ test) (omega (arith, k.grows)) (omega arith) (omega (arith, h))))
     stmt_emits brk con (q.Do s y) rest b c h =
         let test : List CodeItem = code.again_code locals ds ls y rest in
         let k : Closes (16 * expr_nodes y + 1) rest test = again_closes y rest (omega (arith, h)) in
         m.at_most most (16 * expr_nodes y + 1 + 16 * stmt_parts s + 2) _ rest _ (omega arith)
         (do_emits (16 * expr_nodes y + 1) (16 * stmt_parts s) rest test _ k
-        (stmt_emits (count rest) (count test) s (Start ∷ test) (omega (arith, k.grows)) (omega arith) (omega (arith, h))))
+        (stmt_emits (block_total rest) (block_total test) s (Start ∷ test) (omega (arith, k.grows)) (omega arith) (omega (arith, h))))
     stmt_emits brk con (q.For first condition step s) rest b c h =
         let test : List CodeItem = code.test_code locals ds ls condition rest in
         let after : List CodeItem = code.after_code locals ds ls step test in
@@ -232,18 +232,18 @@ module _ (most locals : ℕ) (ds : List StructDef) (ls : List Local) (same : len
         next (16 * first_parts first) (16 * optional_nodes condition + 1 + (16 * optional_nodes step + 1) + 16 * stmt_parts s + 2) _ rest _ _ (omega arith)
         (first_emits first _ (omega (arith, h)))
         (for_emits (16 * optional_nodes condition + 1) (16 * optional_nodes step + 1) (16 * stmt_parts s) rest test after _ k a
-        (stmt_emits (count rest) (count after) s (Start ∷ after) (omega (arith, k.grows, a.grows)) (omega arith) (omega (arith, h))))
+        (stmt_emits (block_total rest) (block_total after) s (Start ∷ after) (omega (arith, k.grows, a.grows)) (omega arith) (omega (arith, h))))
     stmt_emits brk con (q.Switch y sections) rest b c h =
-        let bodies : List CodeItem = code.sections_code locals ds ls (count rest) con sections (Start ∷ rest) in
-        let targets : List Target = code.targets_of locals ds ls (count rest) con sections (Start ∷ rest) in
-        let e : E (bodies_most sections) (Start ∷ rest) bodies = sections_emits (count rest) con sections (Start ∷ rest) (omega arith) (omega (arith, c)) (omega (arith, h)) in
-        let below : NamesBelow (count bodies) targets = targets_below (count rest) con sections (Start ∷ rest) (omega arith) (omega (arith, c)) (omega (arith, h)) in
-        let way : code.default_name (count rest) targets ≤ count bodies = default_below (count bodies) (count rest) targets (omega (arith, e.grows)) below in
-        let over : List CodeItem = Jump (code.default_name (count rest) targets) ∷ bodies in
-        let size : 3 * length targets + bodies_most sections ≤ 16 * sections_parts sections = targets_length (count rest) con sections (Start ∷ rest) in
+        let bodies : List CodeItem = code.sections_code locals ds ls (block_total rest) con sections (Start ∷ rest) in
+        let targets : List Target = code.switch_targets locals ds ls (block_total rest) con sections (Start ∷ rest) in
+        let e : E (bodies_most sections) (Start ∷ rest) bodies = sections_emits (block_total rest) con sections (Start ∷ rest) (omega arith) (omega (arith, c)) (omega (arith, h)) in
+        let below : NamesBelow (block_total bodies) targets = targets_below (block_total rest) con sections (Start ∷ rest) (omega arith) (omega (arith, c)) (omega (arith, h)) in
+        let way : code.default_name (block_total rest) targets ≤ block_total bodies = default_below (block_total bodies) (block_total rest) targets (omega (arith, e.grows)) below in
+        let over : List CodeItem = Jump (code.default_name (block_total rest) targets) ∷ bodies in
+        let size : 3 * length targets + bodies_most sections ≤ 16 * sections_parts sections = targets_length (block_total rest) con sections (Start ∷ rest) in
         next (16 * expr_nodes y) (3 * length targets + (1 + (bodies_most sections + 1))) _ rest _ _ (omega (arith, size)) (value_emits y _ (omega (arith, h)))
         (m.joins most (3 * length targets) (1 + (bodies_most sections + 1)) rest over _
-        (labels_emits (type_of y) targets over (below_more (count bodies) (count over) targets (omega arith) below) (omega (arith, h)))
+        (labels_emits (type_of y) targets over (below_more (block_total bodies) (block_total over) targets (omega arith) below) (omega (arith, h)))
         (m.joins most 1 (bodies_most sections + 1) rest bodies over (m.jump most _ bodies way)
         (m.joins most (bodies_most sections) 1 rest (Start ∷ rest) bodies e (m.start most rest))))
     stmt_emits brk con q.Break rest b c h = m.at_most most 1 _ rest _ (omega arith) (m.jump most brk rest b)
@@ -253,7 +253,7 @@ module _ (most locals : ℕ) (ds : List StructDef) (ls : List Local) (same : len
     stmt_emits brk con q.Empty rest b c h = same_code _ rest
     stmt_emits brk con (q.Declare d) rest b c h = declare_emits d rest h
 
-    pub stmts_emits : (brk con : ℕ) (ss : Stmts) (rest : List CodeItem) → brk ≤ count rest → con ≤ count rest → Has most locals 0 (max 5 (stmts_levels ss))
+    pub stmts_emits : (brk con : ℕ) (ss : Stmts) (rest : List CodeItem) → brk ≤ block_total rest → con ≤ block_total rest → Has most locals 0 (max 5 (stmts_levels ss))
         → E (16 * stmts_parts ss) rest (code.stmts_code locals ds ls brk con ss rest)
     stmts_emits brk con no_stmts rest b c h = m.none most rest
     stmts_emits brk con (more_stmts s ss) rest b c h =
@@ -261,7 +261,7 @@ module _ (most locals : ℕ) (ds : List StructDef) (ls : List Local) (same : len
         next (16 * stmt_parts s) (16 * stmts_parts ss) _ rest _ _ (omega arith) (stmt_emits brk con s _ (omega (arith, b, e.grows)) (omega (arith, c, e.grows)) (omega (arith, h))) e
 
     -- beside the labels
-    sections_emits : (brk con : ℕ) (sections : Sections) (rest : List CodeItem) → brk ≤ count rest → con ≤ count rest → Has most locals 0 (max 5 (sections_levels sections))
+    sections_emits : (brk con : ℕ) (sections : Sections) (rest : List CodeItem) → brk ≤ block_total rest → con ≤ block_total rest → Has most locals 0 (max 5 (sections_levels sections))
         → E (bodies_most sections) rest (code.sections_code locals ds ls brk con sections rest)
     sections_emits brk con no_sections rest b c h = m.none most rest
     sections_emits brk con (more_sections label ss sections) rest b c h =
@@ -270,8 +270,8 @@ module _ (most locals : ℕ) (ds : List StructDef) (ls : List Local) (same : len
         next 1 (16 * stmts_parts ss + (bodies_most sections)) _ rest _ _ (omega arith) (m.start most _)
         (m.joins most (16 * stmts_parts ss) (bodies_most sections) rest _ _ f e)
 
-    targets_below : (brk con : ℕ) (sections : Sections) (rest : List CodeItem) → brk ≤ count rest → con ≤ count rest → Has most locals 0 (max 5 (sections_levels sections))
-        → NamesBelow (count (code.sections_code locals ds ls brk con sections rest)) (code.targets_of locals ds ls brk con sections rest)
+    targets_below : (brk con : ℕ) (sections : Sections) (rest : List CodeItem) → brk ≤ block_total rest → con ≤ block_total rest → Has most locals 0 (max 5 (sections_levels sections))
+        → NamesBelow (block_total (code.sections_code locals ds ls brk con sections rest)) (code.switch_targets locals ds ls brk con sections rest)
     targets_below brk con no_sections rest b c h = tt
     targets_below brk con (more_sections label ss sections) rest b c h =
         let e = sections_emits brk con sections rest b c (omega (arith, h)) in
@@ -283,9 +283,9 @@ module _ (most locals : ℕ) (ds : List StructDef) (ls : List Local) (same : len
   parameter_emits : (k : ℕ) (l : Local) (rest : List CodeItem) → k < locals → Has most locals 0 5 → E 2 rest (f.parameter_code locals ds ls k l rest)
   parameter_emits k l rest small h = by l.in_memory
     where
-      by : (memory : Bool) → E 2 rest (if memory then x.address_code locals 0 (p.Local (object_of ls k)) 0 (x.store_code (type_view l.ty) (address_register locals 0) 0 k rest) else rest)
+      by : (memory : Bool) → E 2 rest (if memory then x.address_code locals 0 (p.Local (object_index ls k)) 0 (x.store_code (type_view l.ty) (address_register locals 0) 0 k rest) else rest)
       by true =
-          m.joins most 1 1 rest _ _ (m.address_emits most locals 0 (p.Local (object_of ls k)) 0 _ (omega (arith, h)))
+          m.joins most 1 1 rest _ _ (m.address_emits most locals 0 (p.Local (object_index ls k)) 0 _ (omega (arith, h)))
           (m.store_emits most (type_view l.ty) _ 0 k rest (m.address_there most locals 0 (omega (arith, h))) (omega (arith, small, h)))
       by false = same_code 2 rest
 

@@ -7,7 +7,7 @@ use Rattle.c_tree.specs.declared.expressions.BinaryOp.TheVariants as b
 use Rattle.c_tree.specs.declared.expressions.StepOp.{StepOp}
 use Rattle.c_typed_tree.specs.declared.types.StructDef.{StructDef}
 use Rattle.c_typed_tree.specs.Types.{PlainType, Void, Int, Pointer, Array, Struct}
-use Rattle.c_semantics.specs.Objects.{integer_of}
+use Rattle.c_semantics.specs.Objects.{integer_or_word}
 use Rattle.c_semantics.specs.Operators.{operation_type, step_operator, one_type}
 use Rattle.suifvm_ir.specs.declared.types.VmType.{VmType}
 use Rattle.suifvm_ir.specs.declared.types.VmType.TheVariants.{S32, U32, S64, U64, P64}
@@ -24,7 +24,7 @@ use Rattle.lowering_code.specs.declared.operation.RegisterOperation.{RegisterOpe
 use Rattle.lowering_code.specs.declared.operation.RegisterOperation.TheVariants.{Calculates, Shifts, Compares, ComparesBack}
 use Rattle.lowering_code.specs.declared.item.CodeItem.{CodeItem}
 use Rattle.lowering_code.specs.declared.item.CodeItem.TheVariants.{Start, Plain, Jump, Branch, Return}
-use Rattle.lowering_code.specs.Items.{count}
+use Rattle.lowering_code.specs.Items.{block_total}
 use Rattle.lowering_code.specs.Registers.{register_type, type_place, temporary, value_register, address_register, bytes_register}
 use Rattle.lowering_code.specs.Expressions as code
 use Rattle.lowering_layout.specs.Good.{IsGood}
@@ -33,7 +33,7 @@ use Rattle.lowering_layout.specs.Tops.{registers_top, insn_top}
 module _ (most : ℕ) where
   pub record Emits (k : ℕ) (rest is : List CodeItem) : Type 0 where
     pub good : (loops : ℕ) → IsGood most loops rest → IsGood most loops is
-    pub grows : count rest ≤ count is
+    pub grows : block_total rest ≤ block_total is
     pub size : length is ≤ k + length rest
 
   pub none : (rest : List CodeItem) → Emits 0 rest rest
@@ -51,10 +51,10 @@ module _ (most : ℕ) where
   pub start : (rest : List CodeItem) → Emits 1 rest (Start ∷ rest)
   start rest = record { good = λ loops h. h; grows = omega arith; size = omega arith }
 
-  pub jump : (name : ℕ) (rest : List CodeItem) → name ≤ count rest → Emits 1 rest (Jump name ∷ rest)
+  pub jump : (name : ℕ) (rest : List CodeItem) → name ≤ block_total rest → Emits 1 rest (Jump name ∷ rest)
   jump name rest h = record { good = λ loops g. (h, g); grows = omega arith; size = omega arith }
 
-  pub branch : (op : VmBranchOp) (ty : VmType) (source name : ℕ) (rest : List CodeItem) → source < most → name ≤ count rest → Emits 1 rest (Branch op ty source name ∷ rest)
+  pub branch : (op : VmBranchOp) (ty : VmType) (source name : ℕ) (rest : List CodeItem) → source < most → name ≤ block_total rest → Emits 1 rest (Branch op ty source name ∷ rest)
   branch op ty source name rest s h = record { good = λ loops g. (s, h, g); grows = omega arith; size = omega arith }
 
   pub give : (value : Option TypedRegister) (rest : List CodeItem) → registers_top (returned_register value) ≤ most → Emits 1 rest (Return value ∷ rest)
@@ -130,7 +130,7 @@ module _ (most : ℕ) where
     value_load_emits d (Struct number) plus rest h = moved_emits d plus rest h
 
     pub convert_emits : (d : ℕ) (from to : PlainType) (rest : List CodeItem) → Has locals d 1 → Emits 1 rest (code.convert_code locals d from to rest)
-    convert_emits d from to rest h = by (code.is_kept from to)
+    convert_emits d from to rest h = by (code.keeps_register from to)
       where
         by : (kept : Bool) → Emits 1 rest (if kept then rest else Plain (n.Convert (code.narrow_type from to) (register_type to) (value_register locals d to) (value_register locals d from)) ∷ rest)
         by true = at_most 0 1 rest rest (omega arith) (none rest)
@@ -168,7 +168,7 @@ module _ (most : ℕ) where
         joins 1 1 rest _ _ (constant_emits (suc d) operand 0 _ (omega (arith, h)))
         (plain _ rest (refl, refl) (omega (arith, value_there d ty (omega (arith, h)), value_there d operand (omega (arith, h)), value_there (suc d) operand (omega (arith, h)))))
 
-    pub branch_emits : (op : VmBranchOp) (d : ℕ) (ty : PlainType) (name : ℕ) (rest : List CodeItem) → Has locals d 1 → name ≤ count rest → Emits 1 rest (code.branch_code locals op d ty name rest)
+    pub branch_emits : (op : VmBranchOp) (d : ℕ) (ty : PlainType) (name : ℕ) (rest : List CodeItem) → Has locals d 1 → name ≤ block_total rest → Emits 1 rest (code.branch_code locals op d ty name rest)
     branch_emits op d ty name rest h k = branch op _ _ name rest (value_there d ty h) k
 
     -- ---- operators
@@ -245,7 +245,7 @@ module _ (most : ℕ) where
         where
           by : (target : Option PlainType) → Emits 5 rest (code.combine_by locals ds op o d free left ty target rest)
           by (Some element) = step_emits op o d free element ty rest h k f
-          by None = at_most 3 5 rest _ (omega arith) (combine_in_emits op (operation_type op (integer_of left) (integer_of ty)) o d left ty rest h k)
+          by None = at_most 3 5 rest _ (omega arith) (combine_in_emits op (operation_type op (integer_or_word left) (integer_or_word ty)) o d left ty rest h k)
 
       pub element_emits : (d : ℕ) (left right : PlainType) (rest : List CodeItem) → Has locals d 3 → Emits 5 rest (code.element_code locals ds d left right rest)
       element_emits d left right rest h = by (code.element_of left) (code.element_of right)

@@ -20,8 +20,8 @@ use Rattle.suifvm_ir.specs.declared.insn.VmInsn.TheVariants as n
 use Rattle.suifvm_ir.specs.Insns.{named_register}
 use Rattle.lowering_code.specs.declared.item.CodeItem.{CodeItem}
 use Rattle.lowering_code.specs.declared.item.CodeItem.TheVariants.{Start, Jump}
-use Rattle.lowering_code.specs.Items.{count}
-use Rattle.lowering_code.specs.Registers.{object_of}
+use Rattle.lowering_code.specs.Items.{block_total}
+use Rattle.lowering_code.specs.Registers.{object_index}
 use Rattle.lowering_code.specs.Expressions as code
 use Rattle.lowering_expressions.specs.Levels.{levels, levels_above, levels_of_each}
 use Rattle.lowering_expressions.proofs.Depths.{own_levels}
@@ -65,10 +65,10 @@ module _ (most locals : ℕ) (ds : List StructDef) (ls : List Local) (same : len
     where
       by : (r : Option ℕ) → code.register_if locals ds ls k (slice_get ls k) ≡ r → Emits most 3 rest (code.local_code locals ds ls d ty k r rest)
       by (Some j) is = m.at_most most 1 3 rest _ (omega arith) (m.move_emits most ty _ _ rest (m.value_there most locals d ty h) (omega (arith, register_small k j (slice_get ls k) refl is, h)))
-      by None is = m.joins most 1 2 rest _ _ (m.address_emits most locals d (p.Local (object_of ls k)) 0 _ h) (m.value_load_emits most locals d ty 0 rest h)
+      by None is = m.joins most 1 2 rest _ _ (m.address_emits most locals d (p.Local (object_index ls k)) 0 _ h) (m.value_load_emits most locals d ty 0 rest h)
 
   -- registers of arguments
-  arguments_below : (d : ℕ) (xs : Exprs) → Has most locals d (levels_above xs) → registers_top (code.argument_registers locals ds ls d xs) ≤ most
+  arguments_below : (d : ℕ) (xs : Exprs) → Has most locals d (levels_above xs) → registers_top (code.call_registers locals ds ls d xs) ≤ most
   arguments_below d no_exprs h = omega arith
   arguments_below d (more_exprs x xs) h =
       omega (arith, arguments_below (suc d) xs (omega (arith, h)), m.value_there most locals d (type_of x) (omega (arith, h, own_levels x)))
@@ -87,33 +87,33 @@ module _ (most locals : ℕ) (ds : List StructDef) (ls : List Local) (same : len
   decides_emits : (op : _) (d : ℕ) (ty tx ty' : PlainType) (word other : ℕ) (j k : ℕ) (fx fy : List CodeItem → List CodeItem)
       → ((is : List CodeItem) → Emits most j is (fx is)) → ((is : List CodeItem) → Emits most k is (fy is)) → (rest : List CodeItem) → Has most locals d 1
       → Emits most (j + (k + 6)) rest
-      (fx (code.branch_code locals op d tx (count (code.constant_code locals d ty word (Start ∷ rest)))
-      (fy (code.branch_code locals op d ty' (count (code.constant_code locals d ty word (Start ∷ rest)))
-      (code.constant_code locals d ty other (Jump (count rest) ∷ code.constant_code locals d ty word (Start ∷ rest)))))))
+      (fx (code.branch_code locals op d tx (block_total (code.constant_code locals d ty word (Start ∷ rest)))
+      (fy (code.branch_code locals op d ty' (block_total (code.constant_code locals d ty word (Start ∷ rest)))
+      (code.constant_code locals d ty other (Jump (block_total rest) ∷ code.constant_code locals d ty word (Start ∷ rest)))))))
   decides_emits op d ty tx ty' word other j k fx fy ex ey rest h =
       let fails : List CodeItem = code.constant_code locals d ty word (Start ∷ rest) in
-      let last : List CodeItem = code.constant_code locals d ty other (Jump (count rest) ∷ fails) in
-      let second : List CodeItem = code.branch_code locals op d ty' (count fails) last in
+      let last : List CodeItem = code.constant_code locals d ty other (Jump (block_total rest) ∷ fails) in
+      let second : List CodeItem = code.branch_code locals op d ty' (block_total fails) last in
       let f : Emits most 2 rest fails = m.joins most 1 1 rest (Start ∷ rest) fails (m.constant_emits most locals d ty word (Start ∷ rest) h) (m.start most rest) in
-      let g : Emits most 4 rest last = m.joins most 1 3 rest (Jump (count rest) ∷ fails) last (m.constant_emits most locals d ty other (Jump (count rest) ∷ fails) h) (m.joins most 1 2 rest fails (Jump (count rest) ∷ fails) (m.jump most (count rest) fails (f.grows)) f) in
-      let b : Emits most 5 rest second = m.joins most 1 4 rest last second (m.branch_emits most locals op d ty' (count fails) last h (omega arith)) g in
+      let g : Emits most 4 rest last = m.joins most 1 3 rest (Jump (block_total rest) ∷ fails) last (m.constant_emits most locals d ty other (Jump (block_total rest) ∷ fails) h) (m.joins most 1 2 rest fails (Jump (block_total rest) ∷ fails) (m.jump most (block_total rest) fails (f.grows)) f) in
+      let b : Emits most 5 rest second = m.joins most 1 4 rest last second (m.branch_emits most locals op d ty' (block_total fails) last h (omega arith)) g in
       let c : Emits most (k + 5) rest (fy second) = m.joins most k 5 rest second (fy second) (ey second) b in
-      let first : List CodeItem = code.branch_code locals op d tx (count fails) (fy second) in
-      let a : Emits most 1 (fy second) first = m.branch_emits most locals op d tx (count fails) (fy second) h (omega (arith, (ey second).grows)) in
+      let first : List CodeItem = code.branch_code locals op d tx (block_total fails) (fy second) in
+      let a : Emits most 1 (fy second) first = m.branch_emits most locals op d tx (block_total fails) (fy second) h (omega (arith, (ey second).grows)) in
       next j (1 + (k + 5)) (j + (k + 6)) rest first (fx first) (omega arith) (ex first) (m.joins most 1 (k + 5) rest (fy second) first a c)
 
   choice_emits : (d : ℕ) (tx : PlainType) (i j k : ℕ) (fx fy fz : List CodeItem → List CodeItem)
       → ((is : List CodeItem) → Emits most i is (fx is)) → ((is : List CodeItem) → Emits most j is (fy is)) → ((is : List CodeItem) → Emits most k is (fz is))
       → (rest : List CodeItem) → Has most locals d 1
-      → Emits most (i + (j + (k + 3))) rest (fx (code.branch_code locals IfFalse d tx (count (fz (Start ∷ rest))) (fy (Jump (count rest) ∷ fz (Start ∷ rest)))))
+      → Emits most (i + (j + (k + 3))) rest (fx (code.branch_code locals IfFalse d tx (block_total (fz (Start ∷ rest))) (fy (Jump (block_total rest) ∷ fz (Start ∷ rest)))))
   choice_emits d tx i j k fx fy fz ex ey ez rest h =
       let fails : List CodeItem = fz (Start ∷ rest) in
       let f : Emits most (k + 1) rest fails = m.joins most k 1 rest (Start ∷ rest) fails (ez (Start ∷ rest)) (m.start most rest) in
-      let over : List CodeItem = Jump (count rest) ∷ fails in
-      let g : Emits most (1 + (k + 1)) rest over = m.joins most 1 (k + 1) rest fails over (m.jump most (count rest) fails (f.grows)) f in
+      let over : List CodeItem = Jump (block_total rest) ∷ fails in
+      let g : Emits most (1 + (k + 1)) rest over = m.joins most 1 (k + 1) rest fails over (m.jump most (block_total rest) fails (f.grows)) f in
       let c : Emits most (j + (1 + (k + 1))) rest (fy over) = m.joins most j (1 + (k + 1)) rest over (fy over) (ey over) g in
-      let first : List CodeItem = code.branch_code locals IfFalse d tx (count fails) (fy over) in
-      let a : Emits most 1 (fy over) first = m.branch_emits most locals IfFalse d tx (count fails) (fy over) h (omega (arith, (ey over).grows)) in
+      let first : List CodeItem = code.branch_code locals IfFalse d tx (block_total fails) (fy over) in
+      let a : Emits most 1 (fy over) first = m.branch_emits most locals IfFalse d tx (block_total fails) (fy over) h (omega (arith, (ey over).grows)) in
       next i (1 + (j + (1 + (k + 1)))) (i + (j + (k + 3))) rest first (fx first) (omega arith) (ex first) (m.joins most 1 (j + (1 + (k + 1))) rest (fy over) first a c)
 
   -- `++` and `--`
@@ -176,7 +176,7 @@ module _ (most locals : ℕ) (ds : List StructDef) (ls : List Local) (same : len
         next 1 2 16 rest _ _ (omega arith) (m.address_emits most locals d (p.Global k) 0 _ (omega (arith, h))) (m.value_load_emits most locals d ty 0 rest (omega (arith, h)))
     expr_emits d (Call ty callee xs) rest h =
         next (16 * exprs_nodes xs) 1 _ rest _ _ (omega arith) (exprs_emits d xs _ (omega (arith, h)))
-        (m.plain most (n.Call (code.destination_of locals ds ls d ty) (code.vm_callee callee) (code.argument_registers locals ds ls d xs)) rest (refl, refl)
+        (m.plain most (n.Call (code.destination_of locals ds ls d ty) (code.vm_callee callee) (code.call_registers locals ds ls d xs)) rest (refl, refl)
         (omega (arith, arguments_below d xs (omega (arith, h)), destination_below d ty (omega (arith, h)))))
     expr_emits d (Unary ty u.Address x) rest h =
         next (16 * expr_nodes x) 2 _ rest _ _ (omega arith) (place_emits d x 0 _ (omega (arith, h))) (m.moved_emits most locals d (code.plus_of locals ds ls x 0) rest (omega (arith, h)))
@@ -245,7 +245,7 @@ module _ (most locals : ℕ) (ds : List StructDef) (ls : List Local) (same : len
     expr_emits d (Comma ty xs) rest h = m.at_most most (16 * exprs_nodes xs) _ rest _ (omega arith) (commas_emits d xs rest (omega (arith, h)))
 
     pub place_emits : (d : ℕ) (x : Expr) (plus : ℕ) (rest : List CodeItem) → Has most locals d (levels x) → E (16 * expr_nodes x) rest (code.place_code locals ds ls d x plus rest)
-    place_emits d (e.Local ty k) plus rest h = m.at_most most 1 16 rest _ (omega arith) (m.address_emits most locals d (p.Local (object_of ls k)) plus rest (omega (arith, h)))
+    place_emits d (e.Local ty k) plus rest h = m.at_most most 1 16 rest _ (omega arith) (m.address_emits most locals d (p.Local (object_index ls k)) plus rest (omega (arith, h)))
     place_emits d (Global ty k) plus rest h = m.at_most most 1 16 rest _ (omega arith) (m.address_emits most locals d (p.Global k) plus rest (omega (arith, h)))
     place_emits d (Unary ty u.Dereference x) plus rest h = m.at_most most (16 * expr_nodes x) _ rest _ (omega arith) (expr_emits d x rest (omega (arith, h)))
     place_emits d (Unary ty u.Address x) plus rest h = m.at_most most 0 _ rest rest (omega arith) (m.none most rest)

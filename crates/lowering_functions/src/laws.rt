@@ -10,7 +10,7 @@ ghost use Rattle.c_typed_tree.specs.Expressions.{Expr};
 ghost use Rattle.c_typed_tree.specs.Statements.{Stmt};
 ghost use Rattle.c_typed_tree.specs.Counts.{expr_nodes};
 ghost use Rattle.lowering_code.specs.declared.item.CodeItem.{CodeItem};
-ghost use Rattle.lowering_code.specs.Items.{count};
+ghost use Rattle.lowering_code.specs.Items.{block_total};
 ghost use Rattle.lowering_code.specs.Expressions.{expr_code};
 ghost use Rattle.lowering_code.specs.Statements.{stmt_code};
 ghost use Rattle.lowering_code.specs.Functions.{items_of};
@@ -32,11 +32,11 @@ pub fn expressions_are_good()
 /// Of a statement, in front of good code in which the blocks are to which its `break` and `continue` go.
 pub fn statements_are_good()
     ensures good { (most locals brk con loops : ℕ) (ds : List StructDef) (ls : List Local) (s : Stmt)
-        (rest : List CodeItem) → length ls ≡ locals → brk ≤ count rest → con ≤ count rest →
+        (rest : List CodeItem) → length ls ≡ locals → brk ≤ block_total rest → con ≤ block_total rest →
         locals + 5 * max 5 (stmt_levels s) ≤ most → IsGood most loops rest →
         IsGood most loops (stmt_code locals ds ls brk con s rest) }
     ensures size { (most locals brk con : ℕ) (ds : List StructDef) (ls : List Local) (s : Stmt) (rest : List CodeItem) →
-        length ls ≡ locals → brk ≤ count rest → con ≤ count rest → locals + 5 * max 5 (stmt_levels s) ≤ most →
+        length ls ≡ locals → brk ≤ block_total rest → con ≤ block_total rest → locals + 5 * max 5 (stmt_levels s) ≤ most →
         length (stmt_code locals ds ls brk con s rest) ≤ 16 * stmt_parts s + length rest }
 {}
 

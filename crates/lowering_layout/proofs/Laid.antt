@@ -13,8 +13,8 @@ use Rattle.suifvm_ir.specs.Functions.{GoesToBlocks, IsStraight, EndsLate, last_o
 use Rattle.suifvm_ir.specs.Programs.{begins_with_mark, goes_back_to_marks}
 use Rattle.lowering_code.specs.declared.item.CodeItem.{CodeItem}
 use Rattle.lowering_code.specs.declared.item.CodeItem.TheVariants.{Start, Plain, Jump, Branch, Loop, Enter, Again, Repeat, Return}
-use Rattle.lowering_code.specs.Items.{count}
-use Rattle.lowering_code.specs.Layout.{Layout, with_insn, end_block, end_with, open_loop, head_of, outer_heads, close_loop, with_item, with_items}
+use Rattle.lowering_code.specs.Items.{block_total}
+use Rattle.lowering_code.specs.Layout.{Layout, with_insn, end_block, end_with, open_loop, head_or_zero, outer_heads, close_loop, add_item, with_items}
 use Rattle.lowering_layout.specs.Good.{IsGood}
 
 -- ---- lists
@@ -185,7 +185,7 @@ module _ (w : List (List vm.VmInsn)) where
   stands_loop : (l : Layout) → Stands (close_loop l) → Stands l
   stands_loop l h = record { more = h.more; rest = h.rest; is = h.is }
 
-  stands_step : (i : CodeItem) (l : Layout) → Stands (with_item i l) → Stands l
+  stands_step : (i : CodeItem) (l : Layout) → Stands (add_item i l) → Stands l
   stands_step Start l h = stands_closed l h
   stands_step (Plain insn) l h = stands_put insn l h
   stands_step (Jump name) l h = stands_ended _ l h
@@ -198,10 +198,10 @@ module _ (w : List (List vm.VmInsn)) where
 
   stands : (end : List vm.VmInsn) (is : List CodeItem) (l : Layout) → w ≡ (with_items is l).blocks ++ ((with_items is l).insns ++ end) ∷ [] → Stands l
   stands end [] l e = record { more = end; rest = []; is = e }
-  stands end (i ∷ is) l e = stands_step i l (stands end is (with_item i l) e)
+  stands end (i ∷ is) l e = stands_step i l (stands end is (add_item i l) e)
 
   -- a jump back to the inner loop, which ends
-  goes_round : (loops : ℕ) (l : Layout) (i : vm.VmInsn) → targets_of i ≡ head_of l.heads ∷ [] → Sound (suc loops) l → Sound loops (close_loop (end_with i l))
+  goes_round : (loops : ℕ) (l : Layout) (i : vm.VmInsn) → targets_of i ≡ head_or_zero l.heads ∷ [] → Sound (suc loops) l → Sound loops (close_loop (end_with i l))
   goes_round loops l i e s = by l.heads refl (s.heads)
     where
       by : (hs : List ℕ) → l.heads ≡ hs → Heads (suc loops) l.heads → Sound loops (close_loop (end_with i l))
@@ -209,7 +209,7 @@ module _ (w : List (List vm.VmInsn)) where
       by (t ∷ hs) is h =
           let k : Heads (suc loops) (t ∷ hs) = subst (Heads (suc loops)) is h in
           record {
-            blocks = push IsLaid l.blocks (l.insns ++ i ∷ []) [] s.blocks (ends (length l.blocks) l.insns i s.insns (goes_back (length l.blocks) t i (e ∙ ap (λ x. head_of x ∷ []) is) k.0 k.1 k.2));
+            blocks = push IsLaid l.blocks (l.insns ++ i ∷ []) [] s.blocks (ends (length l.blocks) l.insns i s.insns (goes_back (length l.blocks) t i (e ∙ ap (λ x. head_or_zero x ∷ []) is) k.0 k.1 k.2));
             insns = All-nil Straight;
             heads = subst (λ x. Heads loops (outer_heads x)) (sym is) k.3;
           }
@@ -217,7 +217,7 @@ module _ (w : List (List vm.VmInsn)) where
   -- ---- all items
 
   pub sound : (end : List vm.VmInsn) (most : ℕ) (is : List CodeItem) (loops : ℕ) (l : Layout)
-      → w ≡ (with_items is l).blocks ++ ((with_items is l).insns ++ end) ∷ [] → l.last ≡ length l.blocks + count is → length w ≡ l.last + 1
+      → w ≡ (with_items is l).blocks ++ ((with_items is l).insns ++ end) ∷ [] → l.last ≡ length l.blocks + block_total is → length w ≡ l.last + 1
       → IsGood most loops is → Sound loops l → Sound 0 (with_items is l)
   sound end most [] loops l e last size good s = subst (λ k. Sound k l) good s
   sound end most (Start ∷ is) loops l e last size good s =
@@ -243,12 +243,12 @@ module _ (w : List (List vm.VmInsn)) where
       (opened loops m refl (omega (arith, more)) (omega (arith, more, last, size)) (stands end is (open_loop m) e) (closed loops l s))
   sound end most (Again ty source ∷ is) zero l e last size good s = absurd good
   sound end most (Again ty source ∷ is) (suc loops) l e last size good s =
-      sound end most is loops _ e (omega (arith, last, length_push l.blocks (l.insns ++ n.Branch IfTrue ty source (head_of l.heads) ∷ []))) size good.1
-      (goes_round loops l (n.Branch IfTrue ty source (head_of l.heads)) refl s)
+      sound end most is loops _ e (omega (arith, last, length_push l.blocks (l.insns ++ n.Branch IfTrue ty source (head_or_zero l.heads) ∷ []))) size good.1
+      (goes_round loops l (n.Branch IfTrue ty source (head_or_zero l.heads)) refl s)
   sound end most (Repeat ∷ is) zero l e last size good s = absurd good
   sound end most (Repeat ∷ is) (suc loops) l e last size good s =
-      sound end most is loops _ e (omega (arith, last, length_push l.blocks (l.insns ++ n.Jump (head_of l.heads) ∷ []))) size good
-      (goes_round loops l (n.Jump (head_of l.heads)) refl s)
+      sound end most is loops _ e (omega (arith, last, length_push l.blocks (l.insns ++ n.Jump (head_or_zero l.heads) ∷ []))) size good
+      (goes_round loops l (n.Jump (head_or_zero l.heads)) refl s)
   sound end most (Return value ∷ is) loops l e last size good s =
       sound end most is loops _ e (omega (arith, last, length_push l.blocks (l.insns ++ n.Return value ∷ []))) size good.1
       (ended loops l (n.Return value) (goes_straight (length l.blocks) (n.Return value) refl) s)

@@ -11,12 +11,12 @@ use Rattle.suifvm_ir.specs.Insns.{reads_of, writes_of}
 use Rattle.suifvm_ir.specs.Functions.{AllInsns, UsesRegisters, count_of}
 use Rattle.lowering_code.specs.declared.item.CodeItem.{CodeItem}
 use Rattle.lowering_code.specs.declared.item.CodeItem.TheVariants.{Start, Plain, Jump, Branch, Loop, Enter, Again, Repeat, Return}
-use Rattle.lowering_code.specs.Items.{count}
-use Rattle.lowering_code.specs.Layout.{Layout, with_insn, end_block, end_with, open_loop, head_of, with_item, with_items}
+use Rattle.lowering_code.specs.Items.{block_total}
+use Rattle.lowering_code.specs.Layout.{Layout, with_insn, end_block, end_with, open_loop, head_or_zero, add_item, with_items}
 use Rattle.lowering_layout.specs.Good.{IsGood}
 use Rattle.lowering_layout.specs.Tops.{registers_top, insn_top, insns_top, blocks_top}
 
-pub count_le : (is : List CodeItem) → count is ≤ length is
+pub count_le : (is : List CodeItem) → block_total is ≤ length is
 count_le [] = omega arith
 count_le (Start ∷ is) = omega (arith, count_le is)
 count_le (Plain insn ∷ is) = omega (arith, count_le is)
@@ -51,7 +51,7 @@ adds_end i l =
 adds_loop : (l : Layout) → Adds l (open_loop l) 0 1
 adds_loop l = record { blocks_are = omega arith; insns_are = omega (arith, length_push l.insns n.Mark); last_is = refl }
 
-adds_item : (i : CodeItem) (l : Layout) → Adds l (with_item i l) (count (i ∷ [])) 2
+adds_item : (i : CodeItem) (l : Layout) → Adds l (add_item i l) (block_total (i ∷ [])) 2
 adds_item Start l = let a = adds_block l in record { blocks_are = a.blocks_are; insns_are = omega (arith, a.insns_are); last_is = refl }
 adds_item (Plain insn) l = let a = adds_insn insn l in record { blocks_are = a.blocks_are; insns_are = omega (arith, a.insns_are); last_is = refl }
 adds_item (Jump name) l = let a = adds_end (n.Jump (l.last - name)) l in record { blocks_are = a.blocks_are; insns_are = omega (arith, a.insns_are); last_is = refl }
@@ -64,11 +64,11 @@ adds_item Enter l =
     let a = adds_block l in
     let b = adds_loop (end_block l) in
     record { blocks_are = a.blocks_are; insns_are = omega (arith, a.insns_are, b.insns_are); last_is = refl }
-adds_item (Again ty source) l = let a = adds_end (n.Branch IfTrue ty source (head_of l.heads)) l in record { blocks_are = a.blocks_are; insns_are = omega (arith, a.insns_are); last_is = refl }
-adds_item Repeat l = let a = adds_end (n.Jump (head_of l.heads)) l in record { blocks_are = a.blocks_are; insns_are = omega (arith, a.insns_are); last_is = refl }
+adds_item (Again ty source) l = let a = adds_end (n.Branch IfTrue ty source (head_or_zero l.heads)) l in record { blocks_are = a.blocks_are; insns_are = omega (arith, a.insns_are); last_is = refl }
+adds_item Repeat l = let a = adds_end (n.Jump (head_or_zero l.heads)) l in record { blocks_are = a.blocks_are; insns_are = omega (arith, a.insns_are); last_is = refl }
 adds_item (Return value) l = let a = adds_end (n.Return value) l in record { blocks_are = a.blocks_are; insns_are = omega (arith, a.insns_are); last_is = refl }
 
-pub count_one : (i : CodeItem) (is : List CodeItem) → count (i ∷ is) ≡ count (i ∷ []) + count is
+pub count_one : (i : CodeItem) (is : List CodeItem) → block_total (i ∷ is) ≡ block_total (i ∷ []) + block_total is
 count_one Start is = omega arith
 count_one (Plain insn) is = omega arith
 count_one (Jump name) is = omega arith
@@ -79,19 +79,19 @@ count_one (Again ty source) is = omega arith
 count_one Repeat is = omega arith
 count_one (Return value) is = omega arith
 
-pub blocks_laid : (is : List CodeItem) (l : Layout) → length (with_items is l).blocks ≡ length l.blocks + count is
+pub blocks_laid : (is : List CodeItem) (l : Layout) → length (with_items is l).blocks ≡ length l.blocks + block_total is
 blocks_laid [] l = omega arith
-blocks_laid (i ∷ is) l = omega (arith, blocks_laid is (with_item i l), (adds_item i l).blocks_are, count_one i is)
+blocks_laid (i ∷ is) l = omega (arith, blocks_laid is (add_item i l), (adds_item i l).blocks_are, count_one i is)
 
 pub insns_laid : (is : List CodeItem) (l : Layout) → count_of (with_items is l).blocks + length (with_items is l).insns ≤ count_of l.blocks + length l.insns + 2 * length is
 insns_laid [] l = omega arith
-insns_laid (i ∷ is) l = omega (arith, insns_laid is (with_item i l), (adds_item i l).insns_are)
+insns_laid (i ∷ is) l = omega (arith, insns_laid is (add_item i l), (adds_item i l).insns_are)
 
 -- one more block: what a step of the loop over items asks
-pub room : (i : CodeItem) (is : List CodeItem) (blocks all : ℕ) → blocks + count (i ∷ is) ≡ all → blocks ≤ all
+pub room : (i : CodeItem) (is : List CodeItem) (blocks all : ℕ) → blocks + block_total (i ∷ is) ≡ all → blocks ≤ all
 room i is blocks all e = omega (arith, e, count_one i is)
 
-pub next_room : (i : CodeItem) (is : List CodeItem) (l : Layout) (all : ℕ) → length l.blocks + count (i ∷ is) ≡ all → length (with_item i l).blocks + count is ≡ all
+pub next_room : (i : CodeItem) (is : List CodeItem) (l : Layout) (all : ℕ) → length l.blocks + block_total (i ∷ is) ≡ all → length (add_item i l).blocks + block_total is ≡ all
 next_room i is l all e = omega (arith, e, count_one i is, (adds_item i l).blocks_are)
 
 -- ---- registers
@@ -139,10 +139,10 @@ below_items most (Loop name ∷ is) loops l good k =
 below_items most (Enter ∷ is) loops l good k = below_items most is (suc loops) _ good (below_loop most (end_block l) (below_block most l k))
 below_items most (Again ty source ∷ is) zero l good k = absurd good
 below_items most (Again ty source ∷ is) (suc loops) l good k =
-    below_items most is loops _ good.1 (below_end most (n.Branch IfTrue ty source (head_of l.heads)) l (omega (arith, good.0)) k)
+    below_items most is loops _ good.1 (below_end most (n.Branch IfTrue ty source (head_or_zero l.heads)) l (omega (arith, good.0)) k)
 below_items most (Repeat ∷ is) zero l good k = absurd good
 below_items most (Repeat ∷ is) (suc loops) l good k =
-    below_items most is loops _ good (below_end most (n.Jump (head_of l.heads)) l (omega arith) k)
+    below_items most is loops _ good (below_end most (n.Jump (head_or_zero l.heads)) l (omega arith) k)
 below_items most (Return value ∷ is) loops l good k = below_items most is loops _ good.1 (below_end most (n.Return value) l (omega (arith, good.0)) k)
 
 -- each register is below the greatest

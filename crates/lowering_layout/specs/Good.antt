@@ -4,7 +4,7 @@ use Rattle.suifvm_ir.specs.Insns.{targets_of, flows_on_of, returned_register}
 use Rattle.suifvm_ir.specs.Functions.{IsStraight}
 use Rattle.lowering_code.specs.declared.item.CodeItem.{CodeItem}
 use Rattle.lowering_code.specs.declared.item.CodeItem.TheVariants.{Start, Plain, Jump, Branch, Loop, Enter, Again, Repeat, Return}
-use Rattle.lowering_code.specs.Items.{count}
+use Rattle.lowering_code.specs.Items.{block_total}
 use Rattle.lowering_layout.specs.Tops.{registers_top, insn_top}
 
 -- with registers below most, in so many loops that are open
@@ -13,9 +13,9 @@ IsGood most loops [] = loops ≡ 0
 IsGood most loops (Start ∷ is) = IsGood most loops is
 IsGood most loops (Plain insn ∷ is) =
     IsStraight targets_of flows_on_of insn × (insn_top insn ≤ most) × IsGood most loops is
-IsGood most loops (Jump name ∷ is) = (name ≤ count is) × IsGood most loops is
-IsGood most loops (Branch op ty source name ∷ is) = (source < most) × (name ≤ count is) × IsGood most loops is
-IsGood most loops (Loop name ∷ is) = (name ≤ count is) × IsGood most (suc loops) is
+IsGood most loops (Jump name ∷ is) = (name ≤ block_total is) × IsGood most loops is
+IsGood most loops (Branch op ty source name ∷ is) = (source < most) × (name ≤ block_total is) × IsGood most loops is
+IsGood most loops (Loop name ∷ is) = (name ≤ block_total is) × IsGood most (suc loops) is
 IsGood most loops (Enter ∷ is) = IsGood most (suc loops) is
 IsGood most zero (Again ty source ∷ is) = ⊥
 IsGood most (suc loops) (Again ty source ∷ is) = (source < most) × IsGood most loops is

@@ -6,8 +6,8 @@ use Rattle.lowering_code.specs.Layout as code
 use Rattle.lowering_layout.specs.declared.layout.BlockLayout.{BlockLayout}
 use Rattle.lowering_layout.specs.Tops.{insns_top, blocks_top}
 
-abbrev pub view : BlockLayout → code.Layout
-view l = record { last = l.last; blocks = l.blocks; insns = l.insns; heads = l.heads }
+abbrev pub layout_view : BlockLayout → code.Layout
+layout_view l = record { last = l.last; blocks = l.blocks; insns = l.insns; heads = l.heads }
 
 -- the greatest register so far is counted
 abbrev pub CountsRegisters : BlockLayout → Type 0

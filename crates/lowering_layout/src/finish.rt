@@ -1,12 +1,12 @@
 //! Functions of code.
 
 ghost use Rattle.std.specs.Prelude.{◌≡◌, ◌+◌, ◌*◌, ◌-◌, ◌^◌, ◌<◌, max, length, IfOk, OnOk};
-ghost use Rattle.lowering_code.specs.Items.{count};
+ghost use Rattle.lowering_code.specs.Items.{block_total};
 ghost use Rattle.lowering_code.specs.Layout.{with_items, no_block, blocks_of};
-ghost use Rattle.lowering_code.specs.Functions.{end_of};
+ghost use Rattle.lowering_code.specs.Functions.{end_code};
 ghost use Rattle.lowering_layout.specs.Good.{IsGood};
 ghost use Rattle.lowering_layout.specs.Tops.{blocks_top};
-ghost use Rattle.lowering_layout.specs.Views.{view, CountsRegisters, GoesBackToMarks, with_end};
+ghost use Rattle.lowering_layout.specs.Views.{layout_view, CountsRegisters, GoesBackToMarks, with_end};
 
 use crate::layout::BlockLayout;
 use c_tree::{Name, Seq};
@@ -27,7 +27,7 @@ pub struct FunctionBlocks {
 /// The end of a call that comes to the end of its function: it gives nothing, but of `main` 0.
 fn end(alloc: Global, layout: &mut BlockLayout, locals: u32, main: bool) -> Result<(), AllocError>
     requires { CountsRegisters layout.old }
-    ensures is { OnOk result (view layout.new ≡ with_end (end_of locals main) (view layout.old)) }
+    ensures is { OnOk result (layout_view layout.new ≡ with_end (end_code locals main) (layout_view layout.old)) }
     ensures counted { OnOk result (CountsRegisters layout.new) }
 {
     if main {
@@ -48,7 +48,7 @@ fn end(alloc: Global, layout: &mut BlockLayout, locals: u32, main: bool) -> Resu
 /// All items are laid out.
 fn items(alloc: Global, code: EmittedCode) -> Result<BlockLayout, AllocError>
     requires { length code < 2 ^ 30 }
-    ensures is { IfOk result (λ l. view l ≡ with_items code (no_block (count code))) }
+    ensures is { IfOk result (λ l. layout_view l ≡ with_items code (no_block (block_total code))) }
     ensures counted { IfOk result (λ l. CountsRegisters l) }
 {
     let mut layout = BlockLayout::new(alloc, code.name() as u32);
@@ -68,7 +68,7 @@ fn code_blocks(
     code: EmittedCode,
 ) -> Result<FunctionBlocks, AllocError>
     requires { length code < 2 ^ 30 }
-    ensures blocks { IfOk result (λ l. l.blocks ≡ blocks_of (end_of locals main) code) }
+    ensures blocks { IfOk result (λ l. l.blocks ≡ blocks_of (end_code locals main) code) }
     ensures temps { IfOk result (λ l. l.temps ≡ blocks_top l.blocks) }
 {
     let mut layout = items(alloc, code)?;
@@ -94,7 +94,7 @@ pub fn function(
     ensures name { IfOk result (λ f. f.name ≡ name) }
     ensures params { IfOk result (λ f. f.params ≡ params) }
     ensures objects { IfOk result (λ f. f.objects ≡ objects) }
-    ensures blocks { IfOk result (λ f. f.blocks ≡ blocks_of (end_of locals main) code) }
+    ensures blocks { IfOk result (λ f. f.blocks ≡ blocks_of (end_code locals main) code) }
     ensures temps { IfOk result (λ f. f.temps ≡ max params (blocks_top f.blocks)) }
     ensures marks { IfOk result (λ f. GoesBackToMarks f.blocks) }
 {

@@ -1,7 +1,7 @@
 //! The loops that are open.
 
 ghost use Rattle.std.specs.Prelude.{◌≡◌, [], ◌∷◌, OnOk};
-ghost use Rattle.lowering_code.specs.Layout.{head_of, outer_heads};
+ghost use Rattle.lowering_code.specs.Layout.{head_or_zero, outer_heads};
 
 use std::alloc::{AllocError, Global};
 use std::marker::Model;
@@ -40,7 +40,7 @@ impl Heads {
 
     /// The inner loop ends. Gives its first block, or 0 where there is no loop.
     pub fn pop(&mut self) -> u32
-        ensures block { result ≡ head_of self.old }
+        ensures block { result ≡ head_or_zero self.old }
         ensures rest { self.new ≡ outer_heads self.old }
     {
         match self.blocks.pop() {

@@ -1,8 +1,8 @@
 //! Blocks as they are laid out, item by item.
 
 ghost use Rattle.std.specs.Prelude.{◌≡◌, ◌+◌, ◌-◌, ◌^◌, ◌<◌, length, OnOk};
-ghost use Rattle.lowering_code.specs.Layout.{with_insn, end_block, end_with, open_loop, with_item, no_block};
-ghost use Rattle.lowering_layout.specs.Views.{view, CountsRegisters};
+ghost use Rattle.lowering_code.specs.Layout.{with_insn, end_block, end_with, open_loop, add_item, no_block};
+ghost use Rattle.lowering_layout.specs.Views.{layout_view, CountsRegisters};
 
 use crate::heads::Heads;
 use crate::layout::BlockLayout;
@@ -17,7 +17,7 @@ use suifvm_ir::insn::{VmBranchOp, VmInsn};
 impl BlockLayout {
     /// Nothing is laid out. Takes no memory.
     pub fn new(alloc: Global, last: u32) -> BlockLayout
-        ensures is { view result ≡ no_block last }
+        ensures is { layout_view result ≡ no_block last }
         ensures counted { CountsRegisters result }
     {
         BlockLayout {
@@ -33,7 +33,7 @@ impl BlockLayout {
     #[tactic(auto, using(crate::proofs::Sizes::put_top))]
     pub fn put(&mut self, insn: VmInsn) -> Result<(), AllocError>
         requires { CountsRegisters self.old }
-        ensures is { OnOk result (view self.new ≡ with_insn insn (view self.old)) }
+        ensures is { OnOk result (layout_view self.new ≡ with_insn insn (layout_view self.old)) }
         ensures counted { OnOk result (CountsRegisters self.new) }
     {
         let top = insn_top(&insn);
@@ -46,7 +46,7 @@ impl BlockLayout {
     #[tactic(auto, using(crate::proofs::Sizes::close_top))]
     pub fn close(&mut self, alloc: Global) -> Result<(), AllocError>
         requires { CountsRegisters self.old }
-        ensures is { OnOk result (view self.new ≡ end_block (view self.old)) }
+        ensures is { OnOk result (layout_view self.new ≡ end_block (layout_view self.old)) }
         ensures counted { OnOk result (CountsRegisters self.new) }
     {
         let block = mem::replace(&mut self.insns, Block::new(alloc));
@@ -56,7 +56,7 @@ impl BlockLayout {
     /// The block ends with an instruction.
     pub fn end(&mut self, alloc: Global, insn: VmInsn) -> Result<(), AllocError>
         requires { CountsRegisters self.old }
-        ensures is { OnOk result (view self.new ≡ end_with insn (view self.old)) }
+        ensures is { OnOk result (layout_view self.new ≡ end_with insn (layout_view self.old)) }
         ensures counted { OnOk result (CountsRegisters self.new) }
     {
         self.put(insn)?;
@@ -67,7 +67,7 @@ impl BlockLayout {
     fn begin(&mut self) -> Result<(), AllocError>
         requires counted { CountsRegisters self.old }
         requires room { length self.old.blocks < 2 ^ 32 }
-        ensures is { OnOk result (view self.new ≡ open_loop (view self.old)) }
+        ensures is { OnOk result (layout_view self.new ≡ open_loop (layout_view self.old)) }
         ensures counted { OnOk result (CountsRegisters self.new) }
     {
         self.heads.push(self.blocks.len() as u32)?;
@@ -85,7 +85,7 @@ impl BlockLayout {
     pub fn item(&mut self, alloc: Global, item: CodeItem) -> Result<(), AllocError>
         requires counted { CountsRegisters self.old }
         requires room { length self.old.blocks + 1 < 2 ^ 32 }
-        ensures is { OnOk result (view self.new ≡ with_item item (view self.old)) }
+        ensures is { OnOk result (layout_view self.new ≡ add_item item (layout_view self.old)) }
         ensures counted { OnOk result (CountsRegisters self.new) }
     {
         match item {

@@ -52,7 +52,7 @@ module _ (c : Setting) (levels : LevelMeanings) (found : slice_get c.functions c
     test_items = again_code L c.structs c.locals x rest
 
     abbrev body_items : List CodeItem
-    body_items = stmt_code L c.structs c.locals (items.count rest) (items.count test_items) body (Start ∷ test_items)
+    body_items = stmt_code L c.structs c.locals (items.block_total rest) (items.block_total test_items) body (Start ∷ test_items)
 
     record Places : Type 0 where
       test_block : ℕ
@@ -115,15 +115,15 @@ module _ (c : Setting) (levels : LevelMeanings) (found : slice_get c.functions c
         let aft1 : Aft c f s m f t1 m = record { names = λ o a e. e; lives = λ o. refl; sizes = λ o l. refl; locals = λ a size h. h; turned = omega (arith, less) } in
         turning c.rooms c.functions c.number c.code found c.own c.waiting n.Mark (start_of_block head) r s.world t1.world m m mt [] here.mark refl some refl refl
         (bound c found (exec c.structs c.locals (levels.functions k) (levels.statements k) scope body t1) (after_body (ask k scope)) K (next_place (start_of_block head)) r t1.world m
-        ((hb k).by (items.count rest) (items.count test_items) (Start ∷ test_items) (head ∷ heads) (next_place (start_of_block head)) f scope r t1 m (λ z u. finish (after_body (ask k scope) z u) K) apart here.body_at fit (omega (arith, less, low))
+        ((hb k).by (items.block_total rest) (items.block_total test_items) (Start ∷ test_items) (head ∷ heads) (next_place (start_of_block head)) f scope r t1 m (λ z u. finish (after_body (ask k scope) z u) K) apart here.body_at fit (omega (arith, less, low))
         (record {
           goes = λ q2 h u r2 m2 at2 aft2 fit2.
               fall c.rooms c.functions c.number c.code found c.own c.waiting q2 r2 u.world m2 at2.has.0
               (ask_meets here k below (next_block q2) h scope r2 u m2 K brk con apart (at_start c.code.blocks c.last c.end at2) fit2 (omega (arith, aft2.turned, less, low)) (later (after_on aft1 aft2)));
           breaks = λ h u r2 m2 aft2 fit2.
-              at_block c found r2 u.world m2 here.rest_block (c.last - items.count rest) (let size = here.rest_at.size in omega (arith, size)) (way.goes (start_of_block here.rest_block) h u r2 m2 here.rest_at (after_on aft1 aft2) fit2);
+              at_block c found r2 u.world m2 here.rest_block (c.last - items.block_total rest) (let size = here.rest_at.size in omega (arith, size)) (way.goes (start_of_block here.rest_block) h u r2 m2 here.rest_at (after_on aft1 aft2) fit2);
           continues = λ h u r2 m2 aft2 fit2.
-              at_block c found r2 u.world m2 here.test_block (c.last - items.count test_items) (let size = here.test_at.size in omega (arith, size))
+              at_block c found r2 u.world m2 here.test_block (c.last - items.block_total test_items) (let size = here.test_at.size in omega (arith, size))
               (ask_meets here k below (start_of_block here.test_block) h scope r2 u m2 K brk con apart here.test_at fit2 (omega (arith, aft2.turned, less, low)) (later (after_on aft1 aft2)));
           returns = λ v1 ws h u r2 m2 aft2 fit2 ret. way.returns v1 ws h u r2 m2 (after_on aft1 aft2) fit2 ret;
         }))))
@@ -150,7 +150,7 @@ module _ (c : Setting) (levels : LevelMeanings) (found : slice_get c.functions c
         let head : ℕ = suc p.block in
         let test = again_code L c.structs c.locals x rest in
         let body_at = at_enter c.code.blocks c.last c.end at in
-        let behind : Somewhere c.code.blocks c.last c.end (head ∷ heads) (Start ∷ test) = left_stmt c.code.blocks c.last c.end L c.structs c.locals body (items.count rest) (items.count test) (head ∷ heads) (Start ∷ test) (record { place = next_place (next_block p); at = body_at }) in
+        let behind : Somewhere c.code.blocks c.last c.end (head ∷ heads) (Start ∷ test) = left_stmt c.code.blocks c.last c.end L c.structs c.locals body (items.block_total rest) (items.block_total test) (head ∷ heads) (Start ∷ test) (record { place = next_place (next_block p); at = body_at }) in
         let test_at = at_start c.code.blocks c.last c.end behind.at in
         let block : ℕ = suc behind.place.block in
         let last_item : Somewhere c.code.blocks c.last c.end (head ∷ heads) (Again (register_type (type_of x)) (value_register L 0 (type_of x)) ∷ rest) = left_expr c.code.blocks c.last c.end L c.structs c.locals x 0 (head ∷ heads) _ (record { place = start_of_block block; at = test_at }) in

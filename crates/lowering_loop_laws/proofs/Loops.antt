@@ -50,7 +50,7 @@ module _ (c : Setting) (levels : LevelMeanings) (found : slice_get c.functions c
     test_items = again_code L c.structs c.locals x rest
 
     abbrev body_items : List CodeItem
-    body_items = stmt_code L c.structs c.locals (items.count rest) (items.count test_items) body (Start ∷ test_items)
+    body_items = stmt_code L c.structs c.locals (items.block_total rest) (items.block_total test_items) body (Start ∷ test_items)
 
     -- where the test, and what comes behind, begin
     record Places : Type 0 where
@@ -96,15 +96,15 @@ module _ (c : Setting) (levels : LevelMeanings) (found : slice_get c.functions c
             let aft1 : Aft c f s m g t1 m1 = record { names = aft.names; lives = aft.lives; sizes = aft.sizes; locals = aft.locals; turned = omega (arith, aft.turned, less) } in
             turning c.rooms c.functions c.number c.code found c.own c.waiting n.Mark (start_of_block head) r1 t.world t1.world m1 m1 mt [] here.mark refl some refl refl
             (bound c found (exec c.structs c.locals (levels.functions k) (levels.statements k) scope body t1) (after_body (levels.statements k scope (While x body))) K (next_place (start_of_block head)) r1 t1.world m1
-            ((hb k).by (items.count rest) (items.count test_items) (Start ∷ test_items) (head ∷ heads) (next_place (start_of_block head)) g scope r1 t1 m1 (λ z u. finish (after_body (levels.statements k scope (While x body)) z u) K) apart here.body_at fit1 (omega (arith, aft.turned, less, low))
+            ((hb k).by (items.block_total rest) (items.block_total test_items) (Start ∷ test_items) (head ∷ heads) (next_place (start_of_block head)) g scope r1 t1 m1 (λ z u. finish (after_body (levels.statements k scope (While x body)) z u) K) apart here.body_at fit1 (omega (arith, aft.turned, less, low))
             (record {
               goes = λ q2 h u r2 m2 at2 aft2 fit2.
                   fall c.rooms c.functions c.number c.code found c.own c.waiting q2 r2 u.world m2 at2.has.0
                   (next_round k refl (next_block q2) h u r2 m2 (at_start c.code.blocks c.last c.end at2) (after_on aft1 aft2) fit2 (omega (arith, aft2.turned, less, aft.turned, low)));
               breaks = λ h u r2 m2 aft2 fit2.
-                  at_block c found r2 u.world m2 here.rest_block (c.last - items.count rest) (let size = here.rest_at.size in omega (arith, size)) (way.goes (start_of_block here.rest_block) h u r2 m2 here.rest_at (after_on aft1 aft2) fit2);
+                  at_block c found r2 u.world m2 here.rest_block (c.last - items.block_total rest) (let size = here.rest_at.size in omega (arith, size)) (way.goes (start_of_block here.rest_block) h u r2 m2 here.rest_at (after_on aft1 aft2) fit2);
               continues = λ h u r2 m2 aft2 fit2.
-                  at_block c found r2 u.world m2 here.test_block (c.last - items.count test_items) (let size = here.test_at.size in omega (arith, size))
+                  at_block c found r2 u.world m2 here.test_block (c.last - items.block_total test_items) (let size = here.test_at.size in omega (arith, size))
                   (next_round k refl (start_of_block here.test_block) h u r2 m2 here.test_at (after_on aft1 aft2) fit2 (omega (arith, aft2.turned, less, aft.turned, low)));
               returns = λ v1 ws h u r2 m2 aft2 fit2 ret. way.returns v1 ws h u r2 m2 (after_on aft1 aft2) fit2 ret;
             }))))
@@ -135,8 +135,8 @@ module _ (c : Setting) (levels : LevelMeanings) (found : slice_get c.functions c
     by = λ brk con rest heads p f scope r s m K apart at fit low way.
         let head : ℕ = suc p.block in
         let test = again_code L c.structs c.locals x rest in
-        let body_at = at_loop c.code.blocks c.last c.end (items.count test) at in
-        let behind : Somewhere c.code.blocks c.last c.end (head ∷ heads) (Start ∷ test) = left_stmt c.code.blocks c.last c.end L c.structs c.locals body (items.count rest) (items.count test) (head ∷ heads) (Start ∷ test) (record { place = next_place (next_block p); at = body_at }) in
+        let body_at = at_loop c.code.blocks c.last c.end (items.block_total test) at in
+        let behind : Somewhere c.code.blocks c.last c.end (head ∷ heads) (Start ∷ test) = left_stmt c.code.blocks c.last c.end L c.structs c.locals body (items.block_total rest) (items.block_total test) (head ∷ heads) (Start ∷ test) (record { place = next_place (next_block p); at = body_at }) in
         let test_at = at_start c.code.blocks c.last c.end behind.at in
         let block : ℕ = suc behind.place.block in
         let last_item : Somewhere c.code.blocks c.last c.end (head ∷ heads) (Again (register_type (type_of x)) (value_register L 0 (type_of x)) ∷ rest) = left_expr c.code.blocks c.last c.end L c.structs c.locals x 0 (head ∷ heads) _ (record { place = start_of_block block; at = test_at }) in
@@ -148,8 +148,8 @@ module _ (c : Setting) (levels : LevelMeanings) (found : slice_get c.functions c
           mark = at.has.1;
           body_at = body_at;
         } in
-        jump c.rooms c.functions c.number c.code found c.own c.waiting (c.last - items.count test) p r s.world m at.has.0
-        (at_block c found r s.world m block (c.last - items.count test) (omega (arith, test_at.size))
+        jump c.rooms c.functions c.number c.code found c.own c.waiting (c.last - items.block_total test) p r s.world m at.has.0
+        (at_block c found r s.world m block (c.last - items.block_total test) (omega (arith, test_at.size))
         (rounds rest heads head here k (start_of_block block) f scope r s m K brk con (λ j lt. apart j (let h = inner_least j body in omega (arith, lt, h))) test_at fit low (record { goes = way.goes; breaks = way.breaks; continues = way.continues; returns = way.returns })));
   }
 

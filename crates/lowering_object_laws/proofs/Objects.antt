@@ -16,19 +16,19 @@ use Rattle.c_typed_tree.specs.declared.units.Local.{Local}
 use Rattle.c_typed_tree.specs.View.{type_view}
 use Rattle.c_typed_tree.specs.Layout.{size_of}
 use Rattle.c_semantics.specs.Runs as c
-use Rattle.c_semantics.specs.Objects.{Scope, with_object}
+use Rattle.c_semantics.specs.Objects.{Scope, bind_object}
 use Rattle.vm_meaning.specs.Behave.{Registers}
-use Rattle.lowering_code.specs.Registers.{object_of}
+use Rattle.lowering_code.specs.Registers.{object_index}
 use Rattle.lowering_states.specs.States.{Fits, is_live, size_in}
 use Rattle.lowering_states.proofs.States.{ne_eqb}
 use Rattle.lowering_object_laws.specs.Laws.{MayBegin, LocalBegins, ObjectsEnd, ScopesAreParts, ObjectsBeginAndEnd}
 
 -- ---- two locals in memory have two objects
 
-one_more : (l : Local) (ls : List Local) (k : ℕ) → object_of (l ∷ ls) (suc k) ≡ cond l.in_memory 1 0 + object_of ls k
+one_more : (l : Local) (ls : List Local) (k : ℕ) → object_index (l ∷ ls) (suc k) ≡ cond l.in_memory 1 0 + object_index ls k
 one_more l ls k = sum_by-cons (λ (x : Local). cond x.in_memory 1 0) l (take k ls)
 
-object_less : (ls : List Local) (k j : ℕ) (x : Local) → slice_get ls k ≡ Some x → x.in_memory ≡ true → k < j → object_of ls k < object_of ls j
+object_less : (ls : List Local) (k j : ℕ) (x : Local) → slice_get ls k ≡ Some x → x.in_memory ≡ true → k < j → object_index ls k < object_index ls j
 object_less [] k j x e m lt = absurd (cc)
 object_less (l ∷ ls) zero zero x e m lt = absurd (omega (arith, lt))
 object_less (l ∷ ls) zero (suc j) x e m lt =
@@ -38,7 +38,7 @@ object_less (l ∷ ls) zero (suc j) x e m lt =
 object_less (l ∷ ls) (suc k) zero x e m lt = absurd (omega (arith, lt))
 object_less (l ∷ ls) (suc k) (suc j) x e m lt = let h = object_less ls k j x e m (omega (arith, lt)) in omega (arith, h, one_more l ls k, one_more l ls j)
 
-pub same_object : (ls : List Local) (k j : ℕ) (x y : Local) → slice_get ls k ≡ Some x → x.in_memory ≡ true → slice_get ls j ≡ Some y → y.in_memory ≡ true → object_of ls k ≡ object_of ls j → k ≡ j
+pub same_object : (ls : List Local) (k j : ℕ) (x y : Local) → slice_get ls k ≡ Some x → x.in_memory ≡ true → slice_get ls j ≡ Some y → y.in_memory ≡ true → object_index ls k ≡ object_index ls j → k ≡ j
 same_object ls k j x y ek mk ej mj same = elim (cases_eq k j) [
   | inl e ↦ e
   | inr ne ↦ let up : (k < j) → ⊥ = (λ lt. let h = object_less ls k j x ek mk lt in omega (arith, h, same)) in let down : (j < k) → ⊥ = (λ lt. let h = object_less ls j k y ej mj lt in omega (arith, h, same)) in absurd (either k j ne up down)
@@ -58,10 +58,10 @@ name_here f o q = ap (λ b. if b then Some q else f o) (eq-eqb o o refl)
 name_other : (f : Names) (o q p : ℕ) → p ≢ o → with_name f o q p ≡ f p
 name_other f o q p ne = ap (λ b. if b then Some q else f p) (ne_eqb p o ne)
 
-scope_here : (scope : Scope) (k o : ℕ) → with_object scope k o k ≡ Some o
+scope_here : (scope : Scope) (k o : ℕ) → bind_object scope k o k ≡ Some o
 scope_here scope k o = ap (λ b. if b then Some o else scope k) (eq-eqb k k refl)
 
-scope_other : (scope : Scope) (k o j : ℕ) → j ≢ k → with_object scope k o j ≡ scope j
+scope_other : (scope : Scope) (k o j : ℕ) → j ≢ k → bind_object scope k o j ≡ scope j
 scope_other scope k o j ne = ap (λ b. if b then Some o else scope j) (ne_eqb j k ne)
 
 no_some : {A : Type 0} (o : Option A) (a : A) → o ≡ None → o ≡ Some a → ⊥
@@ -72,7 +72,7 @@ no_some o a none some = cc
 module _ (G : ℕ) (ds : List StructDef) (ls : List Local) (own : ℕ) (f : Names) (scope : Scope) (r : Registers) (l : c.LocalRegisters) (m n : Memory) (input : List ℕ) (k : ℕ) (x : Local) (may : MayBegin ds ls scope k x)
     (fit : Fits G ds ls own f scope r l m n input) where
   abbrev name : ℕ
-  name = own + object_of ls k
+  name = own + object_index ls k
 
   abbrev size : ℕ
   size = size_of ds (type_view x.ty)
@@ -84,7 +84,7 @@ module _ (G : ℕ) (ds : List StructDef) (ls : List Local) (own : ℕ) (f : Name
   m1 = begin_object m size true
 
   abbrev scope1 : Scope
-  scope1 = with_object scope k (length m)
+  scope1 = bind_object scope k (length m)
 
   more : MoreNames f f1
   more p q e = let lt = fit.memory.known p q e in let ne : p ≢ length m = (λ same. absurd (omega (arith, lt, same))) in name_other f (length m) name p ne ∙ e
@@ -107,20 +107,20 @@ module _ (G : ℕ) (ds : List StructDef) (ls : List Local) (own : ℕ) (f : Name
     | inr ne ↦ let h = fit.small p (was p live ne) in let s : size_in m1 p ≡ size_in m p = ap (λ (y : Object). length y.cells) (same_at p ne) in omega (arith, s, h)
   ]
 
-  scopes_in : (j p : ℕ) → scope1 j ≡ Some p → f1 p ≡ Some (own + object_of ls j)
+  scopes_in : (j p : ℕ) → scope1 j ≡ Some p → f1 p ≡ Some (own + object_index ls j)
   scopes_in j p e = elim (cases_eq j k) [
     | inl same ↦
         let at : Some (length m) ≡ Some p = sym (scope_here scope k (length m)) ∙ ap scope1 (sym same) ∙ e in
         let is : length m ≡ p = cc in
-        ap f1 (sym is) ∙ name_here f (length m) name ∙ ap (λ z. Some (own + object_of ls z)) (sym same)
-    | inr ne ↦ more p (own + object_of ls j) (fit.scopes j p (sym (scope_other scope k (length m) j ne) ∙ e))
+        ap f1 (sym is) ∙ name_here f (length m) name ∙ ap (λ z. Some (own + object_index ls z)) (sym same)
+    | inr ne ↦ more p (own + object_index ls j) (fit.scopes j p (sym (scope_other scope k (length m) j ne) ∙ e))
   ]
 
-  owned_in : (j p : ℕ) (y : Local) → slice_get ls j ≡ Some y → y.in_memory ≡ true → is_live m1 p ≡ true → f1 p ≡ Some (own + object_of ls j) → scope1 j ≡ Some p
+  owned_in : (j p : ℕ) (y : Local) → slice_get ls j ≡ Some y → y.in_memory ≡ true → is_live m1 p ≡ true → f1 p ≡ Some (own + object_index ls j) → scope1 j ≡ Some p
   owned_in j p y e mem live named = elim (cases_eq p (length m)) [
     | inl same ↦
-        let q : Some name ≡ Some (own + object_of ls j) = sym (name_here f (length m) name) ∙ ap f1 (sym same) ∙ named in
-        let numbers : own + object_of ls k ≡ own + object_of ls j = cc in
+        let q : Some name ≡ Some (own + object_index ls j) = sym (name_here f (length m) name) ∙ ap f1 (sym same) ∙ named in
+        let numbers : own + object_index ls k ≡ own + object_index ls j = cc in
         let is : k ≡ j = same_object ls k j x y may.found may.inside e mem (omega (arith, numbers)) in
         ap scope1 (sym is) ∙ scope_here scope k (length m) ∙ ap Some (sym same)
     | inr ne ↦
@@ -163,10 +163,10 @@ objects_end G ds ls own f scope r l m n input k o none fit = record {
   scopes = λ j p e. let other : j ≢ k = (λ same. no_some (scope k) p none (ap scope (sym same) ∙ e)) in fit.scopes j p (scope_other scope k o j other ∙ e);
   stands = fit.stands;
   owned = λ j p y e mem live named.
-      let had : with_object scope k o j ≡ Some p = fit.owned j p y e mem (was p live) named in
+      let had : bind_object scope k o j ≡ Some p = fit.owned j p y e mem (was p live) named in
       elim (cases_eq j k) [
         | inl same ↦
-            let at : Some o ≡ Some p = sym (scope_here scope k o) ∙ ap (with_object scope k o) (sym same) ∙ had in
+            let at : Some o ≡ Some p = sym (scope_here scope k o) ∙ ap (bind_object scope k o) (sym same) ∙ had in
             let is : p ≡ o = cc in
             absurd ((end_live m o p live).0 is)
         | inr ne ↦ sym (scope_other scope k o j ne) ∙ had

@@ -9,9 +9,9 @@ use Rattle.c_typed_tree.specs.declared.units.Local.{Local}
 use Rattle.c_typed_tree.specs.View.{type_view}
 use Rattle.c_typed_tree.specs.Layout.{size_of}
 use Rattle.c_semantics.specs.Runs as c
-use Rattle.c_semantics.specs.Objects.{Scope, with_object}
+use Rattle.c_semantics.specs.Objects.{Scope, bind_object}
 use Rattle.vm_meaning.specs.Behave.{Registers}
-use Rattle.lowering_code.specs.Registers.{object_of}
+use Rattle.lowering_code.specs.Registers.{object_index}
 use Rattle.lowering_states.specs.States.{Fits, After}
 
 -- a local that is an object no larger than the data may be, and that no scope around has
@@ -24,7 +24,8 @@ pub record MayBegin (ds : List StructDef) (ls : List Local) (scope : Scope) (k :
 -- the object of a local began, and stands as the object of the call that is its own
 pub record LocalBegins (globals : ℕ) (ds : List StructDef) (ls : List Local) (own : ℕ) (f : Names) (scope : Scope)
     (r : Registers) (l : c.LocalRegisters) (m n : Memory) (input : List ℕ) (k : ℕ) (x : Local) : Type 0 where
-  pub fits : Fits globals ds ls own (with_name f (length m) (own + object_of ls k)) (with_object scope k (length m)) r l
+  pub fits : Fits globals ds ls own (with_name f (length m) (own + object_index ls k))
+      (bind_object scope k (length m)) r l
       (begin_object m (size_of ds (type_view x.ty)) true) n input
 
 abbrev pub ObjectsBegin : Type 0
@@ -38,7 +39,7 @@ abbrev pub ObjectsEnd : Type 0
 ObjectsEnd =
     (globals : ℕ) (ds : List StructDef) (ls : List Local) (own : ℕ) (f : Names) (scope : Scope) (r : Registers)
     (l : c.LocalRegisters) (m n : Memory) (input : List ℕ) (k object : ℕ) → scope k ≡ None →
-    Fits globals ds ls own f (with_object scope k object) r l m n input →
+    Fits globals ds ls own f (bind_object scope k object) r l m n input →
     Fits globals ds ls own f scope r l (end_object m object) n input
 
 -- what a part of a run leaves in between is, with the beginning and the end, what the whole leaves

@@ -23,10 +23,10 @@ use Rattle.c_tree.specs.declared.expressions.UnaryOp.TheVariants as u
 use Rattle.c_typed_tree.specs.Types.{PlainType, Void, Int, Pointer, Array, Struct}
 use Rattle.c_typed_tree.specs.Expressions.{Expr, Global, Unary, Field, Arrow, type_of}
 use Rattle.c_semantics.specs.Reasons.{UsesNoValue}
-use Rattle.c_semantics.specs.Runs.{CallState, and_then, use_value, number, pure}
+use Rattle.c_semantics.specs.Runs.{CallState, and_then, use_value, use_number, pure}
 use Rattle.c_semantics.specs.Objects as objects
-use Rattle.c_semantics.specs.Objects.{Scope, start_of, access, as_integer, read_at, pointer_to, move, move_reason, offset_of, local_place}
-use Rattle.c_semantics.specs.Evaluates.{eval, place, member_at, target_of}
+use Rattle.c_semantics.specs.Objects.{Scope, start_pointer, access, integer_value, read_at, place_pointer, move, move_reason, offset_of, local_place}
+use Rattle.c_semantics.specs.Evaluates.{eval, place, member_pointer, target_of}
 use Rattle.suifvm_ir.specs.declared.types.VmType.TheVariants.{S64, P64}
 use Rattle.suifvm_ir.specs.declared.insn.VmBinaryOp.TheVariants.{Add}
 use Rattle.suifvm_ir.specs.declared.insn.VmObject.TheVariants as p
@@ -149,12 +149,12 @@ module _ (c : Setting) (found : slice_get c.functions c.number ≡ Some c.code) 
   loads_lead t0 to pointer left rest heads g scope t m1 K q q1 base (Word k) fit rel moved stands next = meets_anything c.rooms c.functions refl
   loads_lead t0 to pointer left rest heads g scope t m1 K q q1 base Unset fit rel moved stands next = meets_anything c.rooms c.functions refl
   loads_lead t0 to pointer left rest heads g scope t m1 K q q1 base (Address a) fit rel moved stands next =
-      let I = objects.integer_of (plain_of t0) in
+      let I = objects.integer_or_word (plain_of t0) in
       let mt = memory_type (plain_of t0) in
       let o2 = outer_with_memory t.world.outer m1 in
-      bound c found (access (load_at t.world.outer.memory a (bytes t0) false) t) (as_integer I) K q q1 t.world m1
-      (access_meets c.rooms c.functions (load_at t.world.outer.memory a (bytes t0) false) t (λ v u1. finish (as_integer I v u1) K) _ (λ v ev.
-      bound c found (number v t) (λ k. pure (Word (extension I k))) K q q1 t.world m1
+      bound c found (access (load_at t.world.outer.memory a (bytes t0) false) t) (integer_value I) K q q1 t.world m1
+      (access_meets c.rooms c.functions (load_at t.world.outer.memory a (bytes t0) false) t (λ v u1. finish (integer_value I v u1) K) _ (λ v ev.
+      bound c found (use_number v t) (λ k. pure (Word (extension I k))) K q q1 t.world m1
       (number_meets c.rooms c.functions v t (λ k u1. K (Word (extension I k)) u1) _ (λ k vk.
       let same = memory-plain t0 in
       let got = (memories_correspond g t.world.outer.memory m1 fit.memory).1.loads mt base (q1 pointer) left a v rel moved
@@ -246,10 +246,10 @@ module _ (c : Setting) (found : slice_get c.functions c.number ≡ Some c.code) 
         let off = offset_of c.structs (type_of x) member in
         let sum : member_plus c.structs (type_of x) member 0 ≡ off = ap (λ z. min z (2 ^ 63 - 1)) (nothing off) ∙ exact off (omega (arith, within.lies, within.size)) in
         let at2 = subst (λ k. Stands c heads p1 (place_code L c.structs c.locals d x k (load_code L d ty (left_of c x k) rest))) sum at in
-        bound c found (and_then (and_then (place c.structs c.locals c.calls scope x s) pointer_to) (member_at c.structs (type_of x) member)) (read_at ty) K p1 r s.world m
-        (bound c found (and_then (place c.structs c.locals c.calls scope x s) pointer_to) (member_at c.structs (type_of x) member) (λ v t. finish (read_at ty v t) K) p1 r s.world m
-        (bound c found (place c.structs c.locals c.calls scope x s) pointer_to (λ v t. finish (member_at c.structs (type_of x) member v t) (λ v t. finish (read_at ty v t) K)) p1 r s.world m
-        (hx.by d off (load_code L d ty (left_of c x off) rest) heads p1 f scope r s m (λ z t. finish (pointer_to z t) (λ v t. finish (member_at c.structs (type_of x) member v t) (λ v t. finish (read_at ty v t) K)))
+        bound c found (and_then (and_then (place c.structs c.locals c.calls scope x s) place_pointer) (member_pointer c.structs (type_of x) member)) (read_at ty) K p1 r s.world m
+        (bound c found (and_then (place c.structs c.locals c.calls scope x s) place_pointer) (member_pointer c.structs (type_of x) member) (λ v t. finish (read_at ty v t) K) p1 r s.world m
+        (bound c found (place c.structs c.locals c.calls scope x s) place_pointer (λ v t. finish (member_pointer c.structs (type_of x) member v t) (λ v t. finish (read_at ty v t) K)) p1 r s.world m
+        (hx.by d off (load_code L d ty (left_of c x off) rest) heads p1 f scope r s m (λ z t. finish (place_pointer z t) (λ v t. finish (member_pointer c.structs (type_of x) member v t) (λ v t. finish (read_at ty v t) K)))
         (omega (arith, within.lies, within.size)) (omega (arith, within.lies)) at2 fit low
         (λ q base v g t q1 m1 at1 aft fit1 kept held stands small is_base.
         moved_meets c found v off t (λ v t. finish (read_at ty v t) K) (λ u moved.
@@ -265,11 +265,11 @@ module _ (c : Setting) (found : slice_get c.functions c.number ≡ Some c.code) 
         let sum : member_plus c.structs (target_of (type_of x)) member 0 ≡ off =
         ap (λ z. member_plus c.structs z member 0) same_target ∙ ap (λ z. min z (2 ^ 63 - 1)) (nothing off) ∙ exact off (omega (arith, within.lies, within.size)) in
         let at2 = subst (λ k. Stands c heads p1 (expr_code L c.structs c.locals d x (load_code L d ty k rest))) sum at in
-        bound c found (and_then (eval c.structs c.locals c.calls scope x s) (member_at c.structs (target_of (type_of x)) member)) (read_at ty) K p1 r s.world m
-        (bound c found (eval c.structs c.locals c.calls scope x s) (member_at c.structs (target_of (type_of x)) member) (λ v t. finish (read_at ty v t) K) p1 r s.world m
-        (hx.by d (load_code L d ty off rest) heads p1 f scope r s m (λ v t. finish (member_at c.structs (target_of (type_of x)) member v t) (λ v t. finish (read_at ty v t) K)) at2 fit low
+        bound c found (and_then (eval c.structs c.locals c.calls scope x s) (member_pointer c.structs (target_of (type_of x)) member)) (read_at ty) K p1 r s.world m
+        (bound c found (eval c.structs c.locals c.calls scope x s) (member_pointer c.structs (target_of (type_of x)) member) (λ v t. finish (read_at ty v t) K) p1 r s.world m
+        (hx.by d (load_code L d ty off rest) heads p1 f scope r s m (λ v t. finish (member_pointer c.structs (target_of (type_of x)) member v t) (λ v t. finish (read_at ty v t) K)) at2 fit low
         (λ q v g t q1 m1 at1 aft fit1 kept held stands.
-        meets_same c.rooms c.functions (ap (λ z. finish (member_at c.structs z member v t) (λ v t. finish (read_at ty v t) K)) same_target)
+        meets_same c.rooms c.functions (ap (λ z. finish (member_pointer c.structs z member v t) (λ v t. finish (read_at ty v t) K)) same_target)
         (moved_meets c found v off t (λ v t. finish (read_at ty v t) K) (λ u moved.
         load_on d off rest heads f scope r s m K q v u g t q1 m1 aft fit1 kept (moved_held t.world.outer.memory v u (pos off) Void moved) (pointer_in c found g d (type_of x) target v q1 ex stands) (omega (arith, within.lies, within.size)) (inr moved) ty whole next at1)))));
   }
@@ -278,8 +278,8 @@ module _ (c : Setting) (found : slice_get c.functions c.number ≡ Some c.code) 
   unfolding opens
   addresses target x hx = record {
     by = λ d rest heads p1 f scope r s m K at fit low next.
-        bound c found (place c.structs c.locals c.calls scope x s) pointer_to K p1 r s.world m
-        (hx.by d 0 (moved_code L d (left_of c x 0) rest) heads p1 f scope r s m (λ z t. finish (pointer_to z t) K) (omega arith) (omega arith) at fit low
+        bound c found (place c.structs c.locals c.calls scope x s) place_pointer K p1 r s.world m
+        (hx.by d 0 (moved_code L d (left_of c x 0) rest) heads p1 f scope r s m (λ z t. finish (place_pointer z t) K) (omega arith) (omega arith) at fit low
         (λ q base v g t q1 m1 at1 aft fit1 kept held stands small is_base.
         moved_on d (left_of c x 0) rest heads scope r q base v g t q1 m1 at1 fit1 kept stands small (is_base v (inl (refl, refl)))
         (λ q2 q3 stands2 fit2 kept2 rel2. next q2 v g t q3 m1 stands2 aft fit2 kept2 (held_pointer Void target v held) rel2)));

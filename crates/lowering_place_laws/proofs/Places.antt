@@ -19,8 +19,8 @@ use Rattle.c_typed_tree.specs.Expressions as e
 use Rattle.c_semantics.specs.Reasons.{UsesNoValue, UsesDeadObject}
 use Rattle.c_semantics.specs.Runs.{CallState, Run, and_then, use_value, pure, or_undefined}
 use Rattle.c_semantics.specs.Objects as objects
-use Rattle.c_semantics.specs.Objects.{Scope, start_of, access, as_integer, read_at, pointer_to, move, move_reason, offset_of, local_place}
-use Rattle.c_semantics.specs.Evaluates.{eval, place, member_at, target_of}
+use Rattle.c_semantics.specs.Objects.{Scope, start_pointer, access, integer_value, read_at, place_pointer, move, move_reason, offset_of, local_place}
+use Rattle.c_semantics.specs.Evaluates.{eval, place, member_pointer, target_of}
 use Rattle.suifvm_ir.specs.declared.types.VmType.TheVariants.{P64}
 use Rattle.suifvm_ir.specs.declared.insn.VmObject as vp
 use Rattle.suifvm_ir.specs.declared.insn.VmObject.TheVariants as p
@@ -28,7 +28,7 @@ use Rattle.suifvm_ir.specs.declared.insn.VmInsn.TheVariants as n
 use Rattle.vm_meaning.specs.Operations as vm
 use Rattle.vm_meaning.specs.Behave.{Registers, set_register}
 use Rattle.lowering_code.specs.declared.item.CodeItem.{CodeItem}
-use Rattle.lowering_code.specs.Registers.{value_register, address_register, object_of}
+use Rattle.lowering_code.specs.Registers.{value_register, address_register, object_index}
 use Rattle.lowering_code.specs.Expressions.{address_code, member_plus, place_code}
 use Rattle.lowering_states.specs.Places.{CodePlace, next_place}
 use Rattle.lowering_states.specs.Runs.{opens, CodeObservation, finish}
@@ -70,14 +70,14 @@ same_moved m (Address q) u e =
 abbrev pub byte_of : (object plus : ℕ) → Value
 byte_of o plus = Address (record { object = o; offset = pos plus })
 
-byte_moved : (m : Memory) (o plus : ℕ) (u : Value) → IsMoved m (start_of o) plus u → u ≡ byte_of o plus
+byte_moved : (m : Memory) (o plus : ℕ) (u : Value) → IsMoved m (start_pointer o) plus u → u ≡ byte_of o plus
 byte_moved m o plus u (inl h) = h.1 ∙ ap (byte_of o) (sym h.0)
 byte_moved m o plus u (inr h) =
     let q : Ptr = record { object = o; offset = pos 0 } in
     let sum : 0 + plus ≡ plus = omega arith in
     sym (when-some (is_live m q && is_offset (q.offset +ℤ pos plus) (size_at m q)) (Address (ptr_plus q (pos plus))) u h).1 ∙ ap (λ k. byte_of o k) sum
 
-pub byte_base : (m : Memory) (o plus : ℕ) → IsBase m (byte_of o plus) 0 (start_of o) plus
+pub byte_base : (m : Memory) (o plus : ℕ) → IsBase m (byte_of o plus) 0 (start_pointer o) plus
 byte_base m o plus u h = inl (refl, byte_moved m o plus u h)
 
 -- a place moved to a member
@@ -121,7 +121,7 @@ module _ (c : Setting) (found : slice_get c.functions c.number ≡ Some c.code) 
         let w = byte_of k plus in
         let reg = address_register L d in
         address_meets d (p.Global k) plus rest heads place r s.world m at
-        (next (next_place place) w (start_of k) f s (set_register reg w r) m (at_plain c.code.blocks c.last c.end _ at) after_same (fits_temporary d P64 w fit) (kept_temporary d P64 w (omega arith) kept_all) tt
+        (next (next_place place) w (start_pointer k) f s (set_register reg w r) m (at_plain c.code.blocks c.last c.end _ at) after_same (fits_temporary d P64 w fit) (kept_temporary d P64 w (omega arith) kept_all) tt
         (value_at f w w r reg (address_of f k k plus (fit.statics k lt))) (omega arith) (byte_base s.world.outer.memory k plus));
   }
 
@@ -130,15 +130,15 @@ module _ (c : Setting) (found : slice_get c.functions c.number ≡ Some c.code) 
   locals ty k l found_local in_memory = record {
     by = λ d plus rest heads place f scope r s m K le fits at fit low next.
         let reg = address_register L d in
-        let name = c.own + object_of c.locals k in
+        let name = c.own + object_index c.locals k in
         meets_same c.rooms c.functions
         (ap (λ z. finish (local_place scope k z s) K) found_local
-        ∙ ap (λ z. finish (if◌then◌else◌ {A = Run objects.ValuePlace} z (λ t. and_then (or_undefined UsesDeadObject (scope k) t) (λ o. pure (objects.At (start_of o)))) (pure (objects.Register k)) s) K) in_memory)
-        (bound c found (or_undefined UsesDeadObject (scope k) s) (λ o. pure (objects.At (start_of o))) K place r s.world m
-        (known_meets c.rooms c.functions UsesDeadObject (scope k) s (λ o t. K (objects.At (start_of o)) t) _ (λ o here.
+        ∙ ap (λ z. finish (if◌then◌else◌ {A = Run objects.ValuePlace} z (λ t. and_then (or_undefined UsesDeadObject (scope k) t) (λ o. pure (objects.At (start_pointer o)))) (pure (objects.Register k)) s) K) in_memory)
+        (bound c found (or_undefined UsesDeadObject (scope k) s) (λ o. pure (objects.At (start_pointer o))) K place r s.world m
+        (known_meets c.rooms c.functions UsesDeadObject (scope k) s (λ o t. K (objects.At (start_pointer o)) t) _ (λ o here.
         let w = byte_of name plus in
-        address_meets d (p.Local (object_of c.locals k)) plus rest heads place r s.world m at
-        (next (next_place place) (byte_of o plus) (start_of o) f s (set_register reg w r) m (at_plain c.code.blocks c.last c.end _ at) after_same (fits_temporary d P64 w fit) (kept_temporary d P64 w (omega arith) kept_all) tt
+        address_meets d (p.Local (object_index c.locals k)) plus rest heads place r s.world m at
+        (next (next_place place) (byte_of o plus) (start_pointer o) f s (set_register reg w r) m (at_plain c.code.blocks c.last c.end _ at) after_same (fits_temporary d P64 w fit) (kept_temporary d P64 w (omega arith) kept_all) tt
         (value_at f (byte_of o plus) w r reg (address_of f o name plus (fit.scopes k o here))) (omega arith) (byte_base s.world.outer.memory o plus)))));
   }
 
@@ -173,10 +173,10 @@ module _ (c : Setting) (found : slice_get c.functions c.number ≡ Some c.code) 
         let off = offset_of c.structs (type_of x) member in
         let sum : member_plus c.structs (type_of x) member plus ≡ off + plus = exact (off + plus) (omega (arith, within.lies, within.size, fits)) in
         let run : Value → Run objects.ValuePlace = λ v. pure (objects.At v) in
-        bound c found (and_then (and_then (place c.structs c.locals c.calls scope x s) pointer_to) (member_at c.structs (type_of x) member)) run K p1 r s.world m
-        (bound c found (and_then (place c.structs c.locals c.calls scope x s) pointer_to) (member_at c.structs (type_of x) member) (λ v t. K (objects.At v) t) p1 r s.world m
-        (bound c found (place c.structs c.locals c.calls scope x s) pointer_to (λ v t. finish (member_at c.structs (type_of x) member v t) (λ v t. K (objects.At v) t)) p1 r s.world m
-        (hx.by d (off + plus) rest heads p1 f scope r s m (λ z t. finish (pointer_to z t) (λ v t. finish (member_at c.structs (type_of x) member v t) (λ v t. K (objects.At v) t)))
+        bound c found (and_then (and_then (place c.structs c.locals c.calls scope x s) place_pointer) (member_pointer c.structs (type_of x) member)) run K p1 r s.world m
+        (bound c found (and_then (place c.structs c.locals c.calls scope x s) place_pointer) (member_pointer c.structs (type_of x) member) (λ v t. K (objects.At v) t) p1 r s.world m
+        (bound c found (place c.structs c.locals c.calls scope x s) place_pointer (λ v t. finish (member_pointer c.structs (type_of x) member v t) (λ v t. K (objects.At v) t)) p1 r s.world m
+        (hx.by d (off + plus) rest heads p1 f scope r s m (λ z t. finish (place_pointer z t) (λ v t. finish (member_pointer c.structs (type_of x) member v t) (λ v t. K (objects.At v) t)))
         (omega (arith, within.lies, within.size, fits)) (omega (arith, within.lies, fits)) (subst (λ k. Stands c heads p1 (place_code L c.structs c.locals d x k rest)) sum at) fit low
         (λ q base v g t q1 m1 at1 aft fit1 kept held stands small is_base.
         moved_meets v off t (λ v t. K (objects.At v) t) (λ u moved.
@@ -193,11 +193,11 @@ module _ (c : Setting) (found : slice_get c.functions c.number ≡ Some c.code) 
         let same_target : target_of (type_of x) ≡ target = ap target_of ex in
         let sum : left_of c (Arrow ty x member) plus ≡ off + plus = ap (λ z. member_plus c.structs z member plus) same_target ∙ exact (off + plus) (omega (arith, within.lies, within.size, fits)) in
         let run : Value → Run objects.ValuePlace = λ v. pure (objects.At v) in
-        bound c found (and_then (eval c.structs c.locals c.calls scope x s) (member_at c.structs (target_of (type_of x)) member)) run K p1 r s.world m
-        (bound c found (eval c.structs c.locals c.calls scope x s) (member_at c.structs (target_of (type_of x)) member) (λ v t. K (objects.At v) t) p1 r s.world m
-        (hx.by d rest heads p1 f scope r s m (λ v t. finish (member_at c.structs (target_of (type_of x)) member v t) (λ v t. K (objects.At v) t)) at fit low
+        bound c found (and_then (eval c.structs c.locals c.calls scope x s) (member_pointer c.structs (target_of (type_of x)) member)) run K p1 r s.world m
+        (bound c found (eval c.structs c.locals c.calls scope x s) (member_pointer c.structs (target_of (type_of x)) member) (λ v t. K (objects.At v) t) p1 r s.world m
+        (hx.by d rest heads p1 f scope r s m (λ v t. finish (member_pointer c.structs (target_of (type_of x)) member v t) (λ v t. K (objects.At v) t)) at fit low
         (λ q v g t q1 m1 at1 aft fit1 kept held stands.
-        meets_same c.rooms c.functions (ap (λ z. finish (member_at c.structs z member v t) (λ v t. K (objects.At v) t)) same_target)
+        meets_same c.rooms c.functions (ap (λ z. finish (member_pointer c.structs z member v t) (λ v t. K (objects.At v) t)) same_target)
         (moved_meets v off t (λ v t. K (objects.At v) t) (λ u moved.
         next q v u g t q1 m1 at1 aft fit1 kept (moved_held t.world.outer.memory v u (pos off) Void moved) (pointer_in g d (type_of x) target v q1 ex stands)
         (subst (λ k. k ≤ MOST_DATA) (sym sum) (omega (arith, within.lies, within.size, fits)))

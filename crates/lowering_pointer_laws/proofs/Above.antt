@@ -18,11 +18,11 @@ use Rattle.c_typed_tree.specs.declared.types.StructDef.{StructDef}
 use Rattle.c_typed_tree.specs.Types.{PlainType, Void, Pointer}
 use Rattle.c_typed_tree.specs.Layout.{size_of}
 use Rattle.c_typed_tree.specs.Expressions.{Expr, Binary, Index, type_of}
-use Rattle.c_semantics.specs.Runs.{CallState, Run, and_then, number, pure}
+use Rattle.c_semantics.specs.Runs.{CallState, Run, and_then, use_number, pure}
 use Rattle.c_semantics.specs.Objects as obj
 use Rattle.c_semantics.specs.Objects.{Scope, read_at, stands_inside, element_plus, move_reason, move_elements, move_by}
-use Rattle.c_semantics.specs.Operators.{binary}
-use Rattle.c_semantics.specs.Evaluates.{eval, element}
+use Rattle.c_semantics.specs.Operators.{apply_binary}
+use Rattle.c_semantics.specs.Evaluates.{eval, element_pointer}
 use Rattle.suifvm_ir.specs.declared.types.VmType.TheVariants.{P64}
 use Rattle.suifvm_ir.specs.declared.insn.VmBinaryOp.TheVariants.{Add}
 use Rattle.suifvm_ir.specs.declared.insn.VmInsn.TheVariants as n
@@ -48,7 +48,7 @@ use Rattle.lowering_pointer_laws.specs.Laws.{PointersAboveAreMoved}
 use Rattle.lowering_pointer_laws.proofs.Numbers.{IsSmall}
 use Rattle.lowering_pointer_laws.proofs.Moves.{IsMovedBy, moved_by, long_bytes, kept_both, long_leads, sized_leads}
 
-sum_is : (ds : List StructDef) (target : PlainType) (t : IntegerType) → ◌≡◌ {A = Value → Value → Run Value} (binary ds b.Add (plain_of t) (Pointer target)) (λ v w. move_by ds target t w v)
+sum_is : (ds : List StructDef) (target : PlainType) (t : IntegerType) → ◌≡◌ {A = Value → Value → Run Value} (apply_binary ds b.Add (plain_of t) (Pointer target)) (λ v w. move_by ds target t w v)
 sum_is ds target i.Char = refl
 sum_is ds target i.UnsignedChar = refl
 sum_is ds target i.Short = refl
@@ -58,7 +58,7 @@ sum_is ds target i.UnsignedInt = refl
 sum_is ds target i.Long = refl
 sum_is ds target i.UnsignedLong = refl
 
-element_is : (ds : List StructDef) (target : PlainType) (t : IntegerType) → ◌≡◌ {A = Value → Value → Run Value} (element ds (plain_of t) (Pointer target)) (λ v w. move_by ds target t w v)
+element_is : (ds : List StructDef) (target : PlainType) (t : IntegerType) → ◌≡◌ {A = Value → Value → Run Value} (element_pointer ds (plain_of t) (Pointer target)) (λ v w. move_by ds target t w v)
 element_is ds target i.Char = refl
 element_is ds target i.UnsignedChar = refl
 element_is ds target i.Short = refl
@@ -139,7 +139,7 @@ module _ (c : Setting) (found : slice_get c.functions c.number ≡ Some c.code) 
       (λ q2 w h u q3 m2 at2 aft2 fit2 kept2 held2 stands2.
       let moves : ℕ → Run Value = (λ k. move_elements w (value t k *ℤ pos size)) in
       let rel : IsValueOf h w (q3 (address_register (count c) (suc d))) = subst (λ z. IsInRegister h z w (q3 (value_register (count c) (suc d) z))) ey stands2 in
-      bound c found (number v u) moves K q2 q3 u.world m2
+      bound c found (use_number v u) moves K q2 q3 u.world m2
       (number_meets c.rooms c.functions v u (λ k u1. finish (moves k u1) K) _ (λ k is.
       let word1 = word_in g (count c) d (type_of x) t v k q1 ex is held stands in
       let word2 : WordIn (count c) d t k q3 = record { is_one = word1.is_one; stands = kept_reads d (register_type (plain_of t)) (omega arith) kept2 ∙ word1.stands } in
@@ -156,7 +156,7 @@ module _ (c : Setting) (found : slice_get c.functions c.number ≡ Some c.code) 
         let code_e : binary_code (count c) c.structs b.Add d (Pointer target) (type_of x) (type_of y) rest ≡ back_tail (count c) c.structs d target t rest =
         ap (λ z. binary_code (count c) c.structs b.Add d (Pointer target) z (type_of y) rest) ex ∙ ap (λ z. binary_code (count c) c.structs b.Add d (Pointer target) (plain_of t) z rest) ey ∙ sum_code (count c) c.structs d target t rest in
         meets_same c.rooms c.functions
-        (ap (λ z. finish (run_by (λ v w. binary c.structs b.Add z (type_of y) v w) scope s) K) ex ∙ ap (λ z. finish (run_by (λ v w. binary c.structs b.Add (plain_of t) z v w) scope s) K) ey
+        (ap (λ z. finish (run_by (λ v w. apply_binary c.structs b.Add z (type_of y) v w) scope s) K) ex ∙ ap (λ z. finish (run_by (λ v w. apply_binary c.structs b.Add (plain_of t) z v w) scope s) K) ey
         ∙ ap (λ z. finish (run_by z scope s) K) (sum_is c.structs target t))
         (moves_lead d rest heads p f scope r s m K (subst (λ z. Stands c heads p (expr_code (count c) c.structs c.locals d x (expr_code (count c) c.structs c.locals (suc d) y z))) code_e at) fit low next);
   }
@@ -164,16 +164,16 @@ module _ (c : Setting) (found : slice_get c.functions c.number ≡ Some c.code) 
   element_code_is : (d : ℕ) (rest : List CodeItem) → element_code (count c) c.structs d (type_of x) (type_of y) rest ≡ back_tail (count c) c.structs d target t rest
   element_code_is d rest = ap (λ z. element_code (count c) c.structs d z (type_of y) rest) ex ∙ ap (λ z. element_code (count c) c.structs d (plain_of t) z rest) ey ∙ element_code_by (count c) c.structs d target t rest
 
-  element_run : (scope : Scope) (s : CallState) → run_by (element c.structs (type_of x) (type_of y)) scope s ≡ run_by (λ v w. move_by c.structs target t w v) scope s
+  element_run : (scope : Scope) (s : CallState) → run_by (element_pointer c.structs (type_of x) (type_of y)) scope s ≡ run_by (λ v w. move_by c.structs target t w v) scope s
   element_run scope s =
-      ap (λ z. run_by (λ v w. element c.structs z (type_of y) v w) scope s) ex ∙ ap (λ z. run_by (λ v w. element c.structs (plain_of t) z v w) scope s) ey ∙ ap (λ z. run_by z scope s) (element_is c.structs target t)
+      ap (λ z. run_by (λ v w. element_pointer c.structs z (type_of y) v w) scope s) ex ∙ ap (λ z. run_by (λ v w. element_pointer c.structs (plain_of t) z v w) scope s) ey ∙ ap (λ z. run_by z scope s) (element_is c.structs target t)
 
   pub elements : (ty : PlainType) → HasWholeIntegers ty → ExprMeets c (Index ty x y)
   unfolding opens
   elements ty whole = record {
     by = λ d rest heads p f scope r s m K at fit low next.
         let K1 : Value → CallState → CodeObservation = (λ v u. finish (read_at ty v u) K) in
-        bound c found (run_by (element c.structs (type_of x) (type_of y)) scope s) (read_at ty) K p r s.world m
+        bound c found (run_by (element_pointer c.structs (type_of x) (type_of y)) scope s) (read_at ty) K p r s.world m
         (meets_same c.rooms c.functions (ap (λ z. finish z K1) (element_run scope s))
         (moves_lead d (load_code (count c) d ty 0 rest) heads p f scope r s m K1
         (subst (λ z. Stands c heads p (expr_code (count c) c.structs c.locals d x (expr_code (count c) c.structs c.locals (suc d) y z))) (element_code_is d (load_code (count c) d ty 0 rest)) at) fit low
@@ -186,7 +186,7 @@ module _ (c : Setting) (found : slice_get c.functions c.number ≡ Some c.code) 
   element_places ty = record {
     by = λ d plus rest heads p f scope r s m K small fits at fit low next.
         let K1 : Value → CallState → CodeObservation = (λ v u. K (obj.At v) u) in
-        bound c found (run_by (element c.structs (type_of x) (type_of y)) scope s) (λ v. pure (obj.At v)) K p r s.world m
+        bound c found (run_by (element_pointer c.structs (type_of x) (type_of y)) scope s) (λ v. pure (obj.At v)) K p r s.world m
         (meets_same c.rooms c.functions (ap (λ z. finish z K1) (element_run scope s))
         (moves_lead d rest heads p f scope r s m K1 (subst (λ z. Stands c heads p (expr_code (count c) c.structs c.locals d x (expr_code (count c) c.structs c.locals (suc d) y z))) (element_code_is d rest) at) fit low
         (λ q v g u q1 m1 at1 aft fit1 kept held rel. next q v v g u q1 m1 at1 aft fit1 kept (held_pointer target Void v held) rel small (own_base u.world.outer.memory v plus))));

@@ -19,7 +19,7 @@ use Rattle.c_typed_tree.specs.Expressions.{Expr, Binary, type_of}
 use Rattle.c_semantics.specs.Reasons.{Reason, ComparesApart, ComparesAtEnd}
 use Rattle.c_semantics.specs.Runs.{CallState, Run, and_then, or_undefined}
 use Rattle.c_semantics.specs.Objects.{Scope}
-use Rattle.c_semantics.specs.Operators.{unless_dead, pure_truth, binary}
+use Rattle.c_semantics.specs.Operators.{unless_dead, pure_truth, apply_binary}
 use Rattle.c_semantics.specs.Evaluates.{eval}
 use Rattle.suifvm_ir.specs.declared.types.VmType.TheVariants.{P64}
 use Rattle.suifvm_ir.specs.declared.insn.CompareOp.{CompareOp}
@@ -109,8 +109,8 @@ module _ (c : Setting) (found : slice_get c.functions c.number ≡ Some c.code) 
     by = λ d rest heads p f scope r s m K at fit low next.
         let code_e : binary_code L c.structs b.Less d T (type_of x) (type_of y) rest ≡ Plain (n.Compare Less P64 (value_register L d T) (address_register L d) (address_register L (suc d))) ∷ rest =
         ap (λ z. binary_code L c.structs b.Less d T z (type_of y) rest) ex ∙ ap (λ z. binary_code L c.structs b.Less d T (Pointer target) z rest) ey in
-        meets_same c.rooms c.functions (ap (λ z. finish (run_by (λ v w. binary c.structs b.Less z (type_of y) v w) scope s) K) ex ∙ ap (λ z. finish (run_by (λ v w. binary c.structs b.Less (Pointer target) z v w) scope s) K) ey)
-        (both_lead (λ v w. binary c.structs b.Less (Pointer target) (Pointer other) v w) d (Plain (n.Compare Less P64 (value_register L d T) (address_register L d) (address_register L (suc d))) ∷ rest) heads p f scope r s m K
+        meets_same c.rooms c.functions (ap (λ z. finish (run_by (λ v w. apply_binary c.structs b.Less z (type_of y) v w) scope s) K) ex ∙ ap (λ z. finish (run_by (λ v w. apply_binary c.structs b.Less (Pointer target) z v w) scope s) K) ey)
+        (both_lead (λ v w. apply_binary c.structs b.Less (Pointer target) (Pointer other) v w) d (Plain (n.Compare Less P64 (value_register L d T) (address_register L d) (address_register L (suc d))) ∷ rest) heads p f scope r s m K
         (subst (λ z. Stands c heads p (expr_code L c.structs c.locals d x (expr_code L c.structs c.locals (suc d) y z))) code_e at) fit low
         (λ q v w h u q1 n1 at1 both.
         compare_leads Less (λ z. z) (unless_dead u.world.outer.memory v w ComparesApart) (pointer_lt u.world.outer.memory v w) d (address_register L d) (address_register L (suc d)) rest heads f scope r s m K v w h u q1 n1 q at1 both next
@@ -123,8 +123,8 @@ module _ (c : Setting) (found : slice_get c.functions c.number ≡ Some c.code) 
     by = λ d rest heads p f scope r s m K at fit low next.
         let code_e : binary_code L c.structs b.Greater d T (type_of x) (type_of y) rest ≡ Plain (n.Compare Less P64 (value_register L d T) (address_register L (suc d)) (address_register L d)) ∷ rest =
         ap (λ z. binary_code L c.structs b.Greater d T z (type_of y) rest) ex ∙ ap (λ z. binary_code L c.structs b.Greater d T (Pointer target) z rest) ey in
-        meets_same c.rooms c.functions (ap (λ z. finish (run_by (λ v w. binary c.structs b.Greater z (type_of y) v w) scope s) K) ex ∙ ap (λ z. finish (run_by (λ v w. binary c.structs b.Greater (Pointer target) z v w) scope s) K) ey)
-        (both_lead (λ v w. binary c.structs b.Greater (Pointer target) (Pointer other) v w) d (Plain (n.Compare Less P64 (value_register L d T) (address_register L (suc d)) (address_register L d)) ∷ rest) heads p f scope r s m K
+        meets_same c.rooms c.functions (ap (λ z. finish (run_by (λ v w. apply_binary c.structs b.Greater z (type_of y) v w) scope s) K) ex ∙ ap (λ z. finish (run_by (λ v w. apply_binary c.structs b.Greater (Pointer target) z v w) scope s) K) ey)
+        (both_lead (λ v w. apply_binary c.structs b.Greater (Pointer target) (Pointer other) v w) d (Plain (n.Compare Less P64 (value_register L d T) (address_register L (suc d)) (address_register L d)) ∷ rest) heads p f scope r s m K
         (subst (λ z. Stands c heads p (expr_code L c.structs c.locals d x (expr_code L c.structs c.locals (suc d) y z))) code_e at) fit low
         (λ q v w h u q1 n1 at1 both.
         compare_leads Less (λ z. z) (unless_dead u.world.outer.memory w v ComparesApart) (pointer_lt u.world.outer.memory w v) d (address_register L (suc d)) (address_register L d) rest heads f scope r s m K v w h u q1 n1 q at1 both next
@@ -137,8 +137,8 @@ module _ (c : Setting) (found : slice_get c.functions c.number ≡ Some c.code) 
     by = λ d rest heads p f scope r s m K at fit low next.
         let code_e : binary_code L c.structs b.LessEqual d T (type_of x) (type_of y) rest ≡ Plain (n.Compare LessOrEqual P64 (value_register L d T) (address_register L d) (address_register L (suc d))) ∷ rest =
         ap (λ z. binary_code L c.structs b.LessEqual d T z (type_of y) rest) ex ∙ ap (λ z. binary_code L c.structs b.LessEqual d T (Pointer target) z rest) ey in
-        meets_same c.rooms c.functions (ap (λ z. finish (run_by (λ v w. binary c.structs b.LessEqual z (type_of y) v w) scope s) K) ex ∙ ap (λ z. finish (run_by (λ v w. binary c.structs b.LessEqual (Pointer target) z v w) scope s) K) ey)
-        (both_lead (λ v w. binary c.structs b.LessEqual (Pointer target) (Pointer other) v w) d (Plain (n.Compare LessOrEqual P64 (value_register L d T) (address_register L d) (address_register L (suc d))) ∷ rest) heads p f scope r s m K
+        meets_same c.rooms c.functions (ap (λ z. finish (run_by (λ v w. apply_binary c.structs b.LessEqual z (type_of y) v w) scope s) K) ex ∙ ap (λ z. finish (run_by (λ v w. apply_binary c.structs b.LessEqual (Pointer target) z v w) scope s) K) ey)
+        (both_lead (λ v w. apply_binary c.structs b.LessEqual (Pointer target) (Pointer other) v w) d (Plain (n.Compare LessOrEqual P64 (value_register L d T) (address_register L d) (address_register L (suc d))) ∷ rest) heads p f scope r s m K
         (subst (λ z. Stands c heads p (expr_code L c.structs c.locals d x (expr_code L c.structs c.locals (suc d) y z))) code_e at) fit low
         (λ q v w h u q1 n1 at1 both.
         compare_leads LessOrEqual (λ z. z) (unless_dead u.world.outer.memory v w ComparesApart) (pointer_le u.world.outer.memory v w) d (address_register L d) (address_register L (suc d)) rest heads f scope r s m K v w h u q1 n1 q at1 both next
@@ -151,8 +151,8 @@ module _ (c : Setting) (found : slice_get c.functions c.number ≡ Some c.code) 
     by = λ d rest heads p f scope r s m K at fit low next.
         let code_e : binary_code L c.structs b.GreaterEqual d T (type_of x) (type_of y) rest ≡ Plain (n.Compare LessOrEqual P64 (value_register L d T) (address_register L (suc d)) (address_register L d)) ∷ rest =
         ap (λ z. binary_code L c.structs b.GreaterEqual d T z (type_of y) rest) ex ∙ ap (λ z. binary_code L c.structs b.GreaterEqual d T (Pointer target) z rest) ey in
-        meets_same c.rooms c.functions (ap (λ z. finish (run_by (λ v w. binary c.structs b.GreaterEqual z (type_of y) v w) scope s) K) ex ∙ ap (λ z. finish (run_by (λ v w. binary c.structs b.GreaterEqual (Pointer target) z v w) scope s) K) ey)
-        (both_lead (λ v w. binary c.structs b.GreaterEqual (Pointer target) (Pointer other) v w) d (Plain (n.Compare LessOrEqual P64 (value_register L d T) (address_register L (suc d)) (address_register L d)) ∷ rest) heads p f scope r s m K
+        meets_same c.rooms c.functions (ap (λ z. finish (run_by (λ v w. apply_binary c.structs b.GreaterEqual z (type_of y) v w) scope s) K) ex ∙ ap (λ z. finish (run_by (λ v w. apply_binary c.structs b.GreaterEqual (Pointer target) z v w) scope s) K) ey)
+        (both_lead (λ v w. apply_binary c.structs b.GreaterEqual (Pointer target) (Pointer other) v w) d (Plain (n.Compare LessOrEqual P64 (value_register L d T) (address_register L (suc d)) (address_register L d)) ∷ rest) heads p f scope r s m K
         (subst (λ z. Stands c heads p (expr_code L c.structs c.locals d x (expr_code L c.structs c.locals (suc d) y z))) code_e at) fit low
         (λ q v w h u q1 n1 at1 both.
         compare_leads LessOrEqual (λ z. z) (unless_dead u.world.outer.memory w v ComparesApart) (pointer_le u.world.outer.memory w v) d (address_register L (suc d)) (address_register L d) rest heads f scope r s m K v w h u q1 n1 q at1 both next
@@ -165,8 +165,8 @@ module _ (c : Setting) (found : slice_get c.functions c.number ≡ Some c.code) 
     by = λ d rest heads p f scope r s m K at fit low next.
         let code_e : binary_code L c.structs b.Equal d T (type_of x) (type_of y) rest ≡ Plain (n.Compare Equal P64 (value_register L d T) (address_register L d) (address_register L (suc d))) ∷ rest =
         ap (λ z. binary_code L c.structs b.Equal d T z (type_of y) rest) ex ∙ ap (λ z. binary_code L c.structs b.Equal d T (Pointer target) z rest) ey in
-        meets_same c.rooms c.functions (ap (λ z. finish (run_by (λ v w. binary c.structs b.Equal z (type_of y) v w) scope s) K) ex ∙ ap (λ z. finish (run_by (λ v w. binary c.structs b.Equal (Pointer target) z v w) scope s) K) ey)
-        (both_lead (λ v w. binary c.structs b.Equal (Pointer target) (Pointer other) v w) d (Plain (n.Compare Equal P64 (value_register L d T) (address_register L d) (address_register L (suc d))) ∷ rest) heads p f scope r s m K
+        meets_same c.rooms c.functions (ap (λ z. finish (run_by (λ v w. apply_binary c.structs b.Equal z (type_of y) v w) scope s) K) ex ∙ ap (λ z. finish (run_by (λ v w. apply_binary c.structs b.Equal (Pointer target) z v w) scope s) K) ey)
+        (both_lead (λ v w. apply_binary c.structs b.Equal (Pointer target) (Pointer other) v w) d (Plain (n.Compare Equal P64 (value_register L d T) (address_register L d) (address_register L (suc d))) ∷ rest) heads p f scope r s m K
         (subst (λ z. Stands c heads p (expr_code L c.structs c.locals d x (expr_code L c.structs c.locals (suc d) y z))) code_e at) fit low
         (λ q v w h u q1 n1 at1 both.
         compare_leads Equal (λ z. z) (unless_dead u.world.outer.memory v w ComparesAtEnd) (pointer_eq u.world.outer.memory v w) d (address_register L d) (address_register L (suc d)) rest heads f scope r s m K v w h u q1 n1 q at1 both next
@@ -179,8 +179,8 @@ module _ (c : Setting) (found : slice_get c.functions c.number ≡ Some c.code) 
     by = λ d rest heads p f scope r s m K at fit low next.
         let code_e : binary_code L c.structs b.NotEqual d T (type_of x) (type_of y) rest ≡ Plain (n.Compare NotEqual P64 (value_register L d T) (address_register L d) (address_register L (suc d))) ∷ rest =
         ap (λ z. binary_code L c.structs b.NotEqual d T z (type_of y) rest) ex ∙ ap (λ z. binary_code L c.structs b.NotEqual d T (Pointer target) z rest) ey in
-        meets_same c.rooms c.functions (ap (λ z. finish (run_by (λ v w. binary c.structs b.NotEqual z (type_of y) v w) scope s) K) ex ∙ ap (λ z. finish (run_by (λ v w. binary c.structs b.NotEqual (Pointer target) z v w) scope s) K) ey)
-        (both_lead (λ v w. binary c.structs b.NotEqual (Pointer target) (Pointer other) v w) d (Plain (n.Compare NotEqual P64 (value_register L d T) (address_register L d) (address_register L (suc d))) ∷ rest) heads p f scope r s m K
+        meets_same c.rooms c.functions (ap (λ z. finish (run_by (λ v w. apply_binary c.structs b.NotEqual z (type_of y) v w) scope s) K) ex ∙ ap (λ z. finish (run_by (λ v w. apply_binary c.structs b.NotEqual (Pointer target) z v w) scope s) K) ey)
+        (both_lead (λ v w. apply_binary c.structs b.NotEqual (Pointer target) (Pointer other) v w) d (Plain (n.Compare NotEqual P64 (value_register L d T) (address_register L d) (address_register L (suc d))) ∷ rest) heads p f scope r s m K
         (subst (λ z. Stands c heads p (expr_code L c.structs c.locals d x (expr_code L c.structs c.locals (suc d) y z))) code_e at) fit low
         (λ q v w h u q1 n1 at1 both.
         compare_leads NotEqual not (unless_dead u.world.outer.memory v w ComparesAtEnd) (pointer_eq u.world.outer.memory v w) d (address_register L d) (address_register L (suc d)) rest heads f scope r s m K v w h u q1 n1 q at1 both next

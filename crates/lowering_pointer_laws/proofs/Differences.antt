@@ -23,9 +23,9 @@ use Rattle.c_typed_tree.specs.declared.types.StructDef.{StructDef}
 use Rattle.c_typed_tree.specs.Types.{PlainType, Pointer}
 use Rattle.c_typed_tree.specs.Layout.{size_of}
 use Rattle.c_typed_tree.specs.Expressions.{Expr, Binary, type_of}
-use Rattle.c_semantics.specs.Runs.{CallState, Run, and_then, number}
+use Rattle.c_semantics.specs.Runs.{CallState, Run, and_then, use_number}
 use Rattle.c_semantics.specs.Objects.{Scope, element_plus, move_reason, move_elements}
-use Rattle.c_semantics.specs.Operators.{pointer_and_integer, binary}
+use Rattle.c_semantics.specs.Operators.{pointer_and_integer, apply_binary}
 use Rattle.c_semantics.specs.Evaluates.{eval}
 use Rattle.suifvm_ir.specs.declared.types.VmType.TheVariants.{S64, P64}
 use Rattle.suifvm_ir.specs.declared.insn.VmUnaryOp.TheVariants.{Negate}
@@ -65,7 +65,7 @@ small_negated (negsuc n) h = omega (arith, h)
 negation_is : (b : ℕ) (z : ℤ) → value i.Long b ≡ z → IsSmall (neg_ℤ z) → negation i.Long b ≡ a.Word (word i.Long (neg_ℤ z))
 negation_is b z e small = ap (λ y. result_in i.Long (neg_ℤ y)) e ∙ ap (λ y. if y then a.Word (word i.Long (neg_ℤ z)) else a.Trap 3) (small_fits (neg_ℤ z) small)
 
-difference_is : (ds : List StructDef) (target : PlainType) (t : IntegerType) → ◌≡◌ {A = Value → Value → Run Value} (binary ds b.Subtract (Pointer target) (plain_of t)) (λ v w. pointer_and_integer ds b.Subtract target t v w)
+difference_is : (ds : List StructDef) (target : PlainType) (t : IntegerType) → ◌≡◌ {A = Value → Value → Run Value} (apply_binary ds b.Subtract (Pointer target) (plain_of t)) (λ v w. pointer_and_integer ds b.Subtract target t v w)
 difference_is ds target i.Char = refl
 difference_is ds target i.UnsignedChar = refl
 difference_is ds target i.Short = refl
@@ -140,7 +140,7 @@ module _ (c : Setting) (found : slice_get c.functions c.number ≡ Some c.code) 
         let code_e : binary_code (count c) c.structs b.Subtract d (Pointer target) (type_of x) (type_of y) rest ≡ tail =
         ap (λ z. binary_code (count c) c.structs b.Subtract d (Pointer target) z (type_of y) rest) ex ∙ ap (λ z. binary_code (count c) c.structs b.Subtract d (Pointer target) (Pointer target) z rest) ey ∙ difference_code (count c) c.structs d target t rest in
         meets_same c.rooms c.functions
-        (ap (λ z. finish (run_by c x y (λ v w. binary c.structs b.Subtract z (type_of y) v w) scope s) K) ex ∙ ap (λ z. finish (run_by c x y (λ v w. binary c.structs b.Subtract (Pointer target) z v w) scope s) K) ey
+        (ap (λ z. finish (run_by c x y (λ v w. apply_binary c.structs b.Subtract z (type_of y) v w) scope s) K) ex ∙ ap (λ z. finish (run_by c x y (λ v w. apply_binary c.structs b.Subtract (Pointer target) z v w) scope s) K) ey
         ∙ ap (λ z. finish (run_by c x y z scope s) K) (difference_is c.structs target t))
         (bound c found (eval c.structs c.locals c.calls scope x s) (λ v t1. and_then (eval c.structs c.locals c.calls scope y t1) (pointer_and_integer c.structs b.Subtract target t v)) K p r s.world m
         (hx.by d (expr_code (count c) c.structs c.locals (suc d) y tail) heads p f scope r s m (λ v t1. finish (and_then (eval c.structs c.locals c.calls scope y t1) (pointer_and_integer c.structs b.Subtract target t v)) K)
@@ -153,7 +153,7 @@ module _ (c : Setting) (found : slice_get c.functions c.number ≡ Some c.code) 
         let first : IsInRegister g (Pointer target) v (q1 addr) = subst (λ z. IsInRegister g z v (q1 (value_register (count c) d z))) ex stands in
         let same : q3 addr ≡ q1 addr = kept_reads d P64 (omega arith) kept2 in
         let rel : IsValueOf h v (q3 addr) = subst (λ z. IsValueOf h v z) (sym same) (values_stay g h v (q1 addr) aft2.names first) in
-        bound c found (number w u) moves K q2 q3 u.world m2
+        bound c found (use_number w u) moves K q2 q3 u.world m2
         (number_meets c.rooms c.functions w u (λ k u1. finish (moves k u1) K) _ (λ k is.
         known_meets c.rooms c.functions (move_reason u.world.outer.memory v) (element_plus u.world.outer.memory v (neg_ℤ (value t k) *ℤ pos size)) u K _ (λ result e.
         let moved = moved_by u.world.outer.memory v (neg_ℤ (value t k) *ℤ pos size) result e in

@@ -32,7 +32,7 @@ use Rattle.c_typed_tree.specs.Expressions.{Expr, Binary, type_of}
 use Rattle.c_semantics.specs.Reasons.{ComparesApart}
 use Rattle.c_semantics.specs.Runs.{CallState, Run, or_undefined, pure, undefined}
 use Rattle.c_semantics.specs.Objects.{Scope}
-use Rattle.c_semantics.specs.Operators.{unless_dead, binary, bytes_between, elements}
+use Rattle.c_semantics.specs.Operators.{unless_dead, apply_binary, bytes_between, elements}
 use Rattle.suifvm_ir.specs.declared.types.VmType.TheVariants.{S64, P64}
 use Rattle.suifvm_ir.specs.declared.insn.VmBinaryOp.TheVariants.{Subtract, Divide}
 use Rattle.suifvm_ir.specs.declared.insn.VmInsn.TheVariants as n
@@ -204,8 +204,8 @@ module _ (c : Setting) (found : slice_get c.functions c.number ≡ Some c.code) 
         let code_e : binary_code L c.structs b.Subtract d T (type_of x) (type_of y) rest ≡ insn_code size =
         ap (λ z. binary_code L c.structs b.Subtract d T z (type_of y) rest) ex ∙ ap (λ z. binary_code L c.structs b.Subtract d T (Pointer target) z rest) ey ∙ ap insn_code capped in
         meets_same c.rooms c.functions
-        (ap (λ z. finish (run_by c found target other x y ex ey hx hy (λ v w. binary c.structs b.Subtract z (type_of y) v w) scope s) K) ex ∙ ap (λ z. finish (run_by c found target other x y ex ey hx hy (λ v w. binary c.structs b.Subtract (Pointer target) z v w) scope s) K) ey)
-        (both_lead c found target other x y ex ey hx hy (λ v w. binary c.structs b.Subtract (Pointer target) (Pointer other) v w) d (insn_code size) heads p f scope r s m K
+        (ap (λ z. finish (run_by c found target other x y ex ey hx hy (λ v w. apply_binary c.structs b.Subtract z (type_of y) v w) scope s) K) ex ∙ ap (λ z. finish (run_by c found target other x y ex ey hx hy (λ v w. apply_binary c.structs b.Subtract (Pointer target) z v w) scope s) K) ey)
+        (both_lead c found target other x y ex ey hx hy (λ v w. apply_binary c.structs b.Subtract (Pointer target) (Pointer other) v w) d (insn_code size) heads p f scope r s m K
         (subst (λ z. Stands c heads p (expr_code L c.structs c.locals d x (expr_code L c.structs c.locals (suc d) y z))) code_e at) fit low
         (λ q v w h u q1 n1 at1 pair.
         bound c found (or_undefined (unless_dead u.world.outer.memory v w ComparesApart) (bytes_between u.world.outer.memory v w) u) (λ z. elements z size) K q q1 u.world n1

@@ -28,11 +28,11 @@ use Rattle.c_typed_tree.specs.declared.types.StructDef.{StructDef}
 use Rattle.c_typed_tree.specs.Types.{PlainType, Void, Pointer}
 use Rattle.c_typed_tree.specs.Layout.{size_of}
 use Rattle.c_typed_tree.specs.Expressions.{Expr, Binary, Index, type_of}
-use Rattle.c_semantics.specs.Runs.{CallState, Run, and_then, number, pure}
+use Rattle.c_semantics.specs.Runs.{CallState, Run, and_then, use_number, pure}
 use Rattle.c_semantics.specs.Objects as obj
 use Rattle.c_semantics.specs.Objects.{Scope, read_at, stands_inside, element_plus, move_reason, move_elements, move_by}
-use Rattle.c_semantics.specs.Operators.{binary}
-use Rattle.c_semantics.specs.Evaluates.{eval, element}
+use Rattle.c_semantics.specs.Operators.{apply_binary}
+use Rattle.c_semantics.specs.Evaluates.{eval, element_pointer}
 use Rattle.suifvm_ir.specs.declared.types.VmType.TheVariants.{S64, P64}
 use Rattle.suifvm_ir.specs.declared.insn.VmBinaryOp.TheVariants.{Add, Multiply}
 use Rattle.suifvm_ir.specs.declared.insn.VmInsn.TheVariants as n
@@ -44,7 +44,7 @@ use Rattle.suifvm_ir.specs.declared.insn.VmInsn.{VmInsn}
 use Rattle.lowering_code.specs.declared.item.CodeItem.{CodeItem}
 use Rattle.lowering_code.specs.declared.item.CodeItem.TheVariants.{Plain}
 use Rattle.lowering_code.specs.Registers.{register_type, temporary, value_register, address_register, bytes_register}
-use Rattle.lowering_code.specs.Expressions.{plain_of, cap_offset, is_kept, narrow_type, convert_code, sized_code, scaled_code, add_code, binary_code, element_code, load_code, expr_code}
+use Rattle.lowering_code.specs.Expressions.{plain_of, cap_offset, keeps_register, narrow_type, convert_code, sized_code, scaled_code, add_code, binary_code, element_code, load_code, expr_code}
 use Rattle.lowering_states.specs.Places.{CodePlace, next_place}
 use Rattle.lowering_states.specs.Runs.{opens, CodeObservation, finish}
 use Rattle.lowering_states.specs.States.{IsInRegister, KeepsLower}
@@ -130,7 +130,7 @@ module _ (c : Setting) (found : slice_get c.functions c.number ≡ Some c.code) 
   -- an integer becomes a `long`
   pub long_leads : {o : CodeObservation} (j : ℕ) (t : IntegerType) (k : ℕ) (tail : List CodeItem) (q : CodePlace) (r : Registers) → Stands c heads q (convert_code L j (plain_of t) (plain_of i.Long) tail) → Fit c g scope r s m → WordIn L j t k r
       → ((q1 : CodePlace) (r1 : Registers) → Stands c heads q1 tail → Fit c g scope r1 s m → KeepsOthers L j r r1 → r1 (bytes_register L j) ≡ Word (conversion t i.Long k) → EndsSo c o q1 r1 s.world m) → EndsSo c o q r s.world m
-  long_leads {o = o} j t k tail q r at fit one next = by_kept (is_kept (plain_of t) (plain_of i.Long)) refl at
+  long_leads {o = o} j t k tail q r at fit one next = by_kept (keeps_register (plain_of t) (plain_of i.Long)) refl at
     where
       k1 : ℕ
       k1 = conversion t i.Long k
@@ -138,7 +138,7 @@ module _ (c : Setting) (found : slice_get c.functions c.number ≡ Some c.code) 
       insn : VmInsn
       insn = n.Convert (narrow_type (plain_of t) (plain_of i.Long)) (register_type (plain_of i.Long)) (value_register L j (plain_of i.Long)) (value_register L j (plain_of t))
 
-      by_kept : (x : Bool) → is_kept (plain_of t) (plain_of i.Long) ≡ x → Stands c heads q (if x then tail else Plain insn ∷ tail) → EndsSo c o q r s.world m
+      by_kept : (x : Bool) → keeps_register (plain_of t) (plain_of i.Long) ≡ x → Stands c heads q (if x then tail else Plain insn ∷ tail) → EndsSo c o q r s.world m
       by_kept true e at2 =
           let same : register_type (plain_of t) ≡ register_type (plain_of i.Long) = sym (register-promoted t) ∙ ap (λ z. register_type (plain_of z)) (kept_is t i.Long e) in
           next q r at2 fit kept_others (ap (λ z. r (temporary L j z)) (sym same) ∙ one.stands ∙ ap Word (sym (kept_conversion t i.Long k one.is_one e)))
@@ -205,7 +205,7 @@ module _ (c : Setting) (found : slice_get c.functions c.number ≡ Some c.code) 
 
 -- ---- sums and elements
 
-sum_is : (ds : List StructDef) (target : PlainType) (t : IntegerType) → ◌≡◌ {A = Value → Value → Run Value} (binary ds b.Add (Pointer target) (plain_of t)) (move_by ds target t)
+sum_is : (ds : List StructDef) (target : PlainType) (t : IntegerType) → ◌≡◌ {A = Value → Value → Run Value} (apply_binary ds b.Add (Pointer target) (plain_of t)) (move_by ds target t)
 sum_is ds target i.Char = refl
 sum_is ds target i.UnsignedChar = refl
 sum_is ds target i.Short = refl
@@ -215,7 +215,7 @@ sum_is ds target i.UnsignedInt = refl
 sum_is ds target i.Long = refl
 sum_is ds target i.UnsignedLong = refl
 
-element_is : (ds : List StructDef) (target : PlainType) (t : IntegerType) → ◌≡◌ {A = Value → Value → Run Value} (element ds (Pointer target) (plain_of t)) (move_by ds target t)
+element_is : (ds : List StructDef) (target : PlainType) (t : IntegerType) → ◌≡◌ {A = Value → Value → Run Value} (element_pointer ds (Pointer target) (plain_of t)) (move_by ds target t)
 element_is ds target i.Char = refl
 element_is ds target i.UnsignedChar = refl
 element_is ds target i.Short = refl
@@ -265,7 +265,7 @@ module _ (c : Setting) (found : slice_get c.functions c.number ≡ Some c.code) 
       let first : IsInRegister g (Pointer target) v (q1 addr) = subst (λ z. IsInRegister g z v (q1 (value_register (count c) d z))) ex stands in
       let same : q3 addr ≡ q1 addr = kept_reads d P64 (omega arith) kept2 in
       let rel : IsValueOf h v (q3 addr) = subst (λ z. IsValueOf h v z) (sym same) (values_stay g h v (q1 addr) aft2.names first) in
-      bound c found (number w u) moves K q2 q3 u.world m2
+      bound c found (use_number w u) moves K q2 q3 u.world m2
       (number_meets c.rooms c.functions w u (λ k u1. finish (moves k u1) K) _ (λ k is.
       known_meets c.rooms c.functions (move_reason u.world.outer.memory v) (element_plus u.world.outer.memory v (value t k *ℤ pos size)) u K _ (λ result e.
       let moved = moved_by u.world.outer.memory v (value t k *ℤ pos size) result e in
@@ -280,7 +280,7 @@ module _ (c : Setting) (found : slice_get c.functions c.number ≡ Some c.code) 
         let code_e : binary_code (count c) c.structs b.Add d (Pointer target) (type_of x) (type_of y) rest ≡ sum_tail (count c) c.structs d target t rest =
         ap (λ z. binary_code (count c) c.structs b.Add d (Pointer target) z (type_of y) rest) ex ∙ ap (λ z. binary_code (count c) c.structs b.Add d (Pointer target) (Pointer target) z rest) ey ∙ sum_code (count c) c.structs d target t rest in
         meets_same c.rooms c.functions
-        (ap (λ z. finish (run_by (λ v w. binary c.structs b.Add z (type_of y) v w) scope s) K) ex ∙ ap (λ z. finish (run_by (λ v w. binary c.structs b.Add (Pointer target) z v w) scope s) K) ey
+        (ap (λ z. finish (run_by (λ v w. apply_binary c.structs b.Add z (type_of y) v w) scope s) K) ex ∙ ap (λ z. finish (run_by (λ v w. apply_binary c.structs b.Add (Pointer target) z v w) scope s) K) ey
         ∙ ap (λ z. finish (run_by z scope s) K) (sum_is c.structs target t))
         (moves_lead d rest heads p f scope r s m K (subst (λ z. Stands c heads p (expr_code (count c) c.structs c.locals d x (expr_code (count c) c.structs c.locals (suc d) y z))) code_e at) fit low next);
   }
@@ -299,16 +299,16 @@ module _ (c : Setting) (found : slice_get c.functions c.number ≡ Some c.code) 
       by_type i.Long = refl
       by_type i.UnsignedLong = refl
 
-  element_run : (scope : Scope) (s : CallState) → run_by (element c.structs (type_of x) (type_of y)) scope s ≡ run_by (move_by c.structs target t) scope s
+  element_run : (scope : Scope) (s : CallState) → run_by (element_pointer c.structs (type_of x) (type_of y)) scope s ≡ run_by (move_by c.structs target t) scope s
   element_run scope s =
-      ap (λ z. run_by (λ v w. element c.structs z (type_of y) v w) scope s) ex ∙ ap (λ z. run_by (λ v w. element c.structs (Pointer target) z v w) scope s) ey ∙ ap (λ z. run_by z scope s) (element_is c.structs target t)
+      ap (λ z. run_by (λ v w. element_pointer c.structs z (type_of y) v w) scope s) ex ∙ ap (λ z. run_by (λ v w. element_pointer c.structs (Pointer target) z v w) scope s) ey ∙ ap (λ z. run_by z scope s) (element_is c.structs target t)
 
   pub elements : (ty : PlainType) → HasWholeIntegers ty → ExprMeets c (Index ty x y)
   unfolding opens
   elements ty whole = record {
     by = λ d rest heads p f scope r s m K at fit low next.
         let K1 : Value → CallState → CodeObservation = (λ v u. finish (read_at ty v u) K) in
-        bound c found (run_by (element c.structs (type_of x) (type_of y)) scope s) (read_at ty) K p r s.world m
+        bound c found (run_by (element_pointer c.structs (type_of x) (type_of y)) scope s) (read_at ty) K p r s.world m
         (meets_same c.rooms c.functions (ap (λ z. finish z K1) (element_run scope s))
         (moves_lead d (load_code (count c) d ty 0 rest) heads p f scope r s m K1
         (subst (λ z. Stands c heads p (expr_code (count c) c.structs c.locals d x (expr_code (count c) c.structs c.locals (suc d) y z))) (element_code_is d (load_code (count c) d ty 0 rest)) at) fit low
@@ -321,7 +321,7 @@ module _ (c : Setting) (found : slice_get c.functions c.number ≡ Some c.code) 
   element_places ty = record {
     by = λ d plus rest heads p f scope r s m K small fits at fit low next.
         let K1 : Value → CallState → CodeObservation = (λ v u. K (obj.At v) u) in
-        bound c found (run_by (element c.structs (type_of x) (type_of y)) scope s) (λ v. pure (obj.At v)) K p r s.world m
+        bound c found (run_by (element_pointer c.structs (type_of x) (type_of y)) scope s) (λ v. pure (obj.At v)) K p r s.world m
         (meets_same c.rooms c.functions (ap (λ z. finish z K1) (element_run scope s))
         (moves_lead d rest heads p f scope r s m K1 (subst (λ z. Stands c heads p (expr_code (count c) c.structs c.locals d x (expr_code (count c) c.structs c.locals (suc d) y z))) (element_code_is d rest) at) fit low
         (λ q v g u q1 m1 at1 aft fit1 kept held rel. next q v v g u q1 m1 at1 aft fit1 kept (held_pointer target Void v held) rel small (own_base u.world.outer.memory v plus))));

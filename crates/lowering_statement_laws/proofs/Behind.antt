@@ -16,8 +16,8 @@ use Rattle.suifvm_ir.specs.declared.insn.TypedRegister.{TypedRegister}
 use Rattle.suifvm_ir.specs.declared.insn.VmInsn.{VmInsn}
 use Rattle.lowering_code.specs.declared.item.CodeItem.{CodeItem}
 use Rattle.lowering_code.specs.declared.item.CodeItem.TheVariants.{Start, Plain, Jump, Branch, Loop, Enter, Again, Repeat, Return}
-use Rattle.lowering_code.specs.Items.{count}
-use Rattle.lowering_code.specs.Statements.{Target, value_code, default_name, put_code, put_local_code, initialise_code, declares_code, first_code, again_code, test_code, after_code, label_code, labels_code, return_code, stmt_code, stmts_code, sections_code, targets_of}
+use Rattle.lowering_code.specs.Items.{block_total}
+use Rattle.lowering_code.specs.Statements.{Target, value_code, default_name, put_code, put_local_code, initialise_code, declares_code, first_code, again_code, test_code, after_code, label_code, labels_code, return_code, stmt_code, stmts_code, sections_code, switch_targets}
 use Rattle.lowering_states.specs.Places.{CodePlace, next_place, next_block, At}
 use Rattle.lowering_expression_places.specs.Behind.{Somewhere, IsLeft}
 use Rattle.lowering_expression_places.proofs.Behind.{at_plain, at_start, at_jump, at_branch, left_expr}
@@ -125,25 +125,25 @@ module _ (blocks : List (List VmInsn)) (last : ℕ) (end : List VmInsn) where
           left_start heads rest (left_stmt s brk con heads (Start ∷ rest) (left_branch _ _ _ _ heads _ (left_value x heads _ h)))
       left_stmt (q.If x s (else_stmt t)) brk con heads rest h =
           let fails = stmt_code L ds ls brk con t (Start ∷ rest) in
-          left_start heads rest (left_stmt t brk con heads (Start ∷ rest) (left_jump (count rest) heads fails (left_stmt s brk con heads (Jump (count rest) ∷ fails) (left_branch _ _ _ _ heads _ (left_value x heads _ h)))))
+          left_start heads rest (left_stmt t brk con heads (Start ∷ rest) (left_jump (block_total rest) heads fails (left_stmt s brk con heads (Jump (block_total rest) ∷ fails) (left_branch _ _ _ _ heads _ (left_value x heads _ h)))))
       left_stmt (q.While x s) brk con heads rest h =
           let test = again_code L ds ls x rest in
-          let a = left_stmt s (count rest) (count test) _ (Start ∷ test) (record { place = _; at = at_loop (count test) h.at }) in
+          let a = left_stmt s (block_total rest) (block_total test) _ (Start ∷ test) (record { place = _; at = at_loop (block_total test) h.at }) in
           left_again x _ heads rest (left_start _ test a)
       left_stmt (q.Do s x) brk con heads rest h =
           let test = again_code L ds ls x rest in
-          let a = left_stmt s (count rest) (count test) _ (Start ∷ test) (record { place = _; at = at_enter h.at }) in
+          let a = left_stmt s (block_total rest) (block_total test) _ (Start ∷ test) (record { place = _; at = at_enter h.at }) in
           left_again x _ heads rest (left_start _ test a)
       left_stmt (q.For start x step s) brk con heads rest h =
           let test = test_code L ds ls x rest in
           let after = after_code L ds ls step test in
-          let b = left_first start heads (Loop (count test) ∷ stmt_code L ds ls (count rest) (count after) s (Start ∷ after)) h in
-          let a = left_stmt s (count rest) (count after) _ (Start ∷ after) (record { place = _; at = at_loop (count test) b.at }) in
+          let b = left_first start heads (Loop (block_total test) ∷ stmt_code L ds ls (block_total rest) (block_total after) s (Start ∷ after)) h in
+          let a = left_stmt s (block_total rest) (block_total after) _ (Start ∷ after) (record { place = _; at = at_loop (block_total test) b.at }) in
           left_test x _ heads rest (left_after step _ test (left_start _ after a))
       left_stmt (q.Switch x sections) brk con heads rest h =
-          let bodies = sections_code L ds ls (count rest) con sections (Start ∷ rest) in
-          let targets = targets_of L ds ls (count rest) con sections (Start ∷ rest) in
-          left_start heads rest (left_sections sections (count rest) con heads (Start ∷ rest) (left_jump (default_name (count rest) targets) heads bodies (left_labels (type_of x) targets heads _ (left_value x heads _ h))))
+          let bodies = sections_code L ds ls (block_total rest) con sections (Start ∷ rest) in
+          let targets = switch_targets L ds ls (block_total rest) con sections (Start ∷ rest) in
+          left_start heads rest (left_sections sections (block_total rest) con heads (Start ∷ rest) (left_jump (default_name (block_total rest) targets) heads bodies (left_labels (type_of x) targets heads _ (left_value x heads _ h))))
       left_stmt q.Break brk con heads rest h = left_jump brk heads rest h
       left_stmt q.Continue brk con heads rest h = left_jump con heads rest h
       left_stmt (q.Return x) brk con heads rest h = left_return_value x heads rest h

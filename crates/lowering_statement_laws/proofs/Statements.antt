@@ -149,7 +149,7 @@ module _ (c : Setting) (found : slice_get c.functions c.number ≡ Some c.code) 
   unfolding opens
   conditions x a scalar hx ha = record {
     by = λ brk con rest heads p f scope r s m K apart at fit low way.
-        test_leads x scalar hx (items.count rest) (stmt_code L c.structs c.locals brk con a (Start ∷ rest)) heads f scope r s m K (choose (exec c.structs c.locals c.calls again scope a) (pure Goes))
+        test_leads x scalar hx (items.block_total rest) (stmt_code L c.structs c.locals brk con a (Start ∷ rest)) heads f scope r s m K (choose (exec c.structs c.locals c.calls again scope a) (pure Goes))
         (λ q g t q1 m1 at1 aft fit1.
         ha.by brk con (Start ∷ rest) heads q g scope q1 t m1 K (λ k lt. apart k (let h = inner_least k a in omega (arith, lt, h))) at1 fit1 (omega (arith, aft.turned, low))
         (onward_to (onward_on aft way) (λ q2 h u q3 m2 at2 aft2 fit2.
@@ -166,18 +166,18 @@ module _ (c : Setting) (found : slice_get c.functions c.number ≡ Some c.code) 
   choices x a b scalar hx ha hb = record {
     by = λ brk con rest heads p f scope r s m K apart at fit low way.
         let fails = stmt_code L c.structs c.locals brk con b (Start ∷ rest) in
-        test_leads x scalar hx (items.count fails) (stmt_code L c.structs c.locals brk con a (Jump (items.count rest) ∷ fails)) heads f scope r s m K (choose (exec c.structs c.locals c.calls again scope a) (exec c.structs c.locals c.calls again scope b))
+        test_leads x scalar hx (items.block_total fails) (stmt_code L c.structs c.locals brk con a (Jump (items.block_total rest) ∷ fails)) heads f scope r s m K (choose (exec c.structs c.locals c.calls again scope a) (exec c.structs c.locals c.calls again scope b))
         (λ q g t q1 m1 at1 aft fit1.
-        ha.by brk con (Jump (items.count rest) ∷ fails) heads q g scope q1 t m1 K (λ k lt. apart k (let h = inner_least k a in omega (arith, lt, h))) at1 fit1 (omega (arith, aft.turned, low))
+        ha.by brk con (Jump (items.block_total rest) ∷ fails) heads q g scope q1 t m1 K (λ k lt. apart k (let h = inner_least k a in omega (arith, lt, h))) at1 fit1 (omega (arith, aft.turned, low))
         (onward_to (onward_on aft way) (λ q2 h u q3 m2 at2 aft2 fit2.
-        let behind : Somewhere c.code.blocks c.last c.end heads (Start ∷ rest) = left_stmt c.code.blocks c.last c.end L c.structs c.locals b brk con heads (Start ∷ rest) (record { place = next_block q2; at = at_jump c.code.blocks c.last c.end (items.count rest) at2 }) in
+        let behind : Somewhere c.code.blocks c.last c.end heads (Start ∷ rest) = left_stmt c.code.blocks c.last c.end L c.structs c.locals b brk con heads (Start ∷ rest) (record { place = next_block q2; at = at_jump c.code.blocks c.last c.end (items.block_total rest) at2 }) in
         let there = at_start c.code.blocks c.last c.end behind.at in
         let block : ℕ = suc behind.place.block in
-        jump c.rooms c.functions c.number c.code found c.own c.waiting (c.last - items.count rest) q2 q3 u.world m2 at2.has.0
-        (at_block c found q3 u.world m2 block (c.last - items.count rest) (omega (arith, there.size)) (way.goes (start_of_block block) h u q3 m2 there (after_on aft aft2) fit2)))))
+        jump c.rooms c.functions c.number c.code found c.own c.waiting (c.last - items.block_total rest) q2 q3 u.world m2 at2.has.0
+        (at_block c found q3 u.world m2 block (c.last - items.block_total rest) (omega (arith, there.size)) (way.goes (start_of_block block) h u q3 m2 there (after_on aft aft2) fit2)))))
         (λ q g t q1 m1 at1 aft fit1.
-        let behind : Somewhere c.code.blocks c.last c.end heads (Jump (items.count rest) ∷ fails) = left_stmt c.code.blocks c.last c.end L c.structs c.locals a brk con heads (Jump (items.count rest) ∷ fails) (record { place = q; at = at1 }) in
-        let there = at_jump c.code.blocks c.last c.end (items.count rest) behind.at in (
+        let behind : Somewhere c.code.blocks c.last c.end heads (Jump (items.block_total rest) ∷ fails) = left_stmt c.code.blocks c.last c.end L c.structs c.locals a brk con heads (Jump (items.block_total rest) ∷ fails) (record { place = q; at = at1 }) in
+        let there = at_jump c.code.blocks c.last c.end (items.block_total rest) behind.at in (
           suc behind.place.block,
           (
             there.size,

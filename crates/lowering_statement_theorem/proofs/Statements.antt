@@ -15,7 +15,7 @@ use Rattle.c_typed_tree.specs.Layout.{integer_of, is_object}
 use Rattle.c_typed_tree.specs.Expressions.{Expr, type_of}
 use Rattle.c_typed_tree.specs.Statements.{LocalDeclaration, First, Stmt, Else, no_else, else_stmt, Stmts, no_stmts, more_stmts, Sections, no_sections, more_sections}
 use Rattle.c_typed_tree.specs.Statements as q
-use Rattle.c_typed_tree.specs.Typing.{is_same_type, is_void, is_scalar, is_struct, is_array, is_promoted, is_type, depth_of, most_depth, Context, is_typed}
+use Rattle.c_typed_tree.specs.Typing.{is_same_type, is_void, is_scalar, is_struct, is_array, is_promoted, is_valid_type, depth_of, most_depth, Context, is_typed}
 use Rattle.c_typed_tree.specs.TypingStatements.{Jumps, no_jumps, in_loop, in_switch, is_value, is_condition, is_optional_value, is_optional_condition, is_initialiser, is_declared, is_first, is_returned, is_label, is_label_of, are_labels, is_typed_stmt, are_typed_stmts, are_typed_sections}
 use Rattle.c_typed_tree.specs.Declarations.{declarations, first_declarations, stmts_declarations, sections_declarations}
 use Rattle.c_typed_tree.specs.Lawful.{IsTypedUnit, IsTypedFn, context_of, IsLawfulStruct, is_lawful_local, is_object_type, type_of_local}
@@ -126,10 +126,10 @@ module _ (u : TypedUnit) (f : TypedFn) (c : Setting) (levels : LevelMeanings) (l
   lawful_local : (k : ℕ) (l : Local) → slice_get f.locals k ≡ Some l → IsTrue (is_lawful_local u.structs l)
   lawful_local k l e = all_pass (is_lawful_local u.structs) f.locals k l fn.locals e
 
-  object_local : (k : ℕ) (l : Local) → slice_get f.locals k ≡ Some l → IsTrue (is_type u.structs (type_of_local l) && is_object u.structs (type_of_local l))
+  object_local : (k : ℕ) (l : Local) → slice_get f.locals k ≡ Some l → IsTrue (is_valid_type u.structs (type_of_local l) && is_object u.structs (type_of_local l))
   object_local k l e =
       let ty = type_of_local l in
-      front (is_type u.structs ty && is_object u.structs ty) (nat_le (depth_of u.structs ty) most_depth) (front (is_object_type u.structs ty) (is_scalar ty || l.in_memory) (lawful_local k l e))
+      front (is_valid_type u.structs ty && is_object u.structs ty) (nat_le (depth_of u.structs ty) most_depth) (front (is_object_type u.structs ty) (is_scalar ty || l.in_memory) (lawful_local k l e))
 
   may_declare : (k : ℕ) (l : Local) → slice_get f.locals k ≡ Some l → MayDeclare c.structs c.locals k
   may_declare k l e =
@@ -140,7 +140,7 @@ module _ (u : TypedUnit) (f : TypedFn) (c : Setting) (levels : LevelMeanings) (l
       (record {
         local = l;
         found = e;
-        small = λ inside. object_small u.structs lawful.structs ty (front (is_type u.structs ty) (is_object u.structs ty) o) (back (is_type u.structs ty) (is_object u.structs ty) o);
+        small = λ inside. object_small u.structs lawful.structs ty (front (is_valid_type u.structs ty) (is_object u.structs ty) o) (back (is_valid_type u.structs ty) (is_object u.structs ty) o);
       }))
 
   found_local : (k : ℕ) (l : Local) → slice_get f.locals k ≡ Some l → slice_get c.locals k ≡ Some l
@@ -190,10 +190,10 @@ module _ (u : TypedUnit) (f : TypedFn) (c : Setting) (levels : LevelMeanings) (l
   struct_declared : (n : ℕ) (l : Local) (x : Expr) (number : ℕ) → slice_get f.locals n ≡ Some l → type_of x ≡ type_view l.ty → type_view l.ty ≡ Struct number → ((k : ℕ) → ExprMeets (S k) x) → Meets (q.Declare (record { number = n; init = Some x }))
   struct_declared n l x number e ty is hx k =
       let o = object_local n l e in
-      let o1 : IsTrue (is_type u.structs (Struct number) && is_object u.structs (Struct number)) = subst (λ z. IsTrue (is_type u.structs z && is_object u.structs z)) is o in
-      let o2 : IsTrue (is_type c.structs (Struct number) && is_object c.structs (Struct number)) = subst (λ ds. IsTrue (is_type ds (Struct number) && is_object ds (Struct number))) (sym structs) o1 in
+      let o1 : IsTrue (is_valid_type u.structs (Struct number) && is_object u.structs (Struct number)) = subst (λ z. IsTrue (is_valid_type u.structs z && is_object u.structs z)) is o in
+      let o2 : IsTrue (is_valid_type c.structs (Struct number) && is_object c.structs (Struct number)) = subst (λ ds. IsTrue (is_valid_type ds (Struct number) && is_object ds (Struct number))) (sym structs) o1 in
       let whole : IsWholeStruct (S k) number =
-      whole_struct (S k) (subst (λ ds. All (IsLawfulStruct ds) ds) (sym structs) lawful.structs) number (front (is_type c.structs (Struct number)) (is_object c.structs (Struct number)) o2) (back (is_type c.structs (Struct number)) (is_object c.structs (Struct number)) o2) in
+      whole_struct (S k) (subst (λ ds. All (IsLawfulStruct ds) ds) (sym structs) lawful.structs) number (front (is_valid_type c.structs (Struct number)) (is_object c.structs (Struct number)) o2) (back (is_valid_type c.structs (Struct number)) (is_object c.structs (Struct number)) o2) in
       let place : IsTrue (is_scalar (type_of_local l) || l.in_memory) = back (is_object_type u.structs (type_of_local l)) (is_scalar (type_of_local l) || l.in_memory) (lawful_local n l e) in
       let inside : l.in_memory ≡ true = either (is_scalar (type_of_local l)) l.in_memory (λ s. not_scalar number (subst (λ z. IsTrue (is_scalar z)) is s)) (λ m. m) place in
       (declares k).with_struct n l x number (found_local n l e) inside is ty whole (hx k)

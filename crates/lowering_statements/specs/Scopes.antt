@@ -9,7 +9,7 @@ use Rattle.lowering_code.specs.declared.item.CodeItem.{CodeItem}
 use Rattle.lowering_code.specs.declared.item.CodeItem.TheVariants.{Start, Jump}
 use Rattle.lowering_code.specs.Registers.{value_register, address_register}
 use Rattle.lowering_code.specs.Expressions.{store_code}
-use Rattle.lowering_code.specs.Items.{count}
+use Rattle.lowering_code.specs.Items.{block_total}
 use Rattle.lowering_code.specs.Statements as code
 use Rattle.lowering_expressions.specs.declared.scope.LoweringScope.{LoweringScope}
 use Rattle.lowering_expressions.specs.Scopes.{local_address}
@@ -79,14 +79,14 @@ stmts_code s brk con xs rest = code.stmts_code s.registers.locals s.structs.now 
 abbrev pub sections_code : LoweringScope → (break_to continue_to : ℕ) → Sections → List CodeItem → List CodeItem
 sections_code s brk con xs rest = code.sections_code s.registers.locals s.structs.now s.locals.now brk con xs rest
 
-abbrev pub targets_of : LoweringScope → (break_to continue_to : ℕ) → Sections → List CodeItem → List code.Target
-targets_of s brk con xs rest = code.targets_of s.registers.locals s.structs.now s.locals.now brk con xs rest
+abbrev pub switch_targets : LoweringScope → (break_to continue_to : ℕ) → Sections → List CodeItem → List code.Target
+switch_targets s brk con xs rest = code.switch_targets s.registers.locals s.structs.now s.locals.now brk con xs rest
 
 -- what stands behind the first branch of an `if`, and where it goes if its condition is zero
 abbrev pub else_code : LoweringScope → (break_to continue_to : ℕ) → Else → List CodeItem → List CodeItem
 else_code s brk con no_else rest = Start ∷ rest
-else_code s brk con (else_stmt x) rest = Jump (count rest) ∷ stmt_code s brk con x (Start ∷ rest)
+else_code s brk con (else_stmt x) rest = Jump (block_total rest) ∷ stmt_code s brk con x (Start ∷ rest)
 
 abbrev pub else_name : LoweringScope → (break_to continue_to : ℕ) → Else → List CodeItem → ℕ
-else_name s brk con no_else rest = count rest
-else_name s brk con (else_stmt x) rest = count (stmt_code s brk con x (Start ∷ rest))
+else_name s brk con no_else rest = block_total rest
+else_name s brk con (else_stmt x) rest = block_total (stmt_code s brk con x (Start ∷ rest))

@@ -6,7 +6,7 @@ ghost use Rattle.c_typed_tree.specs.model.View.{stmts_view};
 ghost use Rattle.c_typed_tree.specs.model.Lists.{sections_view, else_view};
 ghost use Rattle.lowering_expressions.specs.Scopes.{HasLevels};
 ghost use Rattle.lowering_statements.specs.Levels.{stmt_levels, else_levels, stmts_levels, sections_levels};
-ghost use Rattle.lowering_statements.specs.Scopes.{target_view, stmt_code, else_code, else_name, stmts_code, sections_code, targets_of};
+ghost use Rattle.lowering_statements.specs.Scopes.{target_view, stmt_code, else_code, else_name, stmts_code, sections_code, switch_targets};
 
 use crate::labels::{LabelTarget, default_name, labels};
 use crate::values::{after, again, declare, first, give, test};
@@ -170,7 +170,7 @@ fn bodies(
     ensures code { OnOk result (code.new ≡
         sections_code scope.now break_to continue_to (sections_view list.now) code.old) }
     ensures targets { IfOk result (λ ts. map target_view ts.items ≡
-        targets_of scope.now break_to continue_to (sections_view list.now) code.old) }
+        switch_targets scope.now break_to continue_to (sections_view list.now) code.old) }
 {
     let mut found = Vec::new(alloc);
     let mut i = list.len();

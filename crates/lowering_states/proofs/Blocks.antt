@@ -8,8 +8,8 @@ use Rattle.suifvm_ir.specs.declared.insn.VmInsn.{VmInsn}
 use Rattle.suifvm_ir.specs.declared.insn.VmInsn.TheVariants as n
 use Rattle.lowering_code.specs.declared.item.CodeItem.{CodeItem}
 use Rattle.lowering_code.specs.declared.item.CodeItem.TheVariants.{Start, Plain, Jump, Branch, Loop, Enter, Again, Repeat, Return}
-use Rattle.lowering_code.specs.Items.{count}
-use Rattle.lowering_code.specs.Layout.{Layout, with_insn, end_block, end_with, open_loop, close_loop, block_with, head_of, outer_heads, with_item, with_items, no_block, blocks_of}
+use Rattle.lowering_code.specs.Items.{block_total}
+use Rattle.lowering_code.specs.Layout.{Layout, with_insn, end_block, end_with, open_loop, close_loop, block_with, head_or_zero, outer_heads, add_item, with_items, no_block, blocks_of}
 use Rattle.lowering_states.specs.Places.{CodePlace, next_place, start_of_block, in_block, stands_at, HasInsns, HasItems}
 use Rattle.lowering_states.specs.Laws.{BlocksHaveItems}
 
@@ -43,7 +43,7 @@ stands_open l w h =
 stands_close : (l : Layout) (w : List (List VmInsn)) → Stands (close_loop l) w → Stands l w
 stands_close l w h = record { more = h.more; rest = h.rest; is = h.is }
 
-stands_item : (i : CodeItem) (l : Layout) (w : List (List VmInsn)) → Stands (with_item i l) w → Stands l w
+stands_item : (i : CodeItem) (l : Layout) (w : List (List VmInsn)) → Stands (add_item i l) w → Stands l w
 stands_item Start l w h = stands_end l w h
 stands_item (Plain i) l w h = stands_insn i l w h
 stands_item (Jump name) l w h = stands_end_with _ l w h
@@ -60,7 +60,7 @@ laid end is l = (with_items is l).blocks ++ ((with_items is l).insns ++ end) ∷
 
 stands : (end : List VmInsn) (is : List CodeItem) (l : Layout) → Stands l (laid end is l)
 stands end [] l = record { more = end; rest = []; is = refl }
-stands end (i ∷ is) l = stands_item i l _ (stands end is (with_item i l))
+stands end (i ∷ is) l = stands_item i l _ (stands end is (add_item i l))
 
 stood : (end : List VmInsn) (is : List CodeItem) (l : Layout) (w : List (List VmInsn)) → laid end is l ≡ w → Stands l w
 stood end is l w e = subst (Stands l) e (stands end is l)
@@ -119,15 +119,15 @@ module _ (end : List VmInsn) (w : List (List VmInsn)) where
     subst (λ k. Has l l.heads (record { block = length l.blocks; at = k }) is) (one_more l.insns i) (has_laid is (with_insn i l) e),
   )
   has_laid (Jump name ∷ is) l e =
-      (at_end_with w _ l (stood end is (with_item (Jump name) l) w e), on_block l l.heads is l.blocks _ (has_laid is (with_item (Jump name) l) e))
+      (at_end_with w _ l (stood end is (add_item (Jump name) l) w e), on_block l l.heads is l.blocks _ (has_laid is (add_item (Jump name) l) e))
   has_laid (Branch op ty source name ∷ is) l e =
-      let h = stood end is (with_item (Branch op ty source name) l) w e in
-      (at_end_with w _ l h, at_past w _ l h, on_block l l.heads is l.blocks _ (has_laid is (with_item (Branch op ty source name) l) e))
+      let h = stood end is (add_item (Branch op ty source name) l) w e in
+      (at_end_with w _ l h, at_past w _ l h, on_block l l.heads is l.blocks _ (has_laid is (add_item (Branch op ty source name) l) e))
   has_laid (Loop name ∷ is) l e =
       let jump : VmInsn = n.Jump (block_with name l) in
       let l1 : Layout = end_with jump l in
       let l2 : Layout = record l1 { heads = length l1.blocks ∷ l1.heads } in
-      let h : Stands (open_loop l1) w = stood end is (with_item (Loop name) l) w e in (
+      let h : Stands (open_loop l1) w = stood end is (add_item (Loop name) l) w e in (
         at_end_with w jump l (stands_open l1 w h),
         ap (λ b. stands_at w (start_of_block b)) (sym (one_more l.blocks (l.insns ++ jump ∷ []))) ∙ at_insn w n.Mark l2 h,
         on_loop l l.heads is l.blocks (l.insns ++ jump ∷ []) (has_laid is (open_loop l1) e),
@@ -135,26 +135,26 @@ module _ (end : List VmInsn) (w : List (List VmInsn)) where
   has_laid (Enter ∷ is) l e =
       let l1 : Layout = end_block l in
       let l2 : Layout = record l1 { heads = length l1.blocks ∷ l1.heads } in
-      let h : Stands (open_loop l1) w = stood end is (with_item Enter l) w e in (
+      let h : Stands (open_loop l1) w = stood end is (add_item Enter l) w e in (
         at_end w l (stands_open l1 w h),
         ap (λ b. stands_at w (start_of_block b)) (sym (one_more l.blocks l.insns)) ∙ at_insn w n.Mark l2 h,
         on_loop l l.heads is l.blocks l.insns (has_laid is (open_loop l1) e),
       )
   has_laid (Again ty source ∷ is) l e =
-      let branch : VmInsn = n.Branch IfTrue ty source (head_of l.heads) in
+      let branch : VmInsn = n.Branch IfTrue ty source (head_or_zero l.heads) in
       let l1 : Layout = end_with branch l in
-      let h : Stands l1 w = stands_close l1 w (stood end is (with_item (Again ty source) l) w e) in
+      let h : Stands l1 w = stands_close l1 w (stood end is (add_item (Again ty source) l) w e) in
       (at_end_with w branch l h, at_past w branch l h, on_block l (outer_heads l.heads) is l.blocks _ (has_laid is (close_loop l1) e))
   has_laid (Repeat ∷ is) l e =
-      let jump : VmInsn = n.Jump (head_of l.heads) in
+      let jump : VmInsn = n.Jump (head_or_zero l.heads) in
       let l1 : Layout = end_with jump l in
-      let h : Stands l1 w = stands_close l1 w (stood end is (with_item Repeat l) w e) in
+      let h : Stands l1 w = stands_close l1 w (stood end is (add_item Repeat l) w e) in
       (at_end_with w jump l h, on_block l (outer_heads l.heads) is l.blocks _ (has_laid is (close_loop l1) e))
   has_laid (Return value ∷ is) l e =
-      (at_end_with w _ l (stood end is (with_item (Return value) l) w e), on_block l l.heads is l.blocks _ (has_laid is (with_item (Return value) l) e))
+      (at_end_with w _ l (stood end is (add_item (Return value) l) w e), on_block l l.heads is l.blocks _ (has_laid is (add_item (Return value) l) e))
 
 pub blocks_have_items : BlocksHaveItems
 blocks_have_items end is = record {
-  has = has_laid end (blocks_of end is) is (no_block (count is)) refl;
+  has = has_laid end (blocks_of end is) is (no_block (block_total is)) refl;
   size = omega arith;
 }

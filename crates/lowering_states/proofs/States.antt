@@ -16,11 +16,11 @@ use Rattle.c_typed_tree.specs.declared.units.Local.{Local}
 use Rattle.c_typed_tree.specs.Types.{PlainType, Void, Int, Pointer, Array, Struct}
 use Rattle.c_typed_tree.specs.View.{type_view}
 use Rattle.c_typed_tree.specs.Layout.{size_of}
-use Rattle.c_semantics.specs.Runs.{with_register}
+use Rattle.c_semantics.specs.Runs.{with_local_value}
 use Rattle.c_semantics.specs.Runs as c
 use Rattle.c_semantics.specs.Objects.{Scope}
 use Rattle.vm_meaning.specs.Behave.{Registers, set_register}
-use Rattle.lowering_code.specs.Registers.{type_place, temporary, object_of}
+use Rattle.lowering_code.specs.Registers.{type_place, temporary, object_index}
 use Rattle.lowering_states.specs.States.{IsHeld, IsInRegister, is_live, type_at, Fits, KeepsLower, After}
 
 -- ---- registers
@@ -140,26 +140,26 @@ fits_temporary {ls = ls} {f = f} {r = r} {l = l} e ty w a = record {
   bytes = a.bytes;
 }
 
-with_same : (l : c.LocalRegisters) (k : ℕ) (v : Value) → with_register l k v k ≡ v
+with_same : (l : c.LocalRegisters) (k : ℕ) (v : Value) → with_local_value l k v k ≡ v
 with_same l k v = ap (λ t. if t then v else l k) (eq-eqb k k refl)
 
-with_other : (l : c.LocalRegisters) (k j : ℕ) (v : Value) → j ≢ k → with_register l k v j ≡ l j
+with_other : (l : c.LocalRegisters) (k j : ℕ) (v : Value) → j ≢ k → with_local_value l k v j ≡ l j
 with_other l k j v ne = ap (λ t. if t then v else l j) (ne_eqb j k ne)
 
 held_with : (ls : List Local) (l : c.LocalRegisters) (k : ℕ) (v : Value) → ((j : ℕ) → IsHeld (type_at (slice_get ls j)) (l j)) → IsHeld (type_at (slice_get ls k)) v
-    → (j : ℕ) → IsHeld (type_at (slice_get ls j)) (with_register l k v j)
+    → (j : ℕ) → IsHeld (type_at (slice_get ls j)) (with_local_value l k v j)
 held_with ls l k v a h j = elim (cases_eq j k) [
-  | inl e ↦ subst (λ i. IsHeld (type_at (slice_get ls i)) (with_register l k v i)) (sym e) (subst (λ z. IsHeld (type_at (slice_get ls k)) z) (sym (with_same l k v)) h)
+  | inl e ↦ subst (λ i. IsHeld (type_at (slice_get ls i)) (with_local_value l k v i)) (sym e) (subst (λ z. IsHeld (type_at (slice_get ls k)) z) (sym (with_same l k v)) h)
   | inr ne ↦ subst (λ z. IsHeld (type_at (slice_get ls j)) z) (sym (with_other l k j v ne)) (a j)
 ]
 
 -- a local is written
 pub fits_local : {G : ℕ} {ds : List StructDef} {ls : List Local} {own : ℕ} {f : Names} {scope : Scope} {r : Registers} {l : c.LocalRegisters} {m n : Memory} {input : List ℕ}
     (k : ℕ) (v w : Value) → IsValueOf f v w → IsHeld (type_at (slice_get ls k)) v → Fits G ds ls own f scope r l m n input
-    → Fits G ds ls own f scope (set_register k w r) (with_register l k v) m n input
+    → Fits G ds ls own f scope (set_register k w r) (with_local_value l k v) m n input
 fits_local {ls = ls} {f = f} {r = r} {l = l} k v w h held a = record {
   locals = λ j lt. elim (cases_eq j k) [
-    | inl e ↦ subst (λ i. IsValueOf f (with_register l k v i) (set_register k w r i)) (sym e) (subst (λ z. IsValueOf f z (set_register k w r k)) (sym (with_same l k v)) (value_at f v w r k h))
+    | inl e ↦ subst (λ i. IsValueOf f (with_local_value l k v i) (set_register k w r i)) (sym e) (subst (λ z. IsValueOf f z (set_register k w r k)) (sym (with_same l k v)) (value_at f v w r k h))
     | inr ne ↦ subst (λ z. IsValueOf f z (set_register k w r j)) (sym (with_other l k j v ne)) (subst (λ z. IsValueOf f (l j) z) (sym (set_other r k j w ne)) (a.locals j lt))
   ];
   held = held_with ls l k v a.held held;
@@ -174,10 +174,10 @@ fits_local {ls = ls} {f = f} {r = r} {l = l} k v w h held a = record {
 
 -- a local in a register begins without a value: the code does nothing
 pub fits_unset : {G : ℕ} {ds : List StructDef} {ls : List Local} {own : ℕ} {f : Names} {scope : Scope} {r : Registers} {l : c.LocalRegisters} {m n : Memory} {input : List ℕ}
-    (k : ℕ) → Fits G ds ls own f scope r l m n input → Fits G ds ls own f scope r (with_register l k Unset) m n input
+    (k : ℕ) → Fits G ds ls own f scope r l m n input → Fits G ds ls own f scope r (with_local_value l k Unset) m n input
 fits_unset {ls = ls} {f = f} {r = r} {l = l} k a = record {
   locals = λ j lt. elim (cases_eq j k) [
-    | inl e ↦ subst (λ i. IsValueOf f (with_register l k Unset i) (r j)) (sym e) (subst (λ z. IsValueOf f z (r j)) (sym (with_same l k Unset)) tt)
+    | inl e ↦ subst (λ i. IsValueOf f (with_local_value l k Unset i) (r j)) (sym e) (subst (λ z. IsValueOf f z (r j)) (sym (with_same l k Unset)) tt)
     | inr ne ↦ subst (λ z. IsValueOf f z (r j)) (sym (with_other l k j Unset ne)) (a.locals j lt)
   ];
   held = held_with ls l k Unset a.held (unset_held (type_at (slice_get ls k)));
@@ -199,12 +199,12 @@ fits_after {ds = ds} {ls = ls} {own = own} {f = f} {g = g} {r = r} {l = l} {m = 
   statics = λ k lt. x.names k k (a.statics k lt);
   memory = mem;
   small = λ o live. let was : is_live m o ≡ true = sym (x.lives o) ∙ live in subst (λ z. z ≤ MOST_DATA) (sym (x.sizes o was)) (a.small o was);
-  scopes = λ k o e. x.names o (own + object_of ls k) (a.scopes k o e);
-  stands = λ k y e mem. x.locals (own + object_of ls k) (size_of ds (type_view y.ty)) (a.stands k y e mem);
+  scopes = λ k o e. x.names o (own + object_index ls k) (a.scopes k o e);
+  stands = λ k y e mem. x.locals (own + object_index ls k) (size_of ds (type_view y.ty)) (a.stands k y e mem);
   owned = λ k o y e mem live named.
       let was : is_live m o ≡ true = sym (x.lives o) ∙ live in
       let had = a.memory.each o was in
-      let name : Some had.name ≡ Some (own + object_of ls k) = sym (x.names o had.name had.named) ∙ named in
+      let name : Some had.name ≡ Some (own + object_index ls k) = sym (x.names o had.name had.named) ∙ named in
       a.owned k o y e mem was (had.named ∙ name);
   bytes = bytes;
 }

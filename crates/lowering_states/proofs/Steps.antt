@@ -10,7 +10,7 @@ use Rattle.mem_model.specs.World.{World, Outer, Meter, Rooms, with_memory, with_
 use Rattle.mem_model.specs.Ending.{Ending, Trap, More, Evaluation, Gives, Ends}
 use Rattle.machine_model.specs.Code.{Stop, Traps, Writes, Jumps, Calls, Returns, Stops, Site}
 use Rattle.machine_model.specs.Machine as machine
-use Rattle.machine_model.specs.Machine.{Frame, Config, Next, Goes, Over, go_on, step_at, step_with, act_on, turn_if, world_of, stop_ending}
+use Rattle.machine_model.specs.Machine.{Frame, Config, Next, Goes, Over, go_on, step_at, step_with, act_on, turn_if, whole_world, stop_ending}
 use Rattle.c_arithmetic.specs.declared.outcome.ArithmeticOutcome.{ArithmeticOutcome}
 use Rattle.c_arithmetic.specs.declared.outcome.ArithmeticOutcome.TheVariants as o
 use Rattle.suifvm_ir.specs.declared.types.VmType.{VmType}
@@ -20,8 +20,8 @@ use Rattle.suifvm_ir.specs.declared.insn.VmInsn.TheVariants as n
 use Rattle.suifvm_ir.specs.Insns.{reads_of, writes_of}
 use Rattle.vm_meaning.specs.Operations.{is_set, value_holds}
 use Rattle.vm_meaning.specs.Behave.{FunctionCode, Registers, vm_code, registers_of, sizes_in, set_registers, insn_site, next_site, site_or_next, site_in_block, site_in_function}
-use Rattle.vm_meaning.specs.Effect.{is_taken, branches, does, takes_turn}
-use Rattle.c_semantics.specs.Runs.{CallState, Run, and_then, in_world, use_value, or_undefined, number, spend_turn, turn}
+use Rattle.vm_meaning.specs.Effect.{is_branch_taken, branches, does, takes_turn}
+use Rattle.c_semantics.specs.Runs.{CallState, Run, and_then, in_world, use_value, or_undefined, use_number, spend_turn, turn}
 use Rattle.c_semantics.specs.Objects.{access}
 use Rattle.c_semantics.specs.Operators.{outcome}
 use Rattle.c_semantics.specs.Reasons.{Reason}
@@ -119,7 +119,7 @@ module _ (rooms : Rooms) (functions : List FunctionCode) where
     jump block p r w m e next = step_on (at p r w m) (at (start_of_block block) r w m) (insn_site (n.Jump block)) (site_at p (Some (n.Jump block)) e) refl next
 
     pub branch_taken : {o : CodeObservation} (op : VmBranchOp) (ty : VmType) (source block : ℕ) (t : Bool) (p : CodePlace) (r : Registers) (w : World) (m : Memory) → stands_at code.blocks p ≡ Some (Some (n.Branch op ty source block))
-        → value_holds m ty (r source) ≡ Some t → is_taken op t ≡ true → Ends_so o (at (start_of_block block) r w m) → Ends_so o (at p r w m)
+        → value_holds m ty (r source) ≡ Some t → is_branch_taken op t ≡ true → Ends_so o (at (start_of_block block) r w m) → Ends_so o (at p r w m)
     branch_taken op ty source block t p r w m e holds taken next =
         let insn = n.Branch op ty source block in
         let o1 : Outer = outer_with_memory w.outer m in
@@ -128,7 +128,7 @@ module _ (rooms : Rooms) (functions : List FunctionCode) where
         ∙ ap (λ b. act_on Value Registers rooms (vm_code functions) (at p r w m) w.meter (insn_site insn) (if b then Jumps 0 o1 else Writes [] o1)) taken) next
 
     pub branch_passed : {o : CodeObservation} (op : VmBranchOp) (ty : VmType) (source block : ℕ) (t : Bool) (p : CodePlace) (r : Registers) (w : World) (m : Memory) → stands_at code.blocks p ≡ Some (Some (n.Branch op ty source block))
-        → value_holds m ty (r source) ≡ Some t → is_taken op t ≡ false → stands_at code.blocks (next_place p) ≡ Some None → Ends_so o (at (next_block p) r w m) → Ends_so o (at p r w m)
+        → value_holds m ty (r source) ≡ Some t → is_branch_taken op t ≡ false → stands_at code.blocks (next_place p) ≡ Some None → Ends_so o (at (next_block p) r w m) → Ends_so o (at p r w m)
     branch_passed op ty source block t p r w m e holds taken end next =
         let insn = n.Branch op ty source block in
         let o1 : Outer = outer_with_memory w.outer m in
@@ -148,7 +148,7 @@ module _ (rooms : Rooms) (functions : List FunctionCode) where
     turning insn p r w w1 m m1 t vs e takes some d meter next =
         step_on (at p r w m) (at (next_place p) (set_registers (writes_of insn) vs r) w1 m1) (insn_site insn) (site_at p (Some insn) e)
         (acts_turn insn p r w m (Some t) takes some ∙ ap (λ a. act_on Value Registers rooms (vm_code functions) (at p r w m) t (insn_site insn) a) d
-        ∙ ap (λ x. Goes (record { here = frame_of i own (next_place p) (set_registers (writes_of insn) vs r); callers = waiting; world = world_of (outer_with_memory w1.outer m1) x })) (sym meter)) next
+        ∙ ap (λ x. Goes (record { here = frame_of i own (next_place p) (set_registers (writes_of insn) vs r); callers = waiting; world = whole_world (outer_with_memory w1.outer m1) x })) (sym meter)) next
 
     pub turning_over : {o : CodeObservation} (insn : VmInsn) (p : CodePlace) (r : Registers) (w : World) (m : Memory) (t : Meter) (z : Stop) → stands_at code.blocks p ≡ Some (Some insn) → takes_turn insn ≡ true → take_turn w.meter ≡ Some t
         → does insn own (map r (reads_of insn)) (outer_with_memory w.outer m) ≡ Stops z (outer_with_memory w.outer m)
@@ -200,7 +200,7 @@ module _ (rooms : Rooms) (functions : List FunctionCode) where
   known_meets reason None s K k h = meets_anything refl
   known_meets reason (Some a) s K k h = h a refl
 
-  pub number_meets : (v : Value) (s : CallState) (K : ℕ → CallState → CodeObservation) (k : Config Registers) → ((x : ℕ) → v ≡ Word x → Meets rooms functions (K x s) k) → Meets rooms functions (finish (number v s) K) k
+  pub number_meets : (v : Value) (s : CallState) (K : ℕ → CallState → CodeObservation) (k : Config Registers) → ((x : ℕ) → v ≡ Word x → Meets rooms functions (K x s) k) → Meets rooms functions (finish (use_number v s) K) k
   unfolding opens
   number_meets (Word x) s K k h = h x refl
   number_meets (Address p) s K k h = meets_anything refl

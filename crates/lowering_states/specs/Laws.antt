@@ -16,7 +16,7 @@ use Rattle.c_typed_tree.specs.declared.units.Local.{Local}
 use Rattle.c_semantics.specs.Runs as c
 use Rattle.c_semantics.specs.Objects.{Scope}
 use Rattle.lowering_code.specs.declared.item.CodeItem.{CodeItem}
-use Rattle.lowering_code.specs.Items.{count}
+use Rattle.lowering_code.specs.Items.{block_total}
 use Rattle.lowering_code.specs.Layout.{blocks_of}
 use Rattle.lowering_states.specs.Places.{CodePlace, At, stands_at, next_place, next_block, start_of_block}
 use Rattle.lowering_states.specs.Runs.{CodeObservation, Meets, config}
@@ -25,7 +25,7 @@ use Rattle.lowering_states.specs.States.{IsHeld, type_at, Fits, After}
 -- the blocks of items have these
 abbrev pub BlocksHaveItems : Type 0
 BlocksHaveItems = (end : List VmInsn) (is : List CodeItem)
-    → At (blocks_of end is) (count is) end [] (start_of_block 0) is
+    → At (blocks_of end is) (block_total is) end [] (start_of_block 0) is
 
 -- within a call of a function whose code is there
 module _ (rooms : Rooms) (functions : List FunctionCode) (i own : ℕ) (code : FunctionCode)
@@ -80,4 +80,4 @@ LocalsAreWritten =
     (globals : ℕ) (ds : List StructDef) (ls : List Local) (own : ℕ) (f : Names) (scope : Scope) (r : Registers)
     (l : c.LocalRegisters) (m n : Memory) (input : List ℕ) (k : ℕ) (v w : Value) → IsValueOf f v w →
     IsHeld (type_at (slice_get ls k)) v → Fits globals ds ls own f scope r l m n input →
-    Fits globals ds ls own f scope (set_register k w r) (c.with_register l k v) m n input
+    Fits globals ds ls own f scope (set_register k w r) (c.with_local_value l k v) m n input

@@ -5,8 +5,8 @@ use Rattle.suifvm_ir.specs.declared.insn.VmInsn.{VmInsn}
 use Rattle.suifvm_ir.specs.declared.insn.VmInsn.TheVariants as n
 use Rattle.lowering_code.specs.declared.item.CodeItem.{CodeItem}
 use Rattle.lowering_code.specs.declared.item.CodeItem.TheVariants.{Start, Plain, Jump, Branch, Loop, Enter, Again, Repeat, Return}
-use Rattle.lowering_code.specs.Items.{count}
-use Rattle.lowering_code.specs.Layout.{head_of, outer_heads}
+use Rattle.lowering_code.specs.Items.{block_total}
+use Rattle.lowering_code.specs.Layout.{head_or_zero, outer_heads}
 
 -- a place in the blocks of a function
 pub record CodePlace : Type 0 where
@@ -57,12 +57,13 @@ module _ (blocks : List (List VmInsn)) (last : ℕ) (end : List VmInsn) where
   HasItems heads p (Enter ∷ is) =
       IsEnd p × IsInsn (next_block p) n.Mark × HasItems (suc p.block ∷ heads) (next_place (next_block p)) is
   HasItems heads p (Again ty source ∷ is) =
-      IsInsn p (n.Branch IfTrue ty source (head_of heads)) × IsEnd (next_place p)
+      IsInsn p (n.Branch IfTrue ty source (head_or_zero heads)) × IsEnd (next_place p)
       × HasItems (outer_heads heads) (next_block p) is
-  HasItems heads p (Repeat ∷ is) = IsInsn p (n.Jump (head_of heads)) × HasItems (outer_heads heads) (next_block p) is
+  HasItems heads p (Repeat ∷ is) = IsInsn p (n.Jump (head_or_zero heads)) × HasItems (outer_heads heads)
+      (next_block p) is
   HasItems heads p (Return value ∷ is) = IsInsn p (n.Return value) × HasItems heads (next_block p) is
 
   -- the items stand there, and as many blocks begin behind the place as they have
   pub record At (heads : List ℕ) (p : CodePlace) (is : List CodeItem) : Type 0 where
     pub has : HasItems heads p is
-    pub size : p.block + count is ≡ last
+    pub size : p.block + block_total is ≡ last

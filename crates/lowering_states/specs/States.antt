@@ -13,9 +13,9 @@ use Rattle.c_typed_tree.specs.Types.{PlainType, Void, Int, Pointer, Array, Struc
 use Rattle.c_typed_tree.specs.View.{type_view}
 use Rattle.c_typed_tree.specs.Layout.{size_of}
 use Rattle.c_semantics.specs.Runs as c
-use Rattle.c_semantics.specs.Objects.{Scope, integer_of}
+use Rattle.c_semantics.specs.Objects.{Scope, integer_or_word}
 use Rattle.vm_meaning.specs.Behave.{Registers}
-use Rattle.lowering_code.specs.Registers.{object_of}
+use Rattle.lowering_code.specs.Registers.{object_index}
 
 -- ---- values
 
@@ -23,7 +23,7 @@ use Rattle.lowering_code.specs.Registers.{object_of}
 abbrev pub IsHeld : PlainType → Value → Type 0
 IsHeld ty Unset = Unit {0}
 IsHeld Void v = Unit {0}
-IsHeld (Int bytes signed) (Word n) = is_word (integer_of (Int bytes signed)) n ≡ true
+IsHeld (Int bytes signed) (Word n) = is_word (integer_or_word (Int bytes signed)) n ≡ true
 IsHeld (Int bytes signed) (Address p) = ⊥
 IsHeld (Pointer target) (Word n) = n ≡ 0
 IsHeld (Pointer target) (Address p) = Unit {0}
@@ -66,12 +66,12 @@ pub record Fits (globals : ℕ) (ds : List StructDef) (ls : List Local) (own : �
   pub memory : IsMemoryOf f m n
   -- no object is larger than the data may be
   pub small : (o : ℕ) → is_live m o ≡ true → size_in m o ≤ MOST_DATA
-  pub scopes : (k o : ℕ) → scope k ≡ Some o → f o ≡ Some (own + object_of ls k)
+  pub scopes : (k o : ℕ) → scope k ≡ Some o → f o ≡ Some (own + object_index ls k)
   pub stands : (k : ℕ) (x : Local) → slice_get ls k ≡ Some x → x.in_memory ≡ true
-      → IsLocal n (own + object_of ls k) (size_of ds (type_view x.ty))
+      → IsLocal n (own + object_index ls k) (size_of ds (type_view x.ty))
   -- a live object with such a name is the one in scope
   pub owned : (k o : ℕ) (x : Local) → slice_get ls k ≡ Some x → x.in_memory ≡ true → is_live m o ≡ true
-      → f o ≡ Some (own + object_of ls k) → scope k ≡ Some o
+      → f o ≡ Some (own + object_index ls k) → scope k ≡ Some o
   pub bytes : All (λ b. b < 256) input
 
 -- the registers from the first one of expressions to those of a depth are as before

@@ -11,8 +11,8 @@ use Rattle.c_typed_tree.specs.Types.{PlainType, Void, Pointer, Array, Struct}
 use Rattle.c_typed_tree.specs.Expressions.{Expr, Assign, Cast, Convert, type_of}
 use Rattle.c_semantics.specs.Runs.{CallState, Run, and_then, pure}
 use Rattle.c_semantics.specs.Objects as obj
-use Rattle.c_semantics.specs.Objects.{Scope, pointer_to, write_at}
-use Rattle.c_semantics.specs.Evaluates.{eval, place, assign, converted_from}
+use Rattle.c_semantics.specs.Objects.{Scope, place_pointer, write_at}
+use Rattle.c_semantics.specs.Evaluates.{eval, place, assign_value, converted_from}
 use Rattle.suifvm_ir.specs.declared.types.VmType.TheVariants.{P64}
 use Rattle.vm_meaning.specs.Behave.{Registers}
 use Rattle.lowering_code.specs.declared.item.CodeItem.{CodeItem}
@@ -58,8 +58,8 @@ module _ (c : Setting) (found : slice_get c.functions c.number ≡ Some c.code) 
     array_leads d rest heads p1 f scope r s m K at fit low next =
         let at1 = subst (λ z. Stands c heads p1 (conversion_code L c.structs c.locals d z (Pointer target) (left_of c x 0) (λ is. place_code L c.structs c.locals d x 0 is) (λ is. expr_code L c.structs c.locals d x is) rest)) ex at in
         meets_same c.rooms c.functions (ap (λ z. finish (converted_from z (Pointer target) (eval c.structs c.locals c.calls scope x) (place c.structs c.locals c.calls scope x) s) K) ex)
-        (bound c found (place c.structs c.locals c.calls scope x s) pointer_to K p1 r s.world m
-        (hx.by d 0 (moved_code L d (left_of c x 0) rest) heads p1 f scope r s m (λ z t. finish (pointer_to z t) K) (omega arith) (omega arith) at1 fit low
+        (bound c found (place c.structs c.locals c.calls scope x s) place_pointer K p1 r s.world m
+        (hx.by d 0 (moved_code L d (left_of c x 0) rest) heads p1 f scope r s m (λ z t. finish (place_pointer z t) K) (omega arith) (omega arith) at1 fit low
         (λ q base v g t q1 m1 at2 aft fit1 kept held stands small is_base.
         moved_on c found d (left_of c x 0) rest heads scope r q base v g t q1 m1 at2 fit1 kept stands small (is_base v (inl (refl, refl)))
         (λ q2 q3 stands2 fit2 kept2 rel2. next q2 v g t q3 m1 stands2 aft fit2 kept2 (any_pointer target v held) rel2))))
@@ -83,14 +83,14 @@ module _ (c : Setting) (found : slice_get c.functions c.number ≡ Some c.code) 
         let tail : List CodeItem = copy_code c.structs (address_register L d) (address_register L (suc d)) ty rest in
         let code_e =
         ap (λ z. assign_code L c.structs c.locals d None ty (type_of y) left z (λ is. place_code L c.structs c.locals d x 0 is) (λ j is. expr_code L c.structs c.locals j y is) rest) none in
-        let run : obj.ValuePlace → Run Value = λ z t. and_then (eval c.structs c.locals c.calls scope y t) (assign c.structs ty (type_of y) None z) in
+        let run : obj.ValuePlace → Run Value = λ z t. and_then (eval c.structs c.locals c.calls scope y t) (assign_value c.structs ty (type_of y) None z) in
         bound c found (place c.structs c.locals c.calls scope x s) run K p1 r s.world m
         (hx.by d 0 (moved_code L d left (expr_code L c.structs c.locals (suc d) y tail)) heads p1 f scope r s m (λ z t. finish (run z t) K) (omega arith) (omega arith) (subst (λ z. Stands c heads p1 z) code_e at) fit low
         (λ q base to g t q1 m1 at1 aft fit1 kept held stands small is_base.
         moved_on c found d left (expr_code L c.structs c.locals (suc d) y tail) heads scope r q base to g t q1 m1 at1 fit1 kept stands small (is_base to (inl (refl, refl)))
         (λ q2 q3 at2 fit2 kept2 rel2.
-        bound c found (eval c.structs c.locals c.calls scope y t) (assign c.structs ty (type_of y) None (obj.At to)) K q2 q3 t.world m1
-        (hy.by (suc d) tail heads q2 g scope q3 t m1 (λ v u. finish (assign c.structs ty (type_of y) None (obj.At to) v u) K) at2 fit2 (omega (arith, aft.turned, low))
+        bound c found (eval c.structs c.locals c.calls scope y t) (assign_value c.structs ty (type_of y) None (obj.At to)) K q2 q3 t.world m1
+        (hy.by (suc d) tail heads q2 g scope q3 t m1 (λ v u. finish (assign_value c.structs ty (type_of y) None (obj.At to) v u) K) at2 fit2 (omega (arith, aft.turned, low))
         (λ q4 v h u q5 m2 at3 aft2 fit3 kept3 held3 stands3.
         let stands4 : IsInRegister h ty v (q5 (value_register L (suc d) ty)) = subst (λ z. IsInRegister h z v (q5 (value_register L (suc d) z))) ey stands3 in
         let same : q5 (address_register L d) ≡ q3 (address_register L d) = kept_reads d P64 (omega arith) kept3 in

@@ -6,10 +6,10 @@ use Rattle.c_typed_tree.specs.declared.units.Local.{Local}
 use Rattle.c_typed_tree.specs.declared.statements.TLabel.{TLabel}
 use Rattle.c_typed_tree.specs.declared.statements.TLabel.TheVariants.{Case, Default}
 use Rattle.c_typed_tree.specs.Statements.{Sections, no_sections, more_sections}
-use Rattle.c_semantics.specs.Executes.{is_label_of, has_label, target_in}
+use Rattle.c_semantics.specs.Executes.{is_chosen_label, has_label, target_in}
 use Rattle.lowering_code.specs.declared.item.CodeItem.{CodeItem}
-use Rattle.lowering_code.specs.Items.{count}
-use Rattle.lowering_code.specs.Statements.{Target, default_name, stmts_code, sections_code, targets_of}
+use Rattle.lowering_code.specs.Items.{block_total}
+use Rattle.lowering_code.specs.Statements.{Target, default_name, stmts_code, sections_code, switch_targets}
 
 -- the name of the first label of a value
 abbrev pub case_in : (n : ℕ) → TLabel → (name : ℕ) → Option ℕ → Option ℕ
@@ -25,10 +25,10 @@ module _ (L : ℕ) (ds : List StructDef) (ls : List Local) (brk con : ℕ) (rest
   abbrev pub section_name : Option ℕ → (otherwise : ℕ) → Sections → ℕ
   section_name target otherwise no_sections = otherwise
   section_name target otherwise (more_sections label ss sections) =
-      if is_label_of target label then count (stmts_code L ds ls brk con ss (sections_code L ds ls brk con sections rest)) else section_name target otherwise sections
+      if is_chosen_label target label then block_total (stmts_code L ds ls brk con ss (sections_code L ds ls brk con sections rest)) else section_name target otherwise sections
 
   abbrev targets : Sections → List Target
-  targets sections = targets_of L ds ls brk con sections rest
+  targets sections = switch_targets L ds ls brk con sections rest
 
   -- a label of the value is there, and is the section's
   case_found : (n name otherwise : ℕ) (sections : Sections) → case_of n (targets sections) ≡ Some name → (has_label (Some n) sections ≡ true) × (section_name (Some n) otherwise sections ≡ name)
@@ -37,7 +37,7 @@ module _ (L : ℕ) (ds : List StructDef) (ls : List Local) (brk con : ℕ) (rest
   case_found n name otherwise (more_sections (Case word) ss sections) e = by_test (n == word) e (λ h. case_found n name otherwise sections h)
     where
       first : ℕ
-      first = count (stmts_code L ds ls brk con ss (sections_code L ds ls brk con sections rest))
+      first = block_total (stmts_code L ds ls brk con ss (sections_code L ds ls brk con sections rest))
 
       by_test : (b : Bool) → (if b then Some first else case_of n (targets sections)) ≡ Some name → (case_of n (targets sections) ≡ Some name → (has_label (Some n) sections ≡ true) × (section_name (Some n) otherwise sections ≡ name))
           → ((b || has_label (Some n) sections) ≡ true) × ((if b then first else section_name (Some n) otherwise sections) ≡ name)
@@ -50,7 +50,7 @@ module _ (L : ℕ) (ds : List StructDef) (ls : List Local) (brk con : ℕ) (rest
   case_missing n (more_sections (Case word) ss sections) e = by_test (n == word) e (λ h. case_missing n sections h)
     where
       first : ℕ
-      first = count (stmts_code L ds ls brk con ss (sections_code L ds ls brk con sections rest))
+      first = block_total (stmts_code L ds ls brk con ss (sections_code L ds ls brk con sections rest))
 
       by_test : (b : Bool) → (if b then Some first else case_of n (targets sections)) ≡ None → (case_of n (targets sections) ≡ None → has_label (Some n) sections ≡ false) → (b || has_label (Some n) sections) ≡ false
       by_test true h behind = absurd (cc)

@@ -8,16 +8,16 @@ use Rattle.c_arithmetic.specs.IntegerTypes.{promote}
 use Rattle.c_typed_tree.specs.Expressions.{Expr, type_of}
 use Rattle.c_typed_tree.specs.Statements.{Stmt, Switch, Stmts, no_stmts, more_stmts, Sections, no_sections, more_sections}
 use Rattle.c_typed_tree.specs.Declarations.{sections_declarations, stmts_declarations}
-use Rattle.c_semantics.specs.Runs.{CallState, Run, and_then, number}
+use Rattle.c_semantics.specs.Runs.{CallState, Run, and_then, use_number}
 use Rattle.c_semantics.specs.Objects.{Scope}
 use Rattle.c_semantics.specs.Evaluates.{eval}
-use Rattle.c_semantics.specs.Executes.{StatementFlow, and_next, after_switch, is_label_of, target_in, execs, exec_sections, exec_from}
+use Rattle.c_semantics.specs.Executes.{StatementFlow, and_next, after_switch, is_chosen_label, target_in, execs, exec_sections, exec_from}
 use Rattle.vm_meaning.specs.Behave.{Registers}
 use Rattle.lowering_code.specs.declared.item.CodeItem.{CodeItem}
 use Rattle.lowering_code.specs.declared.item.CodeItem.TheVariants.{Start, Jump}
 use Rattle.lowering_code.specs.Items as items
 use Rattle.lowering_code.specs.Expressions.{plain_of}
-use Rattle.lowering_code.specs.Statements.{default_name, labels_code, stmts_code, sections_code, targets_of}
+use Rattle.lowering_code.specs.Statements.{default_name, labels_code, stmts_code, sections_code, switch_targets}
 use Rattle.lowering_states.specs.Places.{CodePlace, next_block, start_of_block}
 use Rattle.lowering_states.specs.Runs.{opens, CodeObservation, finish}
 use Rattle.lowering_states.proofs.Steps.{fall, jump, number_meets}
@@ -48,7 +48,7 @@ module _ (c : Setting) (found : slice_get c.functions c.number ≡ Some c.code) 
   L = count c
 
   abbrev brk : ℕ
-  brk = items.count rest
+  brk = items.block_total rest
 
   abbrev code : Sections → List CodeItem
   code sections = sections_code L c.structs c.locals brk con sections (Start ∷ rest)
@@ -98,7 +98,7 @@ module _ (c : Setting) (found : slice_get c.functions c.number ≡ Some c.code) 
       let size = there.size in
       at_block c found r s.world m (suc p.block) (c.last - brk) (omega (arith, size)) (way.goes (next_block p) f s r m there after_same fit)
   from_leads (more_sections label ss sections) h target p at f scope r s m K apart fit low way =
-      by_label (is_label_of target label)
+      by_label (is_chosen_label target label)
       (let behind : Somewhere c.code.blocks c.last c.end heads (code sections) = left_stmts c.code.blocks c.last c.end L c.structs c.locals ss brk con heads (code sections) (record { place = next_block p; at = there }) in
       from_leads sections h.2 target behind.place behind.at f scope r s m K (λ k lt. apart k (omega (arith, lt))) fit low way)
     where
@@ -117,68 +117,68 @@ module _ (c : Setting) (found : slice_get c.functions c.number ≡ Some c.code) 
           → EndsSo c (finish (exec_from c.structs c.locals c.calls again scope target sections s) K) (start_of_block (c.last - section_name L c.structs c.locals brk con (Start ∷ rest) target brk sections)) r s.world m
           → EndsSo c
           (finish (if◌then◌else◌ {A = Run StatementFlow} x (λ s1. and_then (execs c.structs c.locals c.calls again scope ss s1) (and_next (run_all scope sections))) (exec_from c.structs c.locals c.calls again scope target sections) s) K)
-          (start_of_block (c.last - (if x then items.count (from ss sections) else section_name L c.structs c.locals brk con (Start ∷ rest) target brk sections))) r s.world m
+          (start_of_block (c.last - (if x then items.block_total (from ss sections) else section_name L c.structs c.locals brk con (Start ∷ rest) target brk sections))) r s.world m
       by_label true next =
-          at_block c found r s.world m (suc p.block) (c.last - items.count (from ss sections)) (let size = there.size in omega (arith, size))
+          at_block c found r s.world m (suc p.block) (c.last - items.block_total (from ss sections)) (let size = there.size in omega (arith, size))
           (section_leads ss sections h.1 (sections_lead sections h.2) (next_block p) f scope r s m K (λ k lt. first_apart scope ss k lt (λ some. apart k (omega (arith, some)))) (λ k lt. apart k (omega (arith, lt))) there fit low falls)
       by_label false next = next
 
 -- the labels of sections
-labels_of : (c : Setting) (again : Scope → Stmt → Run StatementFlow) (t : IntegerType) (brk con : ℕ) (sections : Sections) (rest : List CodeItem) → SectionsMeet c again t sections → AreLabelsOf t (targets_of (count c) c.structs c.locals brk con sections rest)
+labels_of : (c : Setting) (again : Scope → Stmt → Run StatementFlow) (t : IntegerType) (brk con : ℕ) (sections : Sections) (rest : List CodeItem) → SectionsMeet c again t sections → AreLabelsOf t (switch_targets (count c) c.structs c.locals brk con sections rest)
 labels_of c again t brk con no_sections rest h = tt
 labels_of c again t brk con (more_sections label ss sections) rest h = (h.0, labels_of c again t brk con sections rest h.2)
 
 module _ (c : Setting) (found : slice_get c.functions c.number ≡ Some c.code) (again : Scope → Stmt → Run StatementFlow) (t : IntegerType) (x : Expr) (sections : Sections) (pt : promote t ≡ t) (ex : type_of x ≡ plain_of t) (hx : ExprMeets c x) (hs : SectionsMeet c again t sections) where
   -- behind a `switch` a `break` goes on
   behind_switch : {scope : Scope} {f : Names} {s : CallState} {m : Memory} {K : StatementFlow → CallState → CodeObservation} {heads : List ℕ} {rest : List CodeItem} {brk con : ℕ} (block : ℕ) → Stands c heads (start_of_block block) rest → Onward c scope f s m K heads rest brk con
-      → Onward c scope f s m (λ z u. finish (after_switch z u) K) heads rest (items.count rest) con
+      → Onward c scope f s m (λ z u. finish (after_switch z u) K) heads rest (items.block_total rest) con
   unfolding opens
   behind_switch {rest = rest} block at way = record {
     goes = way.goes;
-    breaks = λ g u r n aft fit. at_block c found r u.world n block (c.last - items.count rest) (let size = at.size in omega (arith, size)) (way.goes (start_of_block block) g u r n at aft fit);
+    breaks = λ g u r n aft fit. at_block c found r u.world n block (c.last - items.block_total rest) (let size = at.size in omega (arith, size)) (way.goes (start_of_block block) g u r n at aft fit);
     continues = way.continues;
     returns = way.returns;
   }
 
   -- behind all sections a block begins with what comes behind
-  block_behind : (con : ℕ) (rest : List CodeItem) (heads : List ℕ) (ss : Sections) (p : CodePlace) → Stands c heads p (sections_code (count c) c.structs c.locals (items.count rest) con ss (Start ∷ rest)) → (block : ℕ) × Stands c heads (start_of_block block) rest
+  block_behind : (con : ℕ) (rest : List CodeItem) (heads : List ℕ) (ss : Sections) (p : CodePlace) → Stands c heads p (sections_code (count c) c.structs c.locals (items.block_total rest) con ss (Start ∷ rest)) → (block : ℕ) × Stands c heads (start_of_block block) rest
   block_behind con rest heads no_sections p at = (suc p.block, at_start c.code.blocks c.last c.end at)
   block_behind con rest heads (more_sections label ss others) p at =
-      let behind : Somewhere c.code.blocks c.last c.end heads (sections_code (count c) c.structs c.locals (items.count rest) con others (Start ∷ rest)) =
-      left_stmts c.code.blocks c.last c.end (count c) c.structs c.locals ss (items.count rest) con heads (sections_code (count c) c.structs c.locals (items.count rest) con others (Start ∷ rest)) (record { place = next_block p; at = at_start c.code.blocks c.last c.end at }) in
+      let behind : Somewhere c.code.blocks c.last c.end heads (sections_code (count c) c.structs c.locals (items.block_total rest) con others (Start ∷ rest)) =
+      left_stmts c.code.blocks c.last c.end (count c) c.structs c.locals ss (items.block_total rest) con heads (sections_code (count c) c.structs c.locals (items.block_total rest) con others (Start ∷ rest)) (record { place = next_block p; at = at_start c.code.blocks c.last c.end at }) in
       block_behind con rest heads others behind.place behind.at
 
   switches : StmtMeets c again (Switch x sections)
   unfolding opens
   switches = record {
     by = λ brk con rest heads p f scope r s m K apart at fit low way.
-        let bodies = sections_code (count c) c.structs c.locals (items.count rest) con sections (Start ∷ rest) in
-        let targets = targets_of (count c) c.structs c.locals (items.count rest) con sections (Start ∷ rest) in
-        let tail : List CodeItem = Jump (default_name (items.count rest) targets) ∷ bodies in
+        let bodies = sections_code (count c) c.structs c.locals (items.block_total rest) con sections (Start ∷ rest) in
+        let targets = switch_targets (count c) c.structs c.locals (items.block_total rest) con sections (Start ∷ rest) in
+        let tail : List CodeItem = Jump (default_name (items.block_total rest) targets) ∷ bodies in
         let chosen : ℕ → Run StatementFlow = (λ k. exec_from c.structs c.locals c.calls again scope (target_in k sections) sections) in
         let K1 : StatementFlow → CallState → CodeObservation = (λ z u. finish (after_switch z u) K) in
-        bound c found (and_then (and_then (eval c.structs c.locals c.calls scope x s) number) chosen) after_switch K p r s.world m
-        (bound c found (and_then (eval c.structs c.locals c.calls scope x s) number) chosen K1 p r s.world m
-        (bound c found (eval c.structs c.locals c.calls scope x s) number (λ k u. finish (chosen k u) K1) p r s.world m
-        (hx.by 0 (labels_code (count c) c.structs c.locals (type_of x) targets tail) heads p f scope r s m (λ v u. finish (number v u) (λ k u1. finish (chosen k u1) K1)) at fit low
+        bound c found (and_then (and_then (eval c.structs c.locals c.calls scope x s) use_number) chosen) after_switch K p r s.world m
+        (bound c found (and_then (eval c.structs c.locals c.calls scope x s) use_number) chosen K1 p r s.world m
+        (bound c found (eval c.structs c.locals c.calls scope x s) use_number (λ k u. finish (chosen k u) K1) p r s.world m
+        (hx.by 0 (labels_code (count c) c.structs c.locals (type_of x) targets tail) heads p f scope r s m (λ v u. finish (use_number v u) (λ k u1. finish (chosen k u1) K1)) at fit low
         (λ q v g u q1 m1 at1 aft fit1 kept held stands.
         number_meets c.rooms c.functions v u (λ k u1. finish (chosen k u1) K1) _ (λ k is.
         let word = word_in g (count c) 0 (type_of x) t v k q1 ex is held stands in
         let at2 : Stands c heads q (labels_code (count c) c.structs c.locals (plain_of t) targets tail) = subst (λ z. Stands c heads q (labels_code (count c) c.structs c.locals z targets tail)) ex at1 in
         let jump_at : Somewhere c.code.blocks c.last c.end heads tail = left_labels c.code.blocks c.last c.end (count c) c.structs c.locals (plain_of t) targets heads tail (record { place = q; at = at2 }) in
-        let bodies_at : Stands c heads (next_block jump_at.place) bodies = at_jump c.code.blocks c.last c.end (default_name (items.count rest) targets) jump_at.at in
+        let bodies_at : Stands c heads (next_block jump_at.place) bodies = at_jump c.code.blocks c.last c.end (default_name (items.block_total rest) targets) jump_at.at in
         let behind = block_behind con rest heads sections (next_block jump_at.place) bodies_at in
-        let way1 : Onward c scope g u m1 K1 heads rest (items.count rest) con =
+        let way1 : Onward c scope g u m1 K1 heads rest (items.block_total rest) con =
         behind_switch {s = u} behind.0 behind.1 (let w : Onward c scope g u m1 K heads rest brk con = onward_on c found again {s = s} {t = u} aft way in record { goes = w.goes; breaks = w.breaks; continues = w.continues; returns = w.returns }) in
-        let there : (q2 : Registers) → Fit c g scope q2 u m1 → EndsSo c (finish (chosen k u) K1) (start_of_block (c.last - section_name (count c) c.structs c.locals (items.count rest) con (Start ∷ rest) (target_in k sections) (items.count rest) sections)) q2 u.world m1 =
+        let there : (q2 : Registers) → Fit c g scope q2 u m1 → EndsSo c (finish (chosen k u) K1) (start_of_block (c.last - section_name (count c) c.structs c.locals (items.block_total rest) con (Start ∷ rest) (target_in k sections) (items.block_total rest) sections)) q2 u.world m1 =
         (λ q2 fit2.
         from_leads c found again t con rest heads sections hs (target_in k sections) (next_block jump_at.place) bodies_at g scope q2 u m1 K1 (λ j lt. apart j (omega (arith, lt))) fit2 (omega (arith, aft.turned, low)) way1) in
-        labels_lead c found t pt k word.is_one tail heads g scope u m1 targets (labels_of c again t (items.count rest) con sections (Start ∷ rest) hs) q q1 at2 (record { fit = fit1; stands = word.stands })
+        labels_lead c found t pt k word.is_one tail heads g scope u m1 targets (labels_of c again t (items.block_total rest) con sections (Start ∷ rest) hs) q q1 at2 (record { fit = fit1; stands = word.stands })
         (λ name e q2 h.
-        at_block c found q2 u.world m1 _ (c.last - name) (ap (λ z. c.last - z) (found_name (count c) c.structs c.locals (items.count rest) con (Start ∷ rest) k name (items.count rest) sections e)) (there q2 h.fit))
+        at_block c found q2 u.world m1 _ (c.last - name) (ap (λ z. c.last - z) (found_name (count c) c.structs c.locals (items.block_total rest) con (Start ∷ rest) k name (items.block_total rest) sections e)) (there q2 h.fit))
         (λ e p2 q2 at3 h.
-        jump c.rooms c.functions c.number c.code found c.own c.waiting (c.last - default_name (items.count rest) targets) p2 q2 u.world m1 at3.has.0
-        (at_block c found q2 u.world m1 _ (c.last - default_name (items.count rest) targets) (ap (λ z. c.last - z) (missing_name (count c) c.structs c.locals (items.count rest) con (Start ∷ rest) k (items.count rest) sections e)) (there q2 h.fit))))))));
+        jump c.rooms c.functions c.number c.code found c.own c.waiting (c.last - default_name (items.block_total rest) targets) p2 q2 u.world m1 at3.has.0
+        (at_block c found q2 u.world m1 _ (c.last - default_name (items.block_total rest) targets) (ap (λ z. c.last - z) (missing_name (count c) c.structs c.locals (items.block_total rest) con (Start ∷ rest) k (items.block_total rest) sections e)) (there q2 h.fit))))))));
   }
 
 pub switches_meet : SwitchesMeet

@@ -16,7 +16,7 @@ use Rattle.c_typed_tree.specs.declared.units.TypedUnit.{TypedUnit}
 use Rattle.c_typed_tree.specs.Lawful as lawful
 use Rattle.c_typed_tree.specs.Lawful.{IsTypedUnit}
 use Rattle.c_semantics.specs.Behaves as c
-use Rattle.c_semantics.specs.Behaves.{place_of_main, behaviour_of, rooms_of, run}
+use Rattle.c_semantics.specs.Behaves.{place_of_main, behaviour_of, rooms_of, run_main}
 use Rattle.lowering.specs.Lowered.{IsLowered, AreLowered}
 use Rattle.lowering_unit_theorem.specs.LoweringFunctionLaws.{code_for}
 use Rattle.lowering_unit_theorem.specs.Laws.{RunsTo}
@@ -80,7 +80,7 @@ mains_same u gs typed l =
 
 pub programs_keep_meaning : ProgramsKeepMeaning
 programs_keep_meaning u p typed code rooms input turns bytes defined =
-    let o : Ending = run u rooms input turns in
+    let o : Ending = run_main u rooms input turns in
     let first = code_keeps_meaning u typed rooms input turns bytes defined in
     let second = subst (λ fs. RunsTo rooms fs (c.main_of u) u.globals input turns o) (codes_same u.structs u.functions p.functions code.functions) first in
     let third = subst (λ k. RunsTo rooms (map code_of p.functions) k u.globals input turns o) (mains_same u p.functions typed code.functions) second in
@@ -117,7 +117,7 @@ behaviours_same (Undefined v m) (More w) h s = absurd s
 
 pub behaviours_are_kept : BehavioursAreKept
 behaviours_are_kept u p typed code input turns bytes ne =
-    let o : Ending = run u (rooms_of u) input turns in
+    let o : Ending = run_main u (rooms_of u) input turns in
     let defined = defined_is o ne in
     let it : VmRunsTo (rooms_of u) p input turns o = programs_keep_meaning u p typed code (rooms_of u) input turns bytes defined in
     let same = behaviours_same it.ending o defined it.same in

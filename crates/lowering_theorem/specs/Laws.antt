@@ -7,7 +7,7 @@ use Rattle.vm_meaning.specs.Behave.{behave_vm}
 use Rattle.c_mean.specs.Behaviour as b
 use Rattle.c_typed_tree.specs.declared.units.TypedUnit.{TypedUnit}
 use Rattle.c_typed_tree.specs.Lawful.{IsTypedUnit}
-use Rattle.c_semantics.specs.Behaves.{behave_c, behaviour_of, peak, rooms_of, run}
+use Rattle.c_semantics.specs.Behaves.{behave_c, behaviour_of, peak, rooms_of, run_main}
 use Rattle.lowering.specs.Lowered.{AreLowered}
 
 -- a program is the code of a unit: its functions are that of the unit's, by their numbers, and its objects are those of
@@ -27,7 +27,7 @@ abbrev pub ProgramsKeepMeaning : Type 0
 ProgramsKeepMeaning =
     (u : TypedUnit) (p : VmProgram) → IsTypedUnit u → IsCodeOf u p →
     (rooms : Rooms) (input : List ℕ) (turns : ℕ) → All (λ byte. byte < 256) input →
-    IsDefined (run u rooms input turns) → VmRunsTo rooms p input turns (run u rooms input turns)
+    IsDefined (run_main u rooms input turns) → VmRunsTo rooms p input turns (run_main u rooms input turns)
 
 -- what a program does, with the rooms of the functions of the unit, is what the unit does
 pub record BehavesAsUnit (u : TypedUnit) (p : VmProgram) (input : List ℕ) (turns : ℕ) : Type 0 where

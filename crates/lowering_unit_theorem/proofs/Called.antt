@@ -13,9 +13,9 @@ use Rattle.c_typed_tree.specs.declared.units.TypedUnit.{TypedUnit}
 use Rattle.c_typed_tree.specs.Types.{PlainType, Int}
 use Rattle.c_typed_tree.specs.View.{type_view, stmt_view}
 use Rattle.c_typed_tree.specs.Layout.{is_object, size_of}
-use Rattle.c_typed_tree.specs.Typing.{is_same_type, int, is_scalar, is_type, depth_of, most_depth}
+use Rattle.c_typed_tree.specs.Typing.{is_same_type, int, is_scalar, is_valid_type, depth_of, most_depth}
 use Rattle.c_typed_tree.specs.Declarations.{declarations, due_declarations}
-use Rattle.c_typed_tree.specs.Lawful.{IsTypedUnit, IsTypedFn, HasMain, is_main, is_start, mains_of, is_lawful_local, is_object_type, type_of_local, parameters_of}
+use Rattle.c_typed_tree.specs.Lawful.{IsTypedUnit, IsTypedFn, HasMain, is_main, is_start, mains_of, is_lawful_local, is_object_type, type_of_local, types_of_parameters}
 use Rattle.c_layout_laws.proofs.Truth.{front, back, all_at}
 use Rattle.c_semantics.specs.Behaves.{place_of_main}
 use Rattle.lowering_bounds.proofs.Typing.{same}
@@ -82,12 +82,12 @@ pub may_be_called : (u : TypedUnit) → IsTypedUnit u → (k : ℕ) (f : TypedFn
 may_be_called u lawful k f e =
     let fn = typed_at u lawful k f e in
     record {
-      scalars = λ j l at. scalar_known (type_view l.ty) (all_pass is_scalar (parameters_of f) j (type_of_local l) fn.scalars (slice_get-map type_of_local (take f.params f.locals) j ∙ ap (λ o. option_map type_of_local o) at));
+      scalars = λ j l at. scalar_known (type_view l.ty) (all_pass is_scalar (types_of_parameters f) j (type_of_local l) fn.scalars (slice_get-map type_of_local (take f.params f.locals) j ∙ ap (λ o. option_map type_of_local o) at));
       small = λ j l at inside.
           let ty = type_of_local l in
           let a = all_pass (is_lawful_local u.structs) f.locals j l fn.locals at in
-          let o = front (is_type u.structs ty && is_object u.structs ty) (nat_le (depth_of u.structs ty) most_depth) (front (is_object_type u.structs ty) (is_scalar ty || l.in_memory) a) in
-          object_small u.structs lawful.structs ty (front (is_type u.structs ty) (is_object u.structs ty) o) (back (is_type u.structs ty) (is_object u.structs ty) o);
+          let o = front (is_valid_type u.structs ty && is_object u.structs ty) (nat_le (depth_of u.structs ty) most_depth) (front (is_object_type u.structs ty) (is_scalar ty || l.in_memory) a) in
+          object_small u.structs lawful.structs ty (front (is_valid_type u.structs ty) (is_object u.structs ty) o) (back (is_valid_type u.structs ty) (is_object u.structs ty) o);
       apart = λ j lt.
           let due = fn.declares j in
           let none = none_due (nat_le f.params j) (nat_lt j (length f.locals)) (above f.params j lt) in

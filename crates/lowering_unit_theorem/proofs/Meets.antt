@@ -13,19 +13,19 @@ use Rattle.c_typed_tree.specs.declared.units.TypedUnit.{TypedUnit}
 use Rattle.c_typed_tree.specs.Types.{Void}
 use Rattle.c_typed_tree.specs.View.{type_view, stmt_view}
 use Rattle.c_typed_tree.specs.Statements.{Stmt}
-use Rattle.c_typed_tree.specs.Lawful.{IsTypedUnit, parameters_of}
+use Rattle.c_typed_tree.specs.Lawful.{IsTypedUnit, types_of_parameters}
 use Rattle.c_semantics.specs.Reasons.{UsesNoValue}
 use Rattle.c_semantics.specs.Runs.{Run, no_turn, undefined, turn, ◌>>◌}
 use Rattle.c_semantics.specs.Objects.{Scope}
 use Rattle.c_semantics.specs.Evaluates.{Functions}
-use Rattle.c_semantics.specs.Executes.{StatementFlow, Level, exec, within_call, call_of, calls_of, locals_of, level}
+use Rattle.c_semantics.specs.Executes.{StatementFlow, Level, exec, within_call, call_with_turn, calls_of, function_locals, level}
 use Rattle.lowering_states.specs.Runs.{opens}
 use Rattle.lowering_states.proofs.Steps.{meets_anything}
 use Rattle.lowering_expression_laws.specs.Parts.{Setting}
 use Rattle.lowering_statement_laws.specs.Parts.{StmtMeets}
 use Rattle.lowering_loop_laws.specs.Laws.{LevelMeanings, at_level}
 use Rattle.lowering_call_laws.specs.Laws.{FunctionMeets}
-use Rattle.lowering_function_laws.specs.Laws.{code_for, within, IsCalled, IsMet}
+use Rattle.lowering_function_laws.specs.Laws.{code_for, callee_setting, IsCalled, IsMet}
 use Rattle.lowering_function_laws.proofs.Functions.{functions_meet, functions_without_turns_meet}
 use Rattle.lowering_statement_theorem.specs.LoweringExpressionTheoremLaws.{IsSetting}
 use Rattle.lowering_statement_theorem.specs.Laws.{AreSettings}
@@ -69,7 +69,7 @@ module _ (u : TypedUnit) (lawful : IsTypedUnit u) (rooms : Rooms) where
   called m k f e = record {
     found = code_at k f e;
     may = may_be_called u lawful k f e;
-    is = λ vs. ap (λ z. call_of ds rooms (level u rooms m) k z vs) e;
+    is = λ vs. ap (λ z. call_with_turn ds rooms (level u rooms m) k z vs) e;
   }
 
   abbrev pub AllMeet : ℕ → Type 0
@@ -101,17 +101,17 @@ module _ (u : TypedUnit) (lawful : IsTypedUnit u) (rooms : Rooms) where
       statements_are (suc j) le =
           ap (λ (g : Functions). λ (scope : Scope). λ (x : Stmt). exec ds f.locals g (statements j) scope x) (cut_below j (omega (arith, le)))
           ∙ ap (λ (a : Scope → Stmt → Run StatementFlow). λ (scope : Scope). λ (x : Stmt). exec ds f.locals (real j) a scope x) (statements_are j (omega (arith, le)))
-          ∙ ap (λ (o : Option TypedFn). λ (scope : Scope). λ (x : Stmt). exec ds (locals_of o) (real j) (level u rooms j k) scope x) (sym e)
+          ∙ ap (λ (o : Option TypedFn). λ (scope : Scope). λ (x : Stmt). exec ds (function_locals o) (real j) (level u rooms j k) scope x) (sym e)
 
       abbrev levels : LevelMeanings
       levels = record { functions = cut; statements = statements }
 
       module _ (own : ℕ) (waiting : List (Frame Registers)) where
         abbrev c : Setting
-        c = within (top (suc m)) k f own waiting (real m) m
+        c = callee_setting (top (suc m)) k f own waiting (real m) m
 
         -- each function, at a level of those that are there and of those above
-        function_meets : (j k1 : ℕ) (g : TypedFn) → slice_get u.functions k1 ≡ Some g → (b : Bool) → nat_le j m ≡ b → FunctionMeets (at_level c levels j) k1 (parameters_of g) (type_view g.result)
+        function_meets : (j k1 : ℕ) (g : TypedFn) → slice_get u.functions k1 ≡ Some g → (b : Bool) → nat_le j m ≡ b → FunctionMeets (at_level c levels j) k1 (types_of_parameters g) (type_view g.result)
         unfolding opens
         function_meets j k1 g e1 true le =
             let small = leb-true j m le in
@@ -141,13 +141,13 @@ module _ (u : TypedUnit) (lawful : IsTypedUnit u) (rooms : Rooms) where
         body_meets : StmtMeets c (level u rooms m k) (stmt_view f.body)
         body_meets =
             subst (λ (a : Scope → Stmt → Run StatementFlow). StmtMeets c a (stmt_view f.body)) (statements_are m (omega arith))
-            (subst (λ (g : Functions). StmtMeets (within (top (suc m)) k f own waiting g m) (statements m) (stmt_view f.body)) (cut_below m (omega arith))
+            (subst (λ (g : Functions). StmtMeets (callee_setting (top (suc m)) k f own waiting g m) (statements m) (stmt_view f.body)) (cut_below m (omega arith))
             (bodies_meet u f c levels lawful (typed_at u lawful k f e) settings m))
 
       next_meets : IsMet (top (suc m)) k f (level u rooms (suc m))
       next_meets =
           functions_meet (top (suc m)) k f (level u rooms (suc m)) (real m) (level u rooms m k) m (called (suc m) k f e) refl
-          (λ scope. ap (λ (o : Option TypedFn). exec ds (locals_of o) (real m) (level u rooms m k) scope (stmt_view f.body)) e)
+          (λ scope. ap (λ (o : Option TypedFn). exec ds (function_locals o) (real m) (level u rooms m k) scope (stmt_view f.body)) e)
           (λ own waiting. body_meets own waiting)
 
   pub all_meet : (most m : ℕ) → m ≤ most → AllMeet m

@@ -9,18 +9,18 @@ use Rattle.mem_model.specs.Ending.{Ending, Done, Trap, Undefined, More, EndsAs, 
 use Rattle.mem_model.specs.Related.{Names, IsValueOf, IsMemoryOf}
 use Rattle.data_object.specs.Start.{start_memory}
 use Rattle.machine_model.specs.Machine as machine
-use Rattle.machine_model.specs.Machine.{Config, Next, Goes, Over, start}
+use Rattle.machine_model.specs.Machine.{Config, Next, Goes, Over, start_config}
 use Rattle.machine_model.proofs.Runs as runs
 use Rattle.vm_meaning.specs.Behave.{FunctionCode, Registers, vm_code, vm_run, start_world, registers_of, first_or_unset, sizes_in}
 use Rattle.vm_meaning.specs.Behave as vm
 use Rattle.c_typed_tree.specs.declared.units.TypedFn.{TypedFn}
 use Rattle.c_typed_tree.specs.declared.units.TypedUnit.{TypedUnit}
 use Rattle.c_typed_tree.specs.View.{type_view}
-use Rattle.c_typed_tree.specs.Lawful.{IsTypedUnit, is_main, parameters_of, type_of_local}
+use Rattle.c_typed_tree.specs.Lawful.{IsTypedUnit, is_main, types_of_parameters, type_of_local}
 use Rattle.c_semantics.specs.Runs.{CallState, Run, ◌>>=◌}
 use Rattle.c_semantics.specs.Executes.{StatementFlow, Returns, enter_function, leave_function, body_of, value_of_call, level}
 use Rattle.c_semantics.specs.Executes as x
-use Rattle.c_semantics.specs.Behaves.{world_of, status_of, ending_of, run_of, main_of, run}
+use Rattle.c_semantics.specs.Behaves.{world_of, status_of, ending_of, run_of, main_of, run_main}
 use Rattle.lowering_states.specs.Places.{start_of_block}
 use Rattle.lowering_states.specs.Runs.{opens, View, view, CodeObservation, ObservesDone, ObservesTrap, ObservesMore, NotDefined, NotOver, observation_of, observation, finish, Meets, Resumes, config}
 use Rattle.lowering_states.specs.Runs as code
@@ -126,14 +126,14 @@ module _ (u : TypedUnit) (lawful : IsTypedUnit u) (rooms : Rooms) (input : List 
   met : IsMet (top u lawful rooms (suc turns)) i main.fn (level u rooms (suc turns))
   met = all_meet u lawful rooms (suc turns) (suc turns) (omega arith) i main.fn main.found
 
-  no_arguments : AreArguments (own_names (length u.globals)) (parameters_of main.fn) [] []
+  no_arguments : AreArguments (own_names (length u.globals)) (types_of_parameters main.fn) [] []
   no_arguments = subst (λ n. AreArguments (own_names (length u.globals)) (map type_of_local (take n main.fn.locals)) [] []) (sym (main_has_no_parameter u lawful i main.fn main.found main.main)) tt
 
   -- the machine begins where the code of `main` begins
-  start_is : start Value Registers rooms (vm_code functions) i (start_world u.globals input turns) ≡ config i (length m0) [] (start_of_block 0) (registers_of []) s0.world (begin_objects m0 met.meets.code.sizes)
+  start_is : start_config Value Registers rooms (vm_code functions) i (start_world u.globals input turns) ≡ config i (length m0) [] (start_of_block 0) (registers_of []) s0.world (begin_objects m0 met.meets.code.sizes)
   start_is = ap (λ z. config i (length m0) [] (start_of_block 0) (registers_of []) s0.world (begin_objects m0 (sizes_in z))) met.meets.found
 
-  run_is : finish (met.meets.body [] s0) (seen rooms i) ≡ observation_of (run u rooms input turns)
+  run_is : finish (met.meets.body [] s0) (seen rooms i) ≡ observation_of (run_main u rooms input turns)
   unfolding opens
   run_is =
       ap (λ (r : Run Value). finish (r s0) (seen rooms i)) (met.body [])
@@ -147,9 +147,9 @@ module _ (u : TypedUnit) (lawful : IsTypedUnit u) (rooms : Rooms) (input : List 
       met.meets.by [] [] (own_names (length u.globals)) s0 m0 [] (seen rooms i) no_arguments (λ j lt. own_name (length u.globals) j lt) (start_self u.globals lawful.globals) (start_small u.globals lawful.globals) bytes (omega arith)
       (λ v us g t n held rel aft mem rest. status_is rooms i functions v us g t n rel)
 
-  runs_to : IsDefined (run u rooms input turns) → RunsTo rooms functions i u.globals input turns (run u rooms input turns)
+  runs_to : IsDefined (run_main u rooms input turns) → RunsTo rooms functions i u.globals input turns (run_main u rooms input turns)
   runs_to defined =
-      let o : Ending = run u rooms input turns in
+      let o : Ending = run_main u rooms input turns in
       let a = ends.by (λ e. is_defined o defined (sym run_is ∙ e)) in
       let r : Next Registers = vm_run rooms functions i (start_world u.globals input turns) a.0 in
       let same : observation r ≡ observation_of o = ap (λ z. observation (code.run rooms functions a.0 z)) start_is ∙ a.1 ∙ run_is in
@@ -158,7 +158,7 @@ module _ (u : TypedUnit) (lawful : IsTypedUnit u) (rooms : Rooms) (input : List 
         ending = it.ending;
         ends = record { steps = a.0; over = it.over };
         same = ends_as it.ending o defined it.same;
-        only = λ e other. runs.one_ending Value Registers rooms (vm_code functions) other.steps a.0 (start Value Registers rooms (vm_code functions) i (start_world u.globals input turns)) e it.ending other.over it.over;
+        only = λ e other. runs.one_ending Value Registers rooms (vm_code functions) other.steps a.0 (start_config Value Registers rooms (vm_code functions) i (start_world u.globals input turns)) e it.ending other.over it.over;
       }
 
 pub code_keeps_meaning : CodeKeepsMeaning

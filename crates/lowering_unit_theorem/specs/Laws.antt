@@ -7,7 +7,7 @@ use Rattle.data_object.specs.declared.DataObject.{DataObject}
 use Rattle.vm_meaning.specs.Behave.{FunctionCode, vm_run, start_world}
 use Rattle.c_typed_tree.specs.declared.units.TypedUnit.{TypedUnit}
 use Rattle.c_typed_tree.specs.Lawful.{IsTypedUnit}
-use Rattle.c_semantics.specs.Behaves.{main_of, run}
+use Rattle.c_semantics.specs.Behaves.{main_of, run_main}
 use Rattle.lowering_function_laws.specs.Laws.{code_for}
 
 -- a run of functions from one with a number is over after so many steps with an ending
@@ -28,5 +28,5 @@ abbrev pub CodeKeepsMeaning : Type 0
 CodeKeepsMeaning =
     (u : TypedUnit) → IsTypedUnit u →
     (rooms : Rooms) (input : List ℕ) (turns : ℕ) → All (λ byte. byte < 256) input →
-    IsDefined (run u rooms input turns) →
-    RunsTo rooms (map (code_for u.structs) u.functions) (main_of u) u.globals input turns (run u rooms input turns)
+    IsDefined (run_main u rooms input turns) →
+    RunsTo rooms (map (code_for u.structs) u.functions) (main_of u) u.globals input turns (run_main u rooms input turns)

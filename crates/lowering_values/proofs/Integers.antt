@@ -18,11 +18,11 @@ use Rattle.c_semantics.specs.Objects as objects
 use Rattle.vm_meaning.specs.declared.answer.Answer.TheVariants.{Gives}
 use Rattle.vm_meaning.specs.Operations as vm
 use Rattle.lowering_code.specs.Registers.{register_type, memory_type}
-use Rattle.lowering_code.specs.Expressions.{plain_of, is_kept, narrow_type}
+use Rattle.lowering_code.specs.Expressions.{plain_of, keeps_register, narrow_type}
 
 -- ---- types
 
-pub integer_of-plain : (t : IntegerType) → objects.integer_of (plain_of t) ≡ t
+pub integer_of-plain : (t : IntegerType) → objects.integer_or_word (plain_of t) ≡ t
 integer_of-plain Char = refl
 integer_of-plain UnsignedChar = refl
 integer_of-plain Short = refl
@@ -155,7 +155,7 @@ promotion_is UnsignedLong n = conversion-same UnsignedLong n
 
 -- ---- conversions in code
 
-pub kept_is : (s t : IntegerType) → is_kept (plain_of s) (plain_of t) ≡ true → promote s ≡ t
+pub kept_is : (s t : IntegerType) → keeps_register (plain_of s) (plain_of t) ≡ true → promote s ≡ t
 kept_is Char Char h = absurd (cc)
 kept_is Char UnsignedChar h = absurd (cc)
 kept_is Char Short h = absurd (cc)
@@ -222,7 +222,7 @@ kept_is UnsignedLong Long h = absurd (cc)
 kept_is UnsignedLong UnsignedLong h = refl
 
 -- where no instruction stands, the word is the converted one already
-pub kept_conversion : (s t : IntegerType) (n : ℕ) → is_word s n ≡ true → is_kept (plain_of s) (plain_of t) ≡ true → conversion s t n ≡ n
+pub kept_conversion : (s t : IntegerType) (n : ℕ) → is_word s n ≡ true → keeps_register (plain_of s) (plain_of t) ≡ true → conversion s t n ≡ n
 kept_conversion s t n w h = subst (λ u. conversion s u n ≡ n) (kept_is s t h) (promotion_is s n ∙ word_is s n w)
 
 shorter : (s t : IntegerType) → bytes t ≤ 4 → (bytes t ≤ bytes s) ⊎ IsPlainWord s

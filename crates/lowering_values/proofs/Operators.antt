@@ -168,7 +168,7 @@ module _ (t c : IntegerType) (own : ℕ) (r : Registers) (u : Outer) (left right
       ∙ shift_is t c op x y p wx wy)
 
 -- the right shift of each promoted type
-right_number : (t : IntegerType) (x y : ℕ) → promote t ≡ t → vm.shift_number (lowering.right_shift (is_signed t)) t x y ≡ vm.outcome_answer (right_shift t UnsignedLong x y)
+right_number : (t : IntegerType) (x y : ℕ) → promote t ≡ t → vm.shift_number (lowering.right_shift_kind (is_signed t)) t x y ≡ vm.outcome_answer (right_shift t UnsignedLong x y)
 right_number Char x y p = absurd (cc)
 right_number UnsignedChar x y p = absurd (cc)
 right_number Short x y p = absurd (cc)
@@ -198,9 +198,9 @@ operators_correspond b.GreaterEqual t c d l q own r u x y p same el er wx wy ne 
 operators_correspond b.ShiftLeft t c d l q own r u x y p same el er wx wy ne =
     shifts t c own r u l q x y p el er wx wy Left ∙ ap (λ a. writes (vm.outcome_answer a) u) (counts t c y wy (left_shift_by t x) refl ne)
 operators_correspond b.ShiftRight t c d l q own r u x y p same el er wx wy ne =
-    shifted (lowering.right_shift (is_signed t)) refl
+    shifted (lowering.right_shift_kind (is_signed t)) refl
   where
-    shifted : (op : ShiftOp) → lowering.right_shift (is_signed t) ≡ op → writes (vm.shift_answer op (register_type (plain_of t)) (r l) (r q)) u ≡ writes (vm.outcome_answer (right_shift t c x y)) u
+    shifted : (op : ShiftOp) → lowering.right_shift_kind (is_signed t) ≡ op → writes (vm.shift_answer op (register_type (plain_of t)) (r l) (r q)) u ≡ writes (vm.outcome_answer (right_shift t c x y)) u
     shifted op e =
         shifts t c own r u l q x y p el er wx wy op ∙ ap (λ z. writes (vm.shift_number z t x y) u) (sym e) ∙ ap (λ a. writes a u) (right_number t x y p)
         ∙ ap (λ a. writes (vm.outcome_answer a) u) (counts t c y wy (right_shift_by t x) refl ne)

@@ -25,7 +25,7 @@ use Rattle.vm_meaning.specs.Operations.{integer_of, memory_integer, convert_answ
 use Rattle.vm_meaning.specs.Effect.{does, writes}
 use Rattle.vm_meaning.specs.Behave.{Registers}
 use Rattle.lowering_code.specs.Registers.{register_type, memory_type}
-use Rattle.lowering_code.specs.Expressions.{plain_of, is_kept, narrow_type, operation_of, operation_insn}
+use Rattle.lowering_code.specs.Expressions.{plain_of, keeps_register, narrow_type, operation_of, operation_insn}
 
 -- an integer type stands in the register of its promotion, and is loaded and stored as itself
 pub record TypeStands (t : IntegerType) : Type 0 where
@@ -39,7 +39,7 @@ TypesStand = (t : IntegerType) → TypeStands t
 -- a word of a type is converted: by no instruction, where it is the word of the other type already, and else by one
 -- that gives that
 pub record Converts (s t : IntegerType) (n : ℕ) : Type 0 where
-  pub kept : is_kept (plain_of s) (plain_of t) ≡ true → conversion s t n ≡ n
+  pub kept : keeps_register (plain_of s) (plain_of t) ≡ true → conversion s t n ≡ n
   pub made : convert_answer (narrow_type (plain_of s) (plain_of t)) (register_type (plain_of t)) (Word n)
       ≡ Gives (Word (conversion s t n))
 
@@ -53,17 +53,17 @@ abbrev pub does_in : (own : ℕ) → Registers → Outer → VmInsn → Act Valu
 does_in own r o insn = does insn own (map r (reads_of insn)) o
 
 -- a shift, whose count has a type of its own
-abbrev pub is_shift : BinaryOp → Bool
-is_shift b.ShiftLeft = true
-is_shift b.ShiftRight = true
-is_shift op = false
+abbrev pub is_shift_operator : BinaryOp → Bool
+is_shift_operator b.ShiftLeft = true
+is_shift_operator b.ShiftRight = true
+is_shift_operator op = false
 
 -- the instruction of an operator gives, in registers of a promoted type, what the operator does with two words, where
 -- that is defined
 abbrev pub OperatorsCorrespond : Type 0
 OperatorsCorrespond =
     (op : BinaryOp) (t c : IntegerType) (destination left right own : ℕ) (r : Registers) (o : Outer) (x y : ℕ) →
-    promote t ≡ t → (is_shift op ≡ false → c ≡ t) → r left ≡ Word x → r right ≡ Word y → is_word t x ≡ true
+    promote t ≡ t → (is_shift_operator op ≡ false → c ≡ t) → r left ≡ Word x → r right ≡ Word y → is_word t x ≡ true
     → is_word c y ≡ true → integers_with op t c x y ≢ Undefined →
     does_in own r o
     (operation_insn (operation_of op (is_signed t)) (register_type (plain_of t)) destination left right)

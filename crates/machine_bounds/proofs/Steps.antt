@@ -14,8 +14,8 @@ use Rattle.alpha_isa.specs.Arithmetic as effect
 use Rattle.alpha_isa.specs.Arithmetic.{OperationEffect, Keeps, Overflows, word_at, sign_extension, operation_effect}
 use Rattle.alpha_isa.specs.Lawful as lawful
 use Rattle.alpha_isa.specs.Program.{Program, IsLawful, instruction_at, text_start, data_start, stack_start}
-use Rattle.alpha_isa.specs.State.{State, register, with_register, operand, lies_in, part_of, with_part, bytes_at, with_bytes}
-use Rattle.alpha_isa.specs.Step.{MachineNext, Goes, Over, Done, Trap, Stuck, next_instruction, next_pc, load_into, go_on_stored, memory_step, branch_step, branch_target, is_taken, links, operate_step, input_word, input_rest, service_step, pal_step, insn_step, fetched_step, step, go_on, exec, address}
+use Rattle.alpha_isa.specs.State.{State, register, with_register, operand_value, lies_in, byte_range, with_part, bytes_at, with_bytes}
+use Rattle.alpha_isa.specs.Step.{MachineNext, Goes, Over, Done, Trap, Stuck, next_instruction, next_pc, load_into, go_on_stored, memory_step, branch_step, branch_target, is_branch_taken, links, operate_step, input_word, input_rest, service_step, pal_step, insn_step, fetched_step, step, go_on, exec, memory_address}
 use Rattle.alpha_isa.specs.Words.{insn_of}
 use Rattle.alpha_isa.proofs.Arithmetic.{sign_extended-below}
 use Rattle.alpha_isa.proofs.Words.{decoded_word}
@@ -107,14 +107,14 @@ module _ (p : Program) (s : State) (h : IsBounded s) where
   read : (value : List ℕ → ℕ) (ra a n : ℕ) → ((bs : List ℕ) → AreBytes bs → value bs < 2 ^ 64) → NextIsBounded (load_into value ra (bytes_at p s a n) s)
   read value ra a n below = by_tests (not (a % n == 0)) (lies_in a n (data_start p) s.data_bytes) (lies_in a n (stack_start p) s.stack_bytes)
     where
-      by_tests : (b c d : Bool) → NextIsBounded (load_into value ra (if b then None else if c then Some (part_of s.data_bytes (a - data_start p) n) else if d then Some (part_of s.stack_bytes (a - stack_start p) n) else None) s)
+      by_tests : (b c d : Bool) → NextIsBounded (load_into value ra (if b then None else if c then Some (byte_range s.data_bytes (a - data_start p) n) else if d then Some (byte_range s.stack_bytes (a - stack_start p) n) else None) s)
       by_tests true c d = tt
       by_tests false true d =
-          let v = value (part_of s.data_bytes (a - data_start p) n) in
-          at-place (next_pc (with_register ra v s)) (with_register ra v s) (written ra v s (below (part_of s.data_bytes (a - data_start p) n) (take-bytes n (drop (a - data_start p) s.data_bytes) (drop-bytes (a - data_start p) s.data_bytes h.data_bytes))) h)
+          let v = value (byte_range s.data_bytes (a - data_start p) n) in
+          at-place (next_pc (with_register ra v s)) (with_register ra v s) (written ra v s (below (byte_range s.data_bytes (a - data_start p) n) (take-bytes n (drop (a - data_start p) s.data_bytes) (drop-bytes (a - data_start p) s.data_bytes h.data_bytes))) h)
       by_tests false false true =
-          let v = value (part_of s.stack_bytes (a - stack_start p) n) in
-          at-place (next_pc (with_register ra v s)) (with_register ra v s) (written ra v s (below (part_of s.stack_bytes (a - stack_start p) n) (take-bytes n (drop (a - stack_start p) s.stack_bytes) (drop-bytes (a - stack_start p) s.stack_bytes h.stack_bytes))) h)
+          let v = value (byte_range s.stack_bytes (a - stack_start p) n) in
+          at-place (next_pc (with_register ra v s)) (with_register ra v s) (written ra v s (below (byte_range s.stack_bytes (a - stack_start p) n) (take-bytes n (drop (a - stack_start p) s.stack_bytes) (drop-bytes (a - stack_start p) s.stack_bytes h.stack_bytes))) h)
       by_tests false false false = tt
 
   stored : (a : ℕ) (new : List ℕ) → AreBytes new → NextIsBounded (go_on_stored (with_bytes p s a new) s)
@@ -130,16 +130,16 @@ module _ (p : Program) (s : State) (h : IsBounded s) where
   set-register r v lt = at-place (next_pc (with_register r v s)) (with_register r v s) (written r v s lt h)
 
   memory-bounded : (op : MemoryOp) (ra rb : ℕ) (disp : ℤ) → NextIsBounded (memory_step p op ra rb disp s)
-  memory-bounded Lda ra rb disp = set-register ra (address s rb disp) (omega arith)
-  memory-bounded Ldah ra rb disp = set-register ra (address s rb (disp *ℤ pos 65536)) (omega arith)
-  memory-bounded Ldbu ra rb disp = read (from_le_bytes w8) ra (address s rb disp) 1 byte-number
-  memory-bounded Ldwu ra rb disp = read (from_le_bytes w16) ra (address s rb disp) 2 word-number
-  memory-bounded Ldl ra rb disp = read (λ bytes. sign_extension w32 (from_le_bytes w32 bytes)) ra (address s rb disp) 4 long-number
-  memory-bounded Ldq ra rb disp = read (from_le_bytes w64) ra (address s rb disp) 8 quad-number
-  memory-bounded Stb ra rb disp = stored (address s rb disp) (to_le_bytes w8 (register s ra)) (subst AreBytes (sym (numbers_of_accesses.byte_of (register s ra))) (low_bytes-are 1 (register s ra)))
-  memory-bounded Stw ra rb disp = stored (address s rb disp) (to_le_bytes w16 (register s ra)) (subst AreBytes (sym (numbers_of_accesses.word_of (register s ra))) (low_bytes-are 2 (register s ra)))
-  memory-bounded Stl ra rb disp = stored (address s rb disp) (to_le_bytes w32 (register s ra)) (subst AreBytes (sym (numbers_of_accesses.long_of (register s ra))) (low_bytes-are 4 (register s ra)))
-  memory-bounded Stq ra rb disp = stored (address s rb disp) (to_le_bytes w64 (register s ra)) (subst AreBytes (sym (numbers_of_accesses.quad_of (register s ra))) (low_bytes-are 8 (register s ra)))
+  memory-bounded Lda ra rb disp = set-register ra (memory_address s rb disp) (omega arith)
+  memory-bounded Ldah ra rb disp = set-register ra (memory_address s rb (disp *ℤ pos 65536)) (omega arith)
+  memory-bounded Ldbu ra rb disp = read (from_le_bytes w8) ra (memory_address s rb disp) 1 byte-number
+  memory-bounded Ldwu ra rb disp = read (from_le_bytes w16) ra (memory_address s rb disp) 2 word-number
+  memory-bounded Ldl ra rb disp = read (λ bytes. sign_extension w32 (from_le_bytes w32 bytes)) ra (memory_address s rb disp) 4 long-number
+  memory-bounded Ldq ra rb disp = read (from_le_bytes w64) ra (memory_address s rb disp) 8 quad-number
+  memory-bounded Stb ra rb disp = stored (memory_address s rb disp) (to_le_bytes w8 (register s ra)) (subst AreBytes (sym (numbers_of_accesses.byte_of (register s ra))) (low_bytes-are 1 (register s ra)))
+  memory-bounded Stw ra rb disp = stored (memory_address s rb disp) (to_le_bytes w16 (register s ra)) (subst AreBytes (sym (numbers_of_accesses.word_of (register s ra))) (low_bytes-are 2 (register s ra)))
+  memory-bounded Stl ra rb disp = stored (memory_address s rb disp) (to_le_bytes w32 (register s ra)) (subst AreBytes (sym (numbers_of_accesses.long_of (register s ra))) (low_bytes-are 4 (register s ra)))
+  memory-bounded Stq ra rb disp = stored (memory_address s rb disp) (to_le_bytes w64 (register s ra)) (subst AreBytes (sym (numbers_of_accesses.quad_of (register s ra))) (low_bytes-are 8 (register s ra)))
 
   -- ---- branches and jumps
 
@@ -148,7 +148,7 @@ module _ (p : Program) (s : State) (h : IsBounded s) where
   linked false ra small = h
 
   branch-bounded : (op : BranchOp) (ra : ℕ) (disp : ℤ) → next_pc s < 2 ^ 64 → NextIsBounded (branch_step op ra disp s)
-  branch-bounded op ra disp small = at-place (if is_taken op (register s ra) then branch_target s disp else next_pc s) (if links op then with_register ra (next_pc s) s else s) (linked (links op) ra small)
+  branch-bounded op ra disp small = at-place (if is_branch_taken op (register s ra) then branch_target s disp else next_pc s) (if links op then with_register ra (next_pc s) s else s) (linked (links op) ra small)
 
   -- ---- operations
 
@@ -157,7 +157,7 @@ module _ (p : Program) (s : State) (h : IsBounded s) where
   effect-bounded Keeps rc below = at-place (next_pc s) s h
   effect-bounded Overflows rc below = tt
 
-  operand-below : (rb : Operand) → lawful.IsOperand rb → operand s rb < 2 ^ 64
+  operand-below : (rb : Operand) → lawful.IsOperand rb → operand_value s rb < 2 ^ 64
   operand-below (Reg r) is = h.words r
   operand-below (Literal n) is = omega (arith, is)
 
@@ -197,7 +197,7 @@ module _ (p : Program) (s : State) (h : IsBounded s) where
   insn-bounded (fields.Memory op ra rb disp) is small = memory-bounded op ra rb disp
   insn-bounded (fields.Branch op ra disp) is small = branch-bounded op ra disp small
   insn-bounded (fields.Jump op ra rb) is small = at-place (register s rb / 4 * 4) (with_register ra (next_pc s) s) (written ra (next_pc s) s small h)
-  insn-bounded (fields.Operate op ra rb rc) is small = effect-bounded (operation_effect op (register s ra) (operand s rb)) rc (λ n e. given-below op (register s ra) (operand s rb) n (h.words ra) (operand-below rb is.1) e)
+  insn-bounded (fields.Operate op ra rb rc) is small = effect-bounded (operation_effect op (register s ra) (operand_value s rb)) rc (λ n e. given-below op (register s ra) (operand_value s rb) n (h.words ra) (operand-below rb is.1) e)
   insn-bounded (fields.Pal function) is small = pal-bounded function
 
 -- ---- steps

@@ -5,7 +5,7 @@ use Rattle.std.proofs.lemmas.List.{append_assoc, append-nil}
 use Rattle.mem_model.specs.World.{Meter, World, Rooms, with_turns, leave_call}
 use Rattle.mem_model.specs.Ending.{Ending, ending_output}
 use Rattle.machine_model.specs.Code.{Stop, Exits, Traps, HasNoMeaning, Act, Writes, Jumps, Calls, Returns, Stops, Site, Code}
-use Rattle.machine_model.specs.Machine.{Frame, Config, Next, Goes, Over, world_of, end_locals, turn_if, stop_ending, jump_to, resume, status_ending, return_to, act_on, step_with, step_at, step, go_on, exec}
+use Rattle.machine_model.specs.Machine.{Frame, Config, Next, Goes, Over, whole_world, end_locals, turn_if, stop_ending, jump_to, resume, status_ending, return_to, act_on, step_with, step_at, step, go_on, exec}
 use Rattle.machine_model.specs.Laws.{IsPrefix, config_with_turns, next_world, act_outer, KeepsOutput}
 use Rattle.machine_model.proofs.Runs.{steps_keep}
 use Rattle.machine_model.proofs.Turns.{Keeps, turn_more, step_more}
@@ -46,11 +46,11 @@ module _ (V S : Type 0) (rooms : Rooms) (c : Code V S) (grows : KeepsOutput V S 
 
   act_output : (k : Config S) (m : Meter) (s : Site V S) (a : Act V) → output (act_on V S rooms c k m s a) ≡ (act_outer a).output
   act_output k m s (Writes vs o) = refl
-  act_output k m s (Jumps target o) = jump_output k (world_of o m) s (slice_get s.targets target)
+  act_output k m s (Jumps target o) = jump_output k (whole_world o m) s (slice_get s.targets target)
   act_output k m s (Calls function vs o) = refl
   act_output k m s (Returns vs o) =
-      return_output (c.number k.here.point) vs (world_of (end_locals o k.here.own (length (c.locals k.here.point.function))) (leave_call rooms k.here.point.function m)) k.callers
-  act_output k m s (Stops e o) = stop_output e (c.number k.here.point) (world_of o m)
+      return_output (c.number k.here.point) vs (whole_world (end_locals o k.here.own (length (c.locals k.here.point.function))) (leave_call rooms k.here.point.function m)) k.callers
+  act_output k m s (Stops e o) = stop_output e (c.number k.here.point) (whole_world o m)
 
   with_output : (k : Config S) (s : Site V S) (o : Option Meter) → c.site k.here.point ≡ Some s → IsPrefix k.world.outer.output (output (step_with V S rooms c k s o))
   with_output k s None is = prefix-itself k.world.outer.output

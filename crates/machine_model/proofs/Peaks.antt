@@ -4,7 +4,7 @@ use Rattle.std.specs.Prelude.{slice_get}
 use Rattle.mem_model.specs.World.{Meter, World, Rooms, turn_from, leave_call}
 use Rattle.mem_model.specs.Ending.{ending_world}
 use Rattle.machine_model.specs.Code.{Stop, Exits, Traps, HasNoMeaning, Act, Writes, Jumps, Calls, Returns, Stops, Site, Code}
-use Rattle.machine_model.specs.Machine.{Frame, Config, Next, Goes, Over, world_of, end_locals, turn_if, stop_ending, jump_to, resume, status_ending, return_to, act_on, step_with, step_at, step, go_on, exec}
+use Rattle.machine_model.specs.Machine.{Frame, Config, Next, Goes, Over, whole_world, end_locals, turn_if, stop_ending, jump_to, resume, status_ending, return_to, act_on, step_with, step_at, step, go_on, exec}
 use Rattle.machine_model.specs.Laws.{next_world}
 
 abbrev peak : {S : Type 0} → Next S → ℕ
@@ -34,12 +34,12 @@ module _ (V S : Type 0) (rooms : Rooms) (c : Code V S) where
 
   act_peak : (k : Config S) (m : Meter) (s : Site V S) (a : Act V) → m.peak ≤ peak (act_on V S rooms c k m s a)
   act_peak k m s (Writes vs o) = omega arith
-  act_peak k m s (Jumps target o) = let e = jump_peak k (world_of o m) s (slice_get s.targets target) in omega (arith, e)
+  act_peak k m s (Jumps target o) = let e = jump_peak k (whole_world o m) s (slice_get s.targets target) in omega (arith, e)
   act_peak k m s (Calls function vs o) = omega arith
   act_peak k m s (Returns vs o) =
-      let w : World = world_of (end_locals o k.here.own (length (c.locals k.here.point.function))) (leave_call rooms k.here.point.function m) in
-      let e = return_peak (c.number k.here.point) vs (world_of (end_locals o k.here.own (length (c.locals k.here.point.function))) (leave_call rooms k.here.point.function m)) k.callers in omega (arith, e)
-  act_peak k m s (Stops e o) = let h = stop_peak e (c.number k.here.point) (world_of o m) in omega (arith, h)
+      let w : World = whole_world (end_locals o k.here.own (length (c.locals k.here.point.function))) (leave_call rooms k.here.point.function m) in
+      let e = return_peak (c.number k.here.point) vs (whole_world (end_locals o k.here.own (length (c.locals k.here.point.function))) (leave_call rooms k.here.point.function m)) k.callers in omega (arith, e)
+  act_peak k m s (Stops e o) = let h = stop_peak e (c.number k.here.point) (whole_world o m) in omega (arith, h)
 
   from_peak : (n : ℕ) (m u : Meter) → turn_from n m ≡ Some u → u.peak ≡ m.peak
   from_peak zero m u e = absurd (cc)

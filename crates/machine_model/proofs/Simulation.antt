@@ -6,7 +6,7 @@ use Rattle.std.specs.Prelude.{slice_get}
 use Rattle.mem_model.specs.World.{Outer, Meter, World, Rooms, leave_call, enter_call}
 use Rattle.mem_model.specs.Ending.{Ending, Done, Undefined, More}
 use Rattle.machine_model.specs.Code.{Act, Writes, Jumps, Calls, Returns, Stops, Site, Point, next_point, block_point, entry_point, Code}
-use Rattle.machine_model.specs.Machine.{Frame, Config, Next, Goes, Over, world_of, begin_locals, end_locals, turn_if, stop_ending, frame_after, jump_to, resume, status_ending, return_to, act_on, step_with, step_at, step, go_on, exec, start}
+use Rattle.machine_model.specs.Machine.{Frame, Config, Next, Goes, Over, whole_world, begin_locals, end_locals, turn_if, stop_ending, frame_after, jump_to, resume, status_ending, return_to, act_on, step_with, step_at, step, go_on, exec, start_config}
 
 module _ (V S T : Type 0) (rooms : Rooms) (c : Code V S) (d : Code V T) (R : Point → S → T → Type 0) where
   -- one instruction, kept in both ways
@@ -90,20 +90,20 @@ module _ (V S T : Type 0) (rooms : Rooms) (c : Code V S) (d : Code V T) (R : Poi
 
     acts : (k : Config S) (l : Config T) (m : Meter) (s : Site V S) (t : Site V T) (a : Act V) → SameConfig k l → SameSite k.here.point s t → SameNext (act_on V S rooms c k m s a) (act_on V T rooms d l m t a)
     acts k l m s t (Writes vs o) r q = record { here = goes k.here l.here s t vs r.here q; callers = r.callers; world = refl }
-    acts k l m s t (Jumps n o) r q = subst (λ ts. SameNext (jump_to V S rooms c k (world_of o m) s (slice_get s.targets n)) (jump_to V T rooms d l (world_of o m) t (slice_get ts n))) q.targets (jumps k l (world_of o m) s t (slice_get s.targets n) n r q refl)
-    acts k l m s t (Calls g vs o) r q = record { here = (refl, keep.entry g vs, refl); callers = (r.here, r.callers); world = ap (λ sizes. world_of (begin_locals o sizes) (enter_call rooms g m)) (keep.locals g) }
+    acts k l m s t (Jumps n o) r q = subst (λ ts. SameNext (jump_to V S rooms c k (whole_world o m) s (slice_get s.targets n)) (jump_to V T rooms d l (whole_world o m) t (slice_get ts n))) q.targets (jumps k l (whole_world o m) s t (slice_get s.targets n) n r q refl)
+    acts k l m s t (Calls g vs o) r q = record { here = (refl, keep.entry g vs, refl); callers = (r.here, r.callers); world = ap (λ sizes. whole_world (begin_locals o sizes) (enter_call rooms g m)) (keep.locals g) }
     acts k l m s t (Returns vs o) r q =
-        let w : World = world_of (end_locals o k.here.own (length (c.locals k.here.point.function))) (leave_call rooms k.here.point.function m) in
+        let w : World = whole_world (end_locals o k.here.own (length (c.locals k.here.point.function))) (leave_call rooms k.here.point.function m) in
         let functions : k.here.point.function ≡ l.here.point.function = ap (λ (p : Point). p.function) r.here.0 in
         let sizes : c.locals k.here.point.function ≡ d.locals l.here.point.function = keep.locals k.here.point.function ∙ ap d.locals functions in
-        let e : world_of (end_locals o k.here.own (length (c.locals k.here.point.function))) (leave_call rooms k.here.point.function m) ≡ world_of (end_locals o l.here.own (length (d.locals l.here.point.function))) (leave_call rooms l.here.point.function m) =
-        ap (λ j. world_of (end_locals o j (length (c.locals k.here.point.function))) (leave_call rooms k.here.point.function m)) r.here.2
-        ∙ ap (λ (j : List ℕ). world_of (end_locals o l.here.own (length j)) (leave_call rooms k.here.point.function m)) sizes
-        ∙ ap (λ j. world_of (end_locals o l.here.own (length (d.locals l.here.point.function))) (leave_call rooms j m)) functions in
-        subst (λ at. SameNext (return_to V S rooms c (c.number k.here.point) vs (world_of (end_locals o k.here.own (length (c.locals k.here.point.function))) (leave_call rooms k.here.point.function m)) k.callers) (return_to V T rooms d at vs (world_of (end_locals o l.here.own (length (d.locals l.here.point.function))) (leave_call rooms l.here.point.function m)) l.callers)) (numbers k.here.point l.here.point r.here.0)
-        (subst (λ u. SameNext (return_to V S rooms c (c.number k.here.point) vs (world_of (end_locals o k.here.own (length (c.locals k.here.point.function))) (leave_call rooms k.here.point.function m)) k.callers) (return_to V T rooms d (c.number k.here.point) vs u l.callers)) e
-        (returns (c.number k.here.point) (world_of (end_locals o k.here.own (length (c.locals k.here.point.function))) (leave_call rooms k.here.point.function m)) vs k.callers l.callers r.callers))
-    acts k l m s t (Stops e o) r q = ap (λ n. stop_ending e n (world_of o m)) (numbers k.here.point l.here.point r.here.0)
+        let e : whole_world (end_locals o k.here.own (length (c.locals k.here.point.function))) (leave_call rooms k.here.point.function m) ≡ whole_world (end_locals o l.here.own (length (d.locals l.here.point.function))) (leave_call rooms l.here.point.function m) =
+        ap (λ j. whole_world (end_locals o j (length (c.locals k.here.point.function))) (leave_call rooms k.here.point.function m)) r.here.2
+        ∙ ap (λ (j : List ℕ). whole_world (end_locals o l.here.own (length j)) (leave_call rooms k.here.point.function m)) sizes
+        ∙ ap (λ j. whole_world (end_locals o l.here.own (length (d.locals l.here.point.function))) (leave_call rooms j m)) functions in
+        subst (λ at. SameNext (return_to V S rooms c (c.number k.here.point) vs (whole_world (end_locals o k.here.own (length (c.locals k.here.point.function))) (leave_call rooms k.here.point.function m)) k.callers) (return_to V T rooms d at vs (whole_world (end_locals o l.here.own (length (d.locals l.here.point.function))) (leave_call rooms l.here.point.function m)) l.callers)) (numbers k.here.point l.here.point r.here.0)
+        (subst (λ u. SameNext (return_to V S rooms c (c.number k.here.point) vs (whole_world (end_locals o k.here.own (length (c.locals k.here.point.function))) (leave_call rooms k.here.point.function m)) k.callers) (return_to V T rooms d (c.number k.here.point) vs u l.callers)) e
+        (returns (c.number k.here.point) (whole_world (end_locals o k.here.own (length (c.locals k.here.point.function))) (leave_call rooms k.here.point.function m)) vs k.callers l.callers r.callers))
+    acts k l m s t (Stops e o) r q = ap (λ n. stop_ending e n (whole_world o m)) (numbers k.here.point l.here.point r.here.0)
 
     steps_with : (k : Config S) (l : Config T) (s : Site V S) (t : Site V T) (m : Option Meter) → SameConfig k l → SameSite k.here.point s t → SameNext (step_with V S rooms c k s m) (step_with V T rooms d l t m)
     steps_with k l s t None r q = ap More r.world
@@ -142,7 +142,7 @@ module _ (V S T : Type 0) (rooms : Rooms) (c : Code V S) (d : Code V T) (R : Poi
     over (Over i) (Over j) e r is = let same : i ≡ e = cc in ap (λ x. Over x) (sym r ∙ same)
 
     -- what the one code ends with, the other ends with
-    pub runs_end : (n function : ℕ) (w : World) (e : Ending) → exec V S rooms c n (start V S rooms c function w) ≡ Over e → exec V T rooms d n (start V T rooms d function w) ≡ Over e
+    pub runs_end : (n function : ℕ) (w : World) (e : Ending) → exec V S rooms c n (start_config V S rooms c function w) ≡ Over e → exec V T rooms d n (start_config V T rooms d function w) ≡ Over e
     runs_end n function w e is =
-        over (exec V S rooms c n (start V S rooms c function w)) (exec V T rooms d n (start V T rooms d function w)) e
-        (runs n (start V S rooms c function w) (start V T rooms d function w) (record { here = (refl, keep.entry function [], refl); callers = tt; world = ap (λ sizes. world_of (begin_locals w.outer sizes) (enter_call rooms function w.meter)) (keep.locals function) })) is
+        over (exec V S rooms c n (start_config V S rooms c function w)) (exec V T rooms d n (start_config V T rooms d function w)) e
+        (runs n (start_config V S rooms c function w) (start_config V T rooms d function w) (record { here = (refl, keep.entry function [], refl); callers = tt; world = ap (λ sizes. whole_world (begin_locals w.outer sizes) (enter_call rooms function w.meter)) (keep.locals function) })) is

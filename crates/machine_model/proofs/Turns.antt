@@ -4,7 +4,7 @@ use Rattle.std.specs.Prelude.{slice_get}
 use Rattle.mem_model.specs.World.{Meter, World, Rooms, turn_from, with_turns, leave_call}
 use Rattle.mem_model.specs.Ending.{Ending, Done, Trap, Undefined, More}
 use Rattle.machine_model.specs.Code.{Stop, Exits, Traps, HasNoMeaning, Act, Writes, Jumps, Calls, Returns, Stops, Site, Code}
-use Rattle.machine_model.specs.Machine.{Frame, Config, Next, Goes, Over, world_of, end_locals, turn_if, stop_ending, jump_to, resume, status_ending, return_to, act_on, step_with, step_at, step, go_on, exec}
+use Rattle.machine_model.specs.Machine.{Frame, Config, Next, Goes, Over, whole_world, end_locals, turn_if, stop_ending, jump_to, resume, status_ending, return_to, act_on, step_with, step_at, step, go_on, exec}
 use Rattle.machine_model.specs.Laws.{world_with_turns, config_with_turns, ending_with_turns, IsFinal}
 
 abbrev next_with_turns : {S : Type 0} → ℕ → Next S → Next S
@@ -43,11 +43,11 @@ module _ (V S : Type 0) (rooms : Rooms) (c : Code V S) (more : ℕ) where
 
   act_more : (k : Config S) (m : Meter) (s : Site V S) (a : Act V) → act_on V S rooms c (config_with_turns more k) (with_turns more m) s a ≡ next_with_turns more (act_on V S rooms c k m s a)
   act_more k m s (Writes vs o) = refl
-  act_more k m s (Jumps target o) = jump_more k (world_of o m) s (slice_get s.targets target)
+  act_more k m s (Jumps target o) = jump_more k (whole_world o m) s (slice_get s.targets target)
   act_more k m s (Calls function vs o) = refl
   act_more k m s (Returns vs o) =
-      return_more (c.number k.here.point) vs (world_of (end_locals o k.here.own (length (c.locals k.here.point.function))) (leave_call rooms k.here.point.function m)) k.callers
-  act_more k m s (Stops e o) = ap (λ x. Over x) (stop_more e (c.number k.here.point) (world_of o m))
+      return_more (c.number k.here.point) vs (whole_world (end_locals o k.here.own (length (c.locals k.here.point.function))) (leave_call rooms k.here.point.function m)) k.callers
+  act_more k m s (Stops e o) = ap (λ x. Over x) (stop_more e (c.number k.here.point) (whole_world o m))
 
   from_more : (n : ℕ) (m u : Meter) → turn_from n m ≡ Some u → turn_from (n + more) (with_turns more m) ≡ Some (with_turns more u)
   from_more zero m u e = absurd (cc)

@@ -5,7 +5,7 @@ use Rattle.std.specs.Prelude.{ℕ, List, [], ◌∷◌, Bool, true, false, Some,
 use Rattle.mem_model.specs.Memory.{no_object}
 use Rattle.mem_model.specs.World.{Outer, World, meter_of, put_byte}
 use Rattle.machine_model.specs.Code.{Act, Writes, Calls, Returns, Site, Code}
-use Rattle.machine_model.specs.Machine.{Next, exec, start}
+use Rattle.machine_model.specs.Machine.{Next, exec, start_config}
 
 abbrev pub site : (turn : Bool) → (List ℕ → Outer → Act ℕ) → Site ℕ (List ℕ)
 site turn does = record { does = λ own vs o. does vs o; turn = turn; targets = []; fetch = λ s. s; put = λ vs s. vs }
@@ -41,5 +41,6 @@ last_world = record {
 }
 
 -- so many steps with so many turns, where the rooms of the functions are 10 and 20
-abbrev pub run : (steps turns : ℕ) → Next (List ℕ)
-run steps turns = exec ℕ (List ℕ) (10 ∷ 20 ∷ []) code steps (start ℕ (List ℕ) (10 ∷ 20 ∷ []) code 0 (world turns))
+abbrev pub example_run : (steps turns : ℕ) → Next (List ℕ)
+example_run steps turns =
+    exec ℕ (List ℕ) (10 ∷ 20 ∷ []) code steps (start_config ℕ (List ℕ) (10 ∷ 20 ∷ []) code 0 (world turns))

@@ -23,8 +23,8 @@ pub data Next (S : Type 0) : Type 0 where
   Goes : Config S → Next S
   Over : Ending → Next S
 
-abbrev pub world_of : Outer → Meter → World
-world_of o m = record { outer = o; meter = m }
+abbrev pub whole_world : Outer → Meter → World
+whole_world o m = record { outer = o; meter = m }
 
 -- the objects of a function begin, and so many end
 abbrev pub begin_locals : Outer → List ℕ → Outer
@@ -78,19 +78,19 @@ module _ (V S : Type 0) (rooms : Rooms) (c : Code V S) where
   -- what an instruction does; m is the meter after its turn
   abbrev pub act_on : Config S → Meter → Site V S → Act V → Next S
   act_on k m s (Writes vs o) =
-      Goes (record { here = frame_after s vs k.here; callers = k.callers; world = world_of o m })
-  act_on k m s (Jumps target o) = jump_to k (world_of o m) s (slice_get s.targets target)
+      Goes (record { here = frame_after s vs k.here; callers = k.callers; world = whole_world o m })
+  act_on k m s (Jumps target o) = jump_to k (whole_world o m) s (slice_get s.targets target)
   act_on k m s (Calls function vs o) =
       Goes (record {
         here = entry_frame function vs o;
         callers = k.here ∷ k.callers;
-        world = world_of (begin_locals o (c.locals function)) (enter_call rooms function m);
+        world = whole_world (begin_locals o (c.locals function)) (enter_call rooms function m);
       })
   act_on k m s (Returns vs o) =
       return_to (c.number k.here.point) vs
-      (world_of (end_locals o k.here.own (length (c.locals k.here.point.function)))
+      (whole_world (end_locals o k.here.own (length (c.locals k.here.point.function)))
       (leave_call rooms k.here.point.function m)) k.callers
-  act_on k m s (Stops e o) = Over (stop_ending e (c.number k.here.point) (world_of o m))
+  act_on k m s (Stops e o) = Over (stop_ending e (c.number k.here.point) (whole_world o m))
 
   abbrev pub step_with : Config S → Site V S → Option Meter → Next S
   step_with k s None = Over (More k.world)
@@ -114,10 +114,10 @@ exec V S rooms c zero k = Goes k
 exec V S rooms c (suc n) k = go_on (step V S rooms c k) (exec V S rooms c n)
 
 -- the start of a function without arguments
-abbrev pub start : (V S : Type 0) → Rooms → Code V S → (function : ℕ) → World → Config S
-start V S rooms c function w =
+abbrev pub start_config : (V S : Type 0) → Rooms → Code V S → (function : ℕ) → World → Config S
+start_config V S rooms c function w =
     record {
       here = entry_frame V S rooms c function [] w.outer;
       callers = [];
-      world = world_of (begin_locals w.outer (c.locals function)) (enter_call rooms function w.meter);
+      world = whole_world (begin_locals w.outer (c.locals function)) (enter_call rooms function w.meter);
     }

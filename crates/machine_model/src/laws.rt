@@ -4,7 +4,7 @@
 ghost use Rattle.std.specs.Prelude.{◌≡◌};
 ghost use Rattle.mem_model.specs.Ending.{Done};
 ghost use Rattle.machine_model.specs.Machine.{Over};
-ghost use Rattle.machine_model.specs.Example.{run, last_world};
+ghost use Rattle.machine_model.specs.Example.{example_run, last_world};
 ghost use Rattle.machine_model.specs.Laws.{StepsAddUp, StepsKeepEndings, MachineHasOneEnding, TurnsKeepEndings, PeakRises, OutputGrows, TurnsExtendOutput};
 
 /// Steps add up, and an ending stays with more steps, so a run has one at most.
@@ -32,5 +32,5 @@ pub fn outputs_grow<V, S>()
 
 /// The example runs to its end, in five instructions with five turns.
 pub fn an_example_runs()
-    ensures { run 5 5 ≡ Over (Done last_world 7) }
+    ensures { example_run 5 5 ≡ Over (Done last_world 7) }
 {}

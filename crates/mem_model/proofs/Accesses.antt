@@ -7,7 +7,7 @@ use Rattle.std.proofs.lemmas.Bool.Decides.{nat_tests}
 use Rattle.std.proofs.lemmas.List.{get_or_past, set-get_or, nil_from_length}
 use Rattle.mem_model.proofs.RowLaws.{with_row-own}
 use Rattle.mem_model.specs.Cells.{value_or_fault, cells_of}
-use Rattle.mem_model.specs.Memory.{Memory, Object, object_at, no_object, place_of, is_within, is_gone, is_outside, is_misaligned, overlaps, unless, range_fault, read_fault, write_fault, copy_fault, row_at, put_row, load_at, store_at, copy_at, init_at, byte_of}
+use Rattle.mem_model.specs.Memory.{Memory, Object, object_at, no_object, place_of, is_within, is_gone, is_outside, is_misaligned, overlaps, fault_or, range_fault, read_fault, write_fault, copy_fault, row_at, put_row, load_at, store_at, copy_at, init_at, byte_of}
 use Rattle.mem_model.specs.declared.value.Ptr.{Ptr}
 use Rattle.mem_model.specs.declared.value.Value.{Value}
 use Rattle.mem_model.specs.declared.value.MemFault.{MemFault}
@@ -21,11 +21,11 @@ test_at f r b n k is same gives = ap f (sym same) ∙ sym is ∙ gives
 -- an access by its fault
 pub load_at-fault : (m : Memory) (p : Ptr) (width : ℕ) (pointer : Bool) (fault : MemFault) → read_fault m p width width ≡ Some fault → load_at m p width pointer ≡ Err fault
 unfolding load_at
-load_at-fault m p width pointer fault e = ap (λ f. unless f (value_or_fault pointer (row_at m p width))) e
+load_at-fault m p width pointer fault e = ap (λ f. fault_or f (value_or_fault pointer (row_at m p width))) e
 
 pub load_at-free : (m : Memory) (p : Ptr) (width : ℕ) (pointer : Bool) → read_fault m p width width ≡ None → load_at m p width pointer ≡ value_or_fault pointer (row_at m p width)
 unfolding load_at
-load_at-free m p width pointer e = ap (λ f. unless f (value_or_fault pointer (row_at m p width))) e
+load_at-free m p width pointer e = ap (λ f. fault_or f (value_or_fault pointer (row_at m p width))) e
 
 pub load_at-read : (m : Memory) (p : Ptr) (width : ℕ) (pointer : Bool) → is_gone m p ≡ false → is_outside m p width ≡ false → is_misaligned p width ≡ false → load_at m p width pointer ≡ value_or_fault pointer (row_at m p width)
 load_at-read m p width pointer live within aligned =
@@ -33,27 +33,27 @@ load_at-read m p width pointer live within aligned =
 
 pub store_at-fault : (m : Memory) (p : Ptr) (width : ℕ) (v : Value) (fault : MemFault) → write_fault m p width width ≡ Some fault → store_at m p width v ≡ Err fault
 unfolding store_at
-store_at-fault m p width v fault e = ap (λ f. unless f (Ok (put_row m p (cells_of width v)))) e
+store_at-fault m p width v fault e = ap (λ f. fault_or f (Ok (put_row m p (cells_of width v)))) e
 
 pub store_at-free : (m new : Memory) (p : Ptr) (width : ℕ) (v : Value) → write_fault m p width width ≡ None → new ≡ put_row m p (cells_of width v) → store_at m p width v ≡ Ok new
 unfolding store_at
-store_at-free m new p width v e is = ap (λ f. unless f (Ok (put_row m p (cells_of width v)))) e ∙ ap (λ (n : Memory). Ok n) (sym is)
+store_at-free m new p width v e is = ap (λ f. fault_or f (Ok (put_row m p (cells_of width v)))) e ∙ ap (λ (n : Memory). Ok n) (sym is)
 
 pub copy_at-fault : (m : Memory) (to from : Ptr) (size align : ℕ) (fault : MemFault) → copy_fault m to from size align ≡ Some fault → copy_at m to from size align ≡ Err fault
 unfolding copy_at
-copy_at-fault m to from size align fault e = ap (λ f. unless f (Ok (put_row m to (row_at m from size)))) e
+copy_at-fault m to from size align fault e = ap (λ f. fault_or f (Ok (put_row m to (row_at m from size)))) e
 
 pub copy_at-free : (m new : Memory) (to from : Ptr) (size align : ℕ) → copy_fault m to from size align ≡ None → new ≡ put_row m to (row_at m from size) → copy_at m to from size align ≡ Ok new
 unfolding copy_at
-copy_at-free m new to from size align e is = ap (λ f. unless f (Ok (put_row m to (row_at m from size)))) e ∙ ap (λ (n : Memory). Ok n) (sym is)
+copy_at-free m new to from size align e is = ap (λ f. fault_or f (Ok (put_row m to (row_at m from size)))) e ∙ ap (λ (n : Memory). Ok n) (sym is)
 
 pub init_at-fault : (m : Memory) (p : Ptr) (values : List Value) (fault : MemFault) → range_fault m p (length values) ≡ Some fault → init_at m p values ≡ Err fault
 unfolding init_at
-init_at-fault m p values fault e = ap (λ f. unless f (Ok (put_row m p (map byte_of values)))) e
+init_at-fault m p values fault e = ap (λ f. fault_or f (Ok (put_row m p (map byte_of values)))) e
 
 pub init_at-free : (m new : Memory) (p : Ptr) (values : List Value) → range_fault m p (length values) ≡ None → new ≡ put_row m p (map byte_of values) → init_at m p values ≡ Ok new
 unfolding init_at
-init_at-free m new p values e is = ap (λ f. unless f (Ok (put_row m p (map byte_of values)))) e ∙ ap (λ (n : Memory). Ok n) (sym is)
+init_at-free m new p values e is = ap (λ f. fault_or f (Ok (put_row m p (map byte_of values)))) e ∙ ap (λ (n : Memory). Ok n) (sym is)
 
 -- the object of a pointer is there where it is not gone
 pub gone-within : (m : Memory) (p : Ptr) → is_gone m p ≡ false → p.object < length m

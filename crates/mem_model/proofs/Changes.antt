@@ -4,7 +4,7 @@ use Rattle.std.specs.Prelude.{◌||◌, ◌&&◌, not, nat_lt}
 use Rattle.std.proofs.lemmas.Bool.{cases_eq}
 use Rattle.std.proofs.lemmas.List.{get_or-set_same, get_or-set_other, length-map, nil_from_length}
 use Rattle.mem_model.specs.Cells.{value_or_fault, cells_of, bytes_of, parts_of, with_row}
-use Rattle.mem_model.specs.Memory.{Memory, Object, object_at, no_object, place_of, is_within, is_gone, is_outside, is_misaligned, is_read_only, overlaps, first_fault, read_fault, unless, row_at, put_row, load_at, store_at, copy_at, init_at, byte_of, IsWidth, IsStorable}
+use Rattle.mem_model.specs.Memory.{Memory, Object, object_at, no_object, place_of, is_within, is_gone, is_outside, is_misaligned, is_read_only, overlaps, first_fault, read_fault, fault_or, row_at, put_row, load_at, store_at, copy_at, init_at, byte_of, IsWidth, IsStorable}
 use Rattle.mem_model.specs.Laws.{Apart, ChangesCells, CanPut, IsPut, SameFaults, IsLoad}
 use Rattle.mem_model.specs.declared.value.Ptr.{Ptr}
 use Rattle.mem_model.specs.declared.value.Value.{Value}
@@ -21,7 +21,7 @@ pub record PastTwo {A : Type 0} (a b : Bool) (r new : A) : Type 0 where
   pub second : b ≡ false
   pub is : r ≡ new
 
-pub past_two-ok : {A : Type 0} (a b : Bool) (x y : MemFault) (r new : A) → unless (first_fault ((a, x) ∷ (b, y) ∷ [])) (Ok r) ≡ Ok new → PastTwo a b r new
+pub past_two-ok : {A : Type 0} (a b : Bool) (x y : MemFault) (r new : A) → fault_or (first_fault ((a, x) ∷ (b, y) ∷ [])) (Ok r) ≡ Ok new → PastTwo a b r new
 past_two-ok true b x y r new e = absurd (cc)
 past_two-ok false true x y r new e = absurd (cc)
 past_two-ok false false x y r new e = record { first = refl; second = refl; is = cc }
@@ -33,7 +33,7 @@ pub record PastFour {A : Type 0} (a b c d : Bool) (r new : A) : Type 0 where
   pub fourth : d ≡ false
   pub is : r ≡ new
 
-pub past_four-ok : {A : Type 0} (a b c d : Bool) (x y z w : MemFault) (r new : A) → unless (first_fault ((a, x) ∷ (b, y) ∷ (c, z) ∷ (d, w) ∷ [])) (Ok r) ≡ Ok new → PastFour a b c d r new
+pub past_four-ok : {A : Type 0} (a b c d : Bool) (x y z w : MemFault) (r new : A) → fault_or (first_fault ((a, x) ∷ (b, y) ∷ (c, z) ∷ (d, w) ∷ [])) (Ok r) ≡ Ok new → PastFour a b c d r new
 past_four-ok true b c d x y z w r new e = absurd (cc)
 past_four-ok false true c d x y z w r new e = absurd (cc)
 past_four-ok false false true d x y z w r new e = absurd (cc)
@@ -97,9 +97,9 @@ module _ (m : Memory) (p : Ptr) (row : List Cell) (live : is_gone m p ≡ false)
 pub load_at-same : (m n : Memory) (q : Ptr) (width : ℕ) (pointer : Bool) → is_gone n q ≡ is_gone m q → is_outside n q width ≡ is_outside m q width → row_at n q width ≡ row_at m q width → load_at n q width pointer ≡ load_at m q width pointer
 unfolding load_at
 load_at-same m n q width pointer gone outside cells =
-    ap (λ b. unless (first_fault ((b, NoObject) ∷ (is_outside n q width, Outside) ∷ (is_misaligned q width, Misaligned) ∷ [])) (value_or_fault pointer (row_at n q width))) gone
-    ∙ ap (λ b. unless (first_fault ((is_gone m q, NoObject) ∷ (b, Outside) ∷ (is_misaligned q width, Misaligned) ∷ [])) (value_or_fault pointer (row_at n q width))) outside
-    ∙ ap (λ l. unless (first_fault ((is_gone m q, NoObject) ∷ (is_outside m q width, Outside) ∷ (is_misaligned q width, Misaligned) ∷ [])) (value_or_fault pointer l)) cells
+    ap (λ b. fault_or (first_fault ((b, NoObject) ∷ (is_outside n q width, Outside) ∷ (is_misaligned q width, Misaligned) ∷ [])) (value_or_fault pointer (row_at n q width))) gone
+    ∙ ap (λ b. fault_or (first_fault ((is_gone m q, NoObject) ∷ (b, Outside) ∷ (is_misaligned q width, Misaligned) ∷ [])) (value_or_fault pointer (row_at n q width))) outside
+    ∙ ap (λ l. fault_or (first_fault ((is_gone m q, NoObject) ∷ (is_outside m q width, Outside) ∷ (is_misaligned q width, Misaligned) ∷ [])) (value_or_fault pointer l)) cells
 
 module _ (m new : Memory) (id : ℕ) (changes : ChangesCells m new id) where
   pub live-kept : (k : ℕ) → (object_at new k).live ≡ (object_at m k).live
@@ -255,7 +255,7 @@ changes_keep_faults m new id changes = record {
 }
 
 -- a load that gave a value
-free_load : (f : Option MemFault) (r : Result Value MemFault) (v : Value) → unless f r ≡ Ok v → (f ≡ None) × (r ≡ Ok v)
+free_load : (f : Option MemFault) (r : Result Value MemFault) (v : Value) → fault_or f r ≡ Ok v → (f ≡ None) × (r ≡ Ok v)
 free_load None r v e = (refl, e)
 free_load (Some fault) r v e = absurd (cc)
 

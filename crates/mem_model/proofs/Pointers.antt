@@ -8,18 +8,18 @@ use Rattle.mem_model.specs.declared.value.Ptr.{Ptr}
 use Rattle.mem_model.specs.declared.value.Value.{Value}
 use Rattle.mem_model.specs.declared.value.Value.TheVariants.{Word, Address, Unset}
 use Rattle.mem_model.specs.Memory.{Memory, object_at}
-use Rattle.mem_model.specs.Pointers.{ptr_plus, is_live, size_at, is_offset, is_at_end, share_object, when, pointer_plus, pointer_minus, pointer_lt, pointer_le, pointer_eq, addresses_eq, is_null}
+use Rattle.mem_model.specs.Pointers.{ptr_plus, is_live, size_at, is_offset, is_at_end, share_object, option_if, pointer_plus, pointer_minus, pointer_lt, pointer_le, pointer_eq, addresses_eq, is_null}
 use Rattle.mem_model.specs.Laws.{ChangesCells}
 use Rattle.mem_model.specs.PointerLaws.{SamePointers}
 use Rattle.mem_model.proofs.RowValues.{both, same_ptr}
 use Rattle.mem_model.proofs.Changes.{live-kept, size-kept}
 
 -- an answer that was given, and one where the test holds
-pub when-some : {A : Type 0} (t : Bool) (x y : A) → when t x ≡ Some y → (t ≡ true) × (x ≡ y)
+pub when-some : {A : Type 0} (t : Bool) (x y : A) → option_if t x ≡ Some y → (t ≡ true) × (x ≡ y)
 when-some true x y e = (refl, cc)
 when-some false x y e = absurd (cc)
 
-pub when-true : {A : Type 0} (t : Bool) (x y : A) → t ≡ true → x ≡ y → when t x ≡ Some y
+pub when-true : {A : Type 0} (t : Bool) (x y : A) → t ≡ true → x ≡ y → option_if t x ≡ Some y
 when-true true x y e is = ap (λ z. Some z) is
 when-true false x y e is = absurd (cc)
 
@@ -38,7 +38,7 @@ plus_twice m (Address p) u w a b e f =
     let h = when-some (is_live m p && is_offset (p.offset +ℤ a) (size_at m p)) (Address (ptr_plus p a)) u e in
     let g : pointer_plus m (Address (ptr_plus p a)) b ≡ Some w = subst (λ x. pointer_plus m x b ≡ Some w) (sym h.1) f in
     let sum : (p.offset +ℤ a) +ℤ b ≡ p.offset +ℤ (a +ℤ b) = omega (arith, ints) in
-    subst (λ z. when (is_live m p && is_offset z (size_at m p)) (Address (at_offset p.object z)) ≡ Some w) sum g
+    subst (λ z. option_if (is_live m p && is_offset z (size_at m p)) (Address (at_offset p.object z)) ≡ Some w) sum g
 
 pub minus_undoes_plus : (m : Memory) (v u : Value) (a : ℤ) → pointer_plus m v a ≡ Some u → pointer_minus m u v ≡ Some a
 minus_undoes_plus m (Word n) u a e = absurd (cc)
@@ -62,9 +62,9 @@ there_again m p q a stands e =
     let nought : q.offset +ℤ pos 0 ≡ q.offset = omega (arith, ints) in
     let sum : p.offset +ℤ a ≡ q.offset = omega (arith, ints) in
     let inside : is_offset (p.offset +ℤ a) (size_at m q) ≡ true = ap (λ z. is_offset z (size_at m q)) (sum ∙ sym nought) ∙ within in
-    let answer : when (is_live m q && is_offset (p.offset +ℤ a) (size_at m q)) (Address (at_offset q.object (p.offset +ℤ a))) ≡ Some (Address q) =
+    let answer : option_if (is_live m q && is_offset (p.offset +ℤ a) (size_at m q)) (Address (at_offset q.object (p.offset +ℤ a))) ≡ Some (Address q) =
     when-true (is_live m q && is_offset (p.offset +ℤ a) (size_at m q)) (Address (at_offset q.object (p.offset +ℤ a))) (Address q) (and-true (is_live m q) (is_offset (p.offset +ℤ a) (size_at m q)) tests.0 inside) (ap Address (same_ptr (at_offset q.object (p.offset +ℤ a)) q refl sum)) in
-    subst (λ o. when ((object_at m o).live && is_offset (p.offset +ℤ a) (length (object_at m o).cells)) (Address (at_offset o (p.offset +ℤ a))) ≡ Some (Address q)) same answer
+    subst (λ o. option_if ((object_at m o).live && is_offset (p.offset +ℤ a) (length (object_at m o).cells)) (Address (at_offset o (p.offset +ℤ a))) ≡ Some (Address q)) same answer
 
 pub plus_undoes_minus : (m : Memory) (v u : Value) (a : ℤ) → pointer_plus m u (pos 0) ≡ Some u → pointer_minus m u v ≡ Some a → pointer_plus m v a ≡ Some u
 plus_undoes_minus m (Address p) (Address q) a stands e = there_again m p q a stands e
@@ -86,14 +86,14 @@ module _ (m new : Memory) (id : ℕ) (changes : ChangesCells m new id) where
 
   plus-kept : (v : Value) (by : ℤ) → pointer_plus new v by ≡ pointer_plus m v by
   plus-kept (Address p) by =
-      ap (λ l. when (l && is_offset (p.offset +ℤ by) (size_at new p)) (Address (ptr_plus p by))) (live p)
-      ∙ ap (λ n. when (is_live m p && is_offset (p.offset +ℤ by) n) (Address (ptr_plus p by))) (size p)
+      ap (λ l. option_if (l && is_offset (p.offset +ℤ by) (size_at new p)) (Address (ptr_plus p by))) (live p)
+      ∙ ap (λ n. option_if (is_live m p && is_offset (p.offset +ℤ by) n) (Address (ptr_plus p by))) (size p)
   plus-kept (Word n) by = refl
   plus-kept Unset by = refl
 
   -- what two addresses of one object give
-  in_one_object : {A : Type 0} (p q : Ptr) (x : A) → when (share_object new p q) x ≡ when (share_object m p q) x
-  in_one_object p q x = ap (λ l. when (l && p.object == q.object) x) (live p)
+  in_one_object : {A : Type 0} (p q : Ptr) (x : A) → option_if (share_object new p q) x ≡ option_if (share_object m p q) x
+  in_one_object p q x = ap (λ l. option_if (l && p.object == q.object) x) (live p)
 
   minus-kept : (v w : Value) → pointer_minus new v w ≡ pointer_minus m v w
   minus-kept (Address p) (Address q) = in_one_object p q (p.offset -ℤ q.offset)
@@ -117,15 +117,15 @@ module _ (m new : Memory) (id : ℕ) (changes : ChangesCells m new id) where
   le-kept Unset w = refl
 
   null-kept : (v : Value) → is_null new v ≡ is_null m v
-  null-kept (Address p) = ap (λ l. when l false) (live p)
+  null-kept (Address p) = ap (λ l. option_if l false) (live p)
   null-kept (Word zero) = refl
   null-kept (Word (suc n)) = refl
   null-kept Unset = refl
 
   addresses-kept : (p q : Ptr) → addresses_eq new p q ≡ addresses_eq m p q
   addresses-kept p q =
-      ap (λ n. if p.object == q.object then Some (int_eq p.offset q.offset) else when (not (int_eq p.offset (pos n) || is_at_end new q)) false) (size p)
-      ∙ ap (λ n. if p.object == q.object then Some (int_eq p.offset q.offset) else when (not (is_at_end m p || int_eq q.offset (pos n))) false) (size q)
+      ap (λ n. if p.object == q.object then Some (int_eq p.offset q.offset) else option_if (not (int_eq p.offset (pos n) || is_at_end new q)) false) (size p)
+      ∙ ap (λ n. if p.object == q.object then Some (int_eq p.offset q.offset) else option_if (not (is_at_end m p || int_eq q.offset (pos n))) false) (size q)
 
   eq-kept : (v w : Value) → pointer_eq new v w ≡ pointer_eq m v w
   eq-kept (Address p) (Address q) =

@@ -7,7 +7,7 @@ use Rattle.mem_model.specs.declared.value.Ptr.{Ptr}
 use Rattle.mem_model.specs.declared.value.Value.{Value}
 use Rattle.mem_model.specs.declared.value.Value.TheVariants.{Word, Address, Unset}
 use Rattle.mem_model.specs.Memory.{Memory, object_at}
-use Rattle.mem_model.specs.Pointers.{ptr_plus, is_live, size_at, is_offset, is_at_end, share_object, when, pointer_plus, pointer_minus, pointer_lt, pointer_le, pointer_eq, addresses_eq, is_null}
+use Rattle.mem_model.specs.Pointers.{ptr_plus, is_live, size_at, is_offset, is_at_end, share_object, option_if, pointer_plus, pointer_minus, pointer_lt, pointer_le, pointer_eq, addresses_eq, is_null}
 use Rattle.mem_model.specs.Related.{Names, IsPointerOf, IsValueOf, IsMemoryOf}
 use Rattle.mem_model.specs.RelatedMemoryLaws.{SameAnswers}
 use Rattle.mem_model.proofs.RowValues.{both}
@@ -30,7 +30,7 @@ module _ (f : Names) (m n : Memory) (h : IsMemoryOf f m n) where
       (Address (ptr_plus r.0 by), ap (λ z. pointer_plus n z by) r.1 ∙ done, subst (λ z. IsValueOf f z (Address (ptr_plus r.0 by))) a.1 (ptr_plus r.0 by, refl, record { object = r.2.object; offset = offset }))
 
   -- what two pointers into one object give
-  in_one_object : {A : Type 0} (p q p1 q1 : Ptr) (x y a : A) → IsPointerOf f p p1 → IsPointerOf f q q1 → x ≡ y → when (share_object m p q) x ≡ Some a → when (share_object n p1 q1) y ≡ Some a
+  in_one_object : {A : Type 0} (p q p1 q1 : Ptr) (x y a : A) → IsPointerOf f p p1 → IsPointerOf f q q1 → x ≡ y → option_if (share_object m p q) x ≡ Some a → option_if (share_object n p1 q1) y ≡ Some a
   in_one_object p q p1 q1 x y a pp qq same e =
       let b = when-some (share_object m p q) x a e in
       let tests = both (is_live m p) (p.object == q.object) b.0 in
@@ -87,9 +87,9 @@ module _ (f : Names) (m n : Memory) (h : IsMemoryOf f m n) where
       let objects = same_object f m n p q p1 q1 h pp qq lp lq in
       let offsets : int_eq p1.offset q1.offset ≡ int_eq p.offset q.offset = cc (pp.offset, qq.offset) in
       let ends : (is_at_end n p1 || is_at_end n q1) ≡ (is_at_end m p || is_at_end m q) = cc (pp.offset, qq.offset, mp.size, mq.size) in
-      ap (λ x. if x then Some (int_eq p1.offset q1.offset) else when (not (is_at_end n p1 || is_at_end n q1)) false) objects
-      ∙ ap (λ x. if p.object == q.object then Some x else when (not (is_at_end n p1 || is_at_end n q1)) false) offsets
-      ∙ ap (λ x. if p.object == q.object then Some (int_eq p.offset q.offset) else when (not x) false) ends
+      ap (λ x. if x then Some (int_eq p1.offset q1.offset) else option_if (not (is_at_end n p1 || is_at_end n q1)) false) objects
+      ∙ ap (λ x. if p.object == q.object then Some x else option_if (not (is_at_end n p1 || is_at_end n q1)) false) offsets
+      ∙ ap (λ x. if p.object == q.object then Some (int_eq p.offset q.offset) else option_if (not x) false) ends
 
   eq_same : (v1 v2 w1 w2 : Value) (b : Bool) → IsValueOf f v1 w1 → IsValueOf f v2 w2 → pointer_eq m v1 v2 ≡ Some b → pointer_eq n w1 w2 ≡ Some b
   eq_same (Address p) (Address q) w1 w2 b r s e =

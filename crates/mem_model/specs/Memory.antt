@@ -120,21 +120,21 @@ put_row m p row =
     { cells = with_row (object_at m p.object).cells (place_of p.offset) row })
 
 -- a fault, where there is one, and else what is answered
-abbrev pub unless : {A : Type 0} → Option MemFault → Result A MemFault → Result A MemFault
-unless None answer = answer
-unless (Some fault) answer = Err fault
+abbrev pub fault_or : {A : Type 0} → Option MemFault → Result A MemFault → Result A MemFault
+fault_or None answer = answer
+fault_or (Some fault) answer = Err fault
 
 -- a load of so many bytes, as a number or as a pointer
 unfoldable pub load_at : Memory → Ptr → (width : ℕ) → (pointer : Bool) → Result Value MemFault
-load_at m p width pointer = unless (read_fault m p width width) (value_or_fault pointer (row_at m p width))
+load_at m p width pointer = fault_or (read_fault m p width width) (value_or_fault pointer (row_at m p width))
 
 -- a store of a value
 unfoldable pub store_at : Memory → Ptr → (width : ℕ) → Value → Result Memory MemFault
-store_at m p width v = unless (write_fault m p width width) (Ok (put_row m p (cells_of width v)))
+store_at m p width v = fault_or (write_fault m p width width) (Ok (put_row m p (cells_of width v)))
 
 -- a copy of so many cells, as they are
 unfoldable pub copy_at : Memory → (to from : Ptr) → (size align : ℕ) → Result Memory MemFault
-copy_at m to from size align = unless (copy_fault m to from size align) (Ok (put_row m to (row_at m from size)))
+copy_at m to from size align = fault_or (copy_fault m to from size align) (Ok (put_row m to (row_at m from size)))
 
 -- the byte of a value that is one
 abbrev pub byte_of : Value → Cell
@@ -143,7 +143,7 @@ byte_of _ = Empty
 
 -- the bytes of an object at its making
 unfoldable pub init_at : Memory → Ptr → List Value → Result Memory MemFault
-init_at m p values = unless (range_fault m p (length values)) (Ok (put_row m p (map byte_of values)))
+init_at m p values = fault_or (range_fault m p (length values)) (Ok (put_row m p (map byte_of values)))
 
 -- the widths of an access
 abbrev pub IsWidth : ℕ → Type 0

@@ -19,7 +19,7 @@ use Rattle.call_outcomes.specs.declared.outcome.Outcome.TheVariants.{Built, File
 use Rattle.call_outcomes.specs.declared.outcome.Which.TheVariants.{Text}
 use Rattle.call_outcomes.specs.FromFile.{IsFront}
 use Rattle.msc_cli.specs.model.Causes.{outcome_of_text_fault}
-use Rattle.call_outcomes.specs.FromFile.{IsCause, text_of}
+use Rattle.call_outcomes.specs.FromFile.{IsCause, file_bytes}
 use Rattle.msc_cli.specs.AssembleText.{IsAssembled, SpellsNoImage, RefusesAssembly, Assembles}
 
 -- a text within the limit has neither too many bytes of data nor too many words
@@ -77,15 +77,15 @@ none_file file text answer front n = elim front [
 ]
 
 -- what holds of the text holds of the file, where it is told
-assembled_told : (told : Option Shelf) (name text : List ℕ) (p : Program) → IfSome told (λ shelf. IsFront 67108865 (file_of shelf name) text) → IsAssembled text p → IfSome (text_of told name) (λ t. IsAssembled t p)
+assembled_told : (told : Option Shelf) (name text : List ℕ) (p : Program) → IfSome told (λ shelf. IsFront 67108865 (file_of shelf name) text) → IsAssembled text p → IfSome (file_bytes told name) (λ t. IsAssembled t p)
 assembled_told None name text p front s = tt
 assembled_told (Some shelf) name text p front s = assembled_file (file_of shelf name) text p front s
 
-none_told : (told : Option Shelf) (name text : List ℕ) (answer : Outcome) → IfSome told (λ shelf. IsFront 67108865 (file_of shelf name) text) → SpellsNoImage text answer → IfSome (text_of told name) (λ t. SpellsNoImage t answer)
+none_told : (told : Option Shelf) (name text : List ℕ) (answer : Outcome) → IfSome told (λ shelf. IsFront 67108865 (file_of shelf name) text) → SpellsNoImage text answer → IfSome (file_bytes told name) (λ t. SpellsNoImage t answer)
 none_told None name text answer front n = tt
 none_told (Some shelf) name text answer front n = none_file (file_of shelf name) text answer front n
 
-cause_told : (told : Option Shelf) (name text : List ℕ) (answer : Outcome) → IfSome told (λ shelf. IsFront 67108865 (file_of shelf name) text) → IsCause (RefusesAssembly (Some text)) answer → IsCause (RefusesAssembly (text_of told name)) answer
+cause_told : (told : Option Shelf) (name text : List ℕ) (answer : Outcome) → IfSome told (λ shelf. IsFront 67108865 (file_of shelf name) text) → IsCause (RefusesAssembly (Some text)) answer → IsCause (RefusesAssembly (file_bytes told name)) answer
 cause_told told name text FileFault front c = tt
 cause_told told name text NoMemory front c = c
 cause_told told name text (Limit Text counted) front c = none_told told name text (Limit Text counted) front c
@@ -93,7 +93,7 @@ cause_told told name text (BadAsm line) front c = none_told told name text (BadA
 cause_told told name text _ front c = absurd c
 
 pub assembles_told : (told : Option Shelf) (name text : List ℕ) (answer : Outcome) (old new : Option (List ℕ)) → IfSome told (λ shelf. IsFront 67108865 (file_of shelf name) text)
-    → Assembles (Some text) answer old new → Assembles (text_of told name) answer old new
+    → Assembles (Some text) answer old new → Assembles (file_bytes told name) answer old new
 assembles_told told name text answer old new front p = elim p [
   | inl c ↦ inl (cause_told told name text answer front c.0, c.1)
   | inr m ↦ inr (m.0, assembled_told told name text m.0 front m.1, m.2)

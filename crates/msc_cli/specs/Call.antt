@@ -5,7 +5,7 @@ use Rattle.bk_io.specs.Shelf.{Shelf, is_due, after_call}
 use Rattle.bk_io.specs.Outside.{Traffic}
 use Rattle.call_outcomes.specs.declared.outcome.Outcome.{Outcome}
 use Rattle.call_outcomes.specs.declared.outcome.Outcome.TheVariants.{Usage, FileFault, NoMemory}
-use Rattle.call_outcomes.specs.FromFile.{text_of}
+use Rattle.call_outcomes.specs.FromFile.{file_bytes}
 use Rattle.compile_options.specs.declared.Allocator.{Allocator}
 use Rattle.compile_options.specs.declared.Allocator.TheVariants.{Plain}
 use Rattle.call_words.specs.declared.request.Command.{Command}
@@ -35,19 +35,19 @@ default_allocator = Plain
 abbrev pub AnswersCall : Call → Option Shelf → Outcome → Traffic → Traffic → Type 0
 AnswersCall None told answer before after = (answer ≡ Usage) × (after ≡ before)
 AnswersCall (Some (Build options, file)) told answer before after =
-    Builds options.allocator (text_of told file) answer before.taken after.taken × LeavesInput before after
+    Builds options.allocator (file_bytes told file) answer before.taken after.taken × LeavesInput before after
 AnswersCall (Some (Run options limits, file)) told answer before after =
-    Runs options.allocator limits (text_of told file) answer before after
+    Runs options.allocator limits (file_bytes told file) answer before after
 AnswersCall (Some (Vm turns, file)) told answer before after =
-    RunsText default_allocator turns (text_of told file) answer before after
+    RunsText default_allocator turns (file_bytes told file) answer before after
 AnswersCall (Some (Exec limits, file)) told answer before after =
-    Executes limits (text_of told file) answer before after
+    Executes limits (file_bytes told file) answer before after
 AnswersCall (Some (Migrate, file)) told answer before after =
-    Migrates (text_of told file) answer before.taken after.taken × LeavesInput before after
+    Migrates (file_bytes told file) answer before.taken after.taken × LeavesInput before after
 AnswersCall (Some (Assemble, file)) told answer before after =
-    Assembles (text_of told file) answer before.taken after.taken × LeavesInput before after
+    Assembles (file_bytes told file) answer before.taken after.taken × LeavesInput before after
 AnswersCall (Some (Print pass options, file)) told answer before after =
-    Prints options.allocator pass (text_of told file) answer before.taken after.taken × LeavesInput before after
+    Prints options.allocator pass (file_bytes told file) answer before.taken after.taken × LeavesInput before after
 
 -- a fault of the file comes exactly where its read is due to fail
 abbrev pub FailsWhereDue : Call → Option Shelf → Outcome → Type 0

@@ -2,7 +2,7 @@
 
 ghost use Rattle.std.specs.Prelude.{◌≡◌, ◌≢◌, ◌↔◌, ◌≤◌, ◌<◌, length, IfSome, IfErr, IfOk, Some, IsTrue, option_map};
 ghost use Rattle.bk_io.specs.Shelf.{is_due, after_call};
-ghost use Rattle.call_outcomes.specs.FromFile.{IsCause, text_of};
+ghost use Rattle.call_outcomes.specs.FromFile.{IsCause, file_bytes};
 ghost use Rattle.msc_cli.specs.Limits.{most_assembly, assembly_limit};
 ghost use Rattle.msc_cli.specs.model.Causes as spec;
 ghost use Rattle.alpha_asm.specs.Fault.{HasFewWords};
@@ -41,7 +41,7 @@ fn outcome_of_text_fault(fault: TextFault) -> Outcome
 
 /// Reads an assembly text and writes the image of its assembly.
 pub fn assemble<F: Files, O: Sink>(alloc: Global, name: &str, files: &mut F, out: &mut O) -> Outcome
-    ensures answer { Assembles (text_of (F.told files.old) name.now) result (O.taken out.old) (O.taken out.new) }
+    ensures answer { Assembles (file_bytes (F.told files.old) name.now) result (O.taken out.old) (O.taken out.new) }
     ensures due { IfSome (F.told files.old) (λ shelf. (result ≡ Outcome.FileFault) ↔ IsTrue (is_due shelf name.now)) }
     ensures told { F.told files.new ≡ option_map after_call (F.told files.old) }
     ensures file_count { F.faults files.new ≡ file_faults_after result (F.faults files.old) }

@@ -6,11 +6,11 @@ use Rattle.temp_ir.specs.declared.insn.TempInsn.{TempInsn}
 use Rattle.temp_ir.specs.declared.insn.TempInsn.TheVariants as i
 use Rattle.temp_ir.specs.Insns.{targets_of, with_block, flows_on_of}
 use Rattle.cfg.specs.Contents.{is_no_jump, contents}
-use Rattle.cfg.specs.Walks.{bare}
+use Rattle.cfg.specs.Walks.{zero_targets}
 
 -- an instruction with block 0 as its target, if it has one
 abbrev bare_of : TempInsn → TempInsn
-bare_of z = bare targets_of with_block z
+bare_of z = zero_targets targets_of with_block z
 
 abbrev pub contents_of : List TempInsn → List TempInsn
 contents_of xs = contents targets_of with_block flows_on_of xs

@@ -7,7 +7,7 @@ use Rattle.temp_ir.specs.declared.insn.TempInsn.TheVariants as i
 use Rattle.temp_ir.specs.Insns.{targets_of, with_block, flows_on_of}
 use Rattle.cfg.specs.Walks.{block_at}
 use Rattle.cfg.specs.Contents.{HasContents, KeepsBlocks}
-use Rattle.selection_code.specs.Functions.{function_blocks}
+use Rattle.selection_code.specs.Functions.{selected_blocks}
 use Rattle.frame_bounds.specs.Near.{IsNear}
 use Rattle.frame_bounds.proofs.Near.{plan_same}
 use Rattle.near_arguments.specs.Near.{NearBlocksStayNear, PlansAreNear}
@@ -66,4 +66,4 @@ near_kept before after kept h = named_after before after kept h
 
 pub plans_near : PlansAreNear
 plans_near f reached a small first second =
-    plan_same a (near_kept reached a.function.blocks second (near_kept (function_blocks f.params f.blocks) reached first (selected_near f small)))
+    plan_same a (near_kept reached a.function.blocks second (near_kept (selected_blocks f.params f.blocks) reached first (selected_near f small)))

@@ -5,7 +5,7 @@ use Rattle.std.specs.List.{list_all}
 use Rattle.std.specs.Int.{w16}
 use Rattle.std.proofs.lemmas.Bool.{and_from}
 use Rattle.std.proofs.lemmas.List.Folds.{list_all-append}
-use Rattle.alpha_isa.specs.Arithmetic.{fits, word_from}
+use Rattle.alpha_isa.specs.Arithmetic.{fits_signed, word_from}
 use Rattle.alpha_constants.specs.declared.recipe.Finish.{Finish}
 use Rattle.alpha_constants.specs.declared.recipe.Finish.TheVariants.{Nothing, ShiftLeft, ShiftRight, LowHalf, AddLower}
 use Rattle.alpha_constants.specs.declared.recipe.Recipe.{Recipe}
@@ -32,8 +32,8 @@ use Rattle.temp_ir.specs.declared.insn.TempInsn.TheVariants as i
 use Rattle.alpha_forms.specs.Constants.{unless_zero, near_items, lower_items, finish_items, recipe_items, constant_items}
 use Rattle.alpha_forms.specs.Accesses.{near_load, near_store, far_items, load_by, load_items, store_by, store_items}
 use Rattle.alpha_forms.specs.Operations.{binary_items, left_items, logical_right_items, shift_items, compare_items, convert_items, convert_item, is_narrow, from_unsigned_item, from_wide_item}
-use Rattle.alpha_copies.specs.Copies.{part_items, moved_items, reach, parts_items}
-use Rattle.selection_code.specs.Instructions.{temp_of, pass_item, pass_items, take_item, take_items, result_items, byte_items, put_char_items, exit_items, builtin_items, call_items, argument_register}
+use Rattle.alpha_copies.specs.Copies.{part_items, moved_items, copy_reach, parts_items}
+use Rattle.selection_code.specs.Instructions.{temp_of, pass_item, pass_items, take_item, take_items, result_items, byte_items, put_char_items, exit_call_items, builtin_items, call_items, argument_register}
 use Rattle.std.specs.Prelude.{nat_le, sum_by, All}
 use Rattle.std.proofs.lemmas.Bool.{and_parts, le-leb, leb-true}
 use Rattle.std.proofs.lemmas.List.Elements.{All-nil, All-cons}
@@ -43,8 +43,8 @@ use Rattle.suifvm_ir.specs.declared.insn.VmInsn.{VmInsn}
 use Rattle.suifvm_ir.specs.declared.insn.VmInsn.TheVariants as x
 use Rattle.suifvm_ir.specs.Functions.{AllInsns}
 use Rattle.suifvm_ir.specs.Programs.{weight_of}
-use Rattle.selection_code.specs.Functions.{insns_items, parameter_items, function_blocks}
-use Rattle.selection_code.specs.Instructions.{return_items, insn_items}
+use Rattle.selection_code.specs.Functions.{selected_insns, parameter_items, selected_blocks}
+use Rattle.selection_code.specs.Instructions.{return_items, selected_insn}
 use Rattle.frame_bounds.specs.Near.{IsNear}
 use Rattle.near_arguments.specs.Near.{SelectedFunctionsAreNear}
 
@@ -110,14 +110,14 @@ far_near : (p : ℕ) (plus : ℤ) → are_near (far_items p plus) ≡ true
 far_near p plus = near-append (constant_items 0 (word_from plus)) _ (constant_near 0 (word_from plus)) refl
 
 load_near : (ty : MemoryType) (d p : ℕ) (plus : ℤ) → are_near (load_items ty d p plus) ≡ true
-load_near ty d p plus = by_fit (fits w16 plus)
+load_near ty d p plus = by_fit (fits_signed w16 plus)
   where
     by_fit : (b : Bool) → are_near (load_by ty d p plus (if b then Some plus else None)) ≡ true
     by_fit true = near_load_near ty d p plus
     by_fit false = near-append (far_items p plus) (near_load ty d 0 (pos 0)) (far_near p plus) (near_load_near ty d 0 (pos 0))
 
 store_near : (ty : MemoryType) (p : ℕ) (plus : ℤ) (a : ℕ) → are_near (store_items ty p plus a) ≡ true
-store_near ty p plus a = by_fit (fits w16 plus)
+store_near ty p plus a = by_fit (fits_signed w16 plus)
   where
     by_fit : (b : Bool) → are_near (store_by ty p plus a (if b then Some plus else None)) ≡ true
     by_fit true = refl
@@ -126,7 +126,7 @@ store_near ty p plus a = by_fit (fits w16 plus)
 parts_near : (al : Alignment) (n to from at : ℕ) → are_near (parts_items al n to from at) ≡ true
 parts_near al zero to from at = refl
 parts_near al (suc n) to from at =
-    near_one (nat_lt at reach) (part_items al to from at ++ parts_items al n to from (at + alignment_bytes al))
+    near_one (nat_lt at copy_reach) (part_items al to from at ++ parts_items al n to from (at + alignment_bytes al))
     (moved_items to from at ++ (part_items al 1 2 0 ++ parts_items al n 1 2 (alignment_bytes al)))
     (parts_near al n to from (at + alignment_bytes al)) (parts_near al n 1 2 (alignment_bytes al))
 
@@ -221,7 +221,7 @@ put_char-near : (d : Option ℕ) (arguments : List ℕ) → are_near (put_char_i
 put_char-near d [] = refl
 put_char-near d (a ∷ arguments) = byte-near d a
 
-exit-near : (arguments : List ℕ) → are_near (exit_items arguments) ≡ true
+exit-near : (arguments : List ℕ) → are_near (exit_call_items arguments) ≡ true
 exit-near [] = refl
 exit-near (a ∷ arguments) = refl
 
@@ -241,7 +241,7 @@ return-near (Some value) = refl
 
 -- ---- instructions
 
-insn-near : (y : VmInsn) → weight_of y ≤ 16777216 → are_near (insn_items y) ≡ true
+insn-near : (y : VmInsn) → weight_of y ≤ 16777216 → are_near (selected_insn y) ≡ true
 insn-near (x.LoadConstant ty d word) le = constant_near (temp_of d) word
 insn-near (x.LoadAddress d place plus) le = refl
 insn-near (x.Load ty d p plus) le = load_near ty (temp_of d) (temp_of p) plus
@@ -259,11 +259,11 @@ insn-near (x.Return value) le = return-near value
 insn-near x.Mark le = refl
 insn-near x.Nop le = refl
 
-insns-near : (insns : List VmInsn) → sum_by weight_of insns ≤ 16777216 → are_near (insns_items insns) ≡ true
+insns-near : (insns : List VmInsn) → sum_by weight_of insns ≤ 16777216 → are_near (selected_insns insns) ≡ true
 insns-near [] le = refl
 insns-near (y ∷ insns) le =
     let s = sum_by-cons weight_of y insns in
-    near-append (insn_items y) (insns_items insns) (insn-near y (omega (arith, s, le))) (insns-near insns (omega (arith, s, le)))
+    near-append (selected_insn y) (selected_insns insns) (insn-near y (omega (arith, s, le))) (insns-near insns (omega (arith, s, le)))
 
 -- ---- functions
 
@@ -296,18 +296,18 @@ all-near (z ∷ xs) e =
 abbrev weight : List VmInsn → ℕ
 weight block = sum_by weight_of block
 
-others-near : (blocks : List (List VmInsn)) → sum_by weight blocks ≤ 16777216 → AllInsns IsNear (map insns_items blocks)
+others-near : (blocks : List (List VmInsn)) → sum_by weight blocks ≤ 16777216 → AllInsns IsNear (map selected_insns blocks)
 others-near [] le = All-nil (All IsNear)
 others-near (block ∷ blocks) le =
     let s = sum_by-cons weight block blocks in
-    All-cons (All IsNear) (insns_items block) (map insns_items blocks) (all-near (insns_items block) (insns-near block (omega (arith, s, le)))) (others-near blocks (omega (arith, s, le)))
+    All-cons (All IsNear) (selected_insns block) (map selected_insns blocks) (all-near (selected_insns block) (insns-near block (omega (arith, s, le)))) (others-near blocks (omega (arith, s, le)))
 
-blocks-near : (params : ℕ) (blocks : List (List VmInsn)) → params ≤ 16777216 → sum_by weight blocks ≤ 16777216 → AllInsns IsNear (function_blocks params blocks)
+blocks-near : (params : ℕ) (blocks : List (List VmInsn)) → params ≤ 16777216 → sum_by weight blocks ≤ 16777216 → AllInsns IsNear (selected_blocks params blocks)
 blocks-near params [] few le = All-nil (All IsNear)
 blocks-near params (block ∷ blocks) few le =
     let s = sum_by-cons weight block blocks in
-    All-cons (All IsNear) (parameter_items params ++ insns_items block) (map insns_items blocks)
-    (all-near (parameter_items params ++ insns_items block) (near-append (parameter_items params) (insns_items block) (takes-near 0 params (omega (arith, few))) (insns-near block (omega (arith, s, le)))))
+    All-cons (All IsNear) (parameter_items params ++ selected_insns block) (map selected_insns blocks)
+    (all-near (parameter_items params ++ selected_insns block) (near-append (parameter_items params) (selected_insns block) (takes-near 0 params (omega (arith, few))) (insns-near block (omega (arith, s, le)))))
     (others-near blocks (omega (arith, s, le)))
 
 pub selected_near : SelectedFunctionsAreNear

@@ -3,7 +3,7 @@
 ghost use Rattle.std.specs.Prelude.{◌≡◌, ◌-◌, ◌^◌, min, map, sum_by};
 ghost use Rattle.c_typed_tree.specs.View.{local_view, first_view, stmt_view};
 ghost use Rattle.c_typed_tree.specs.model.View.{stmts_view};
-ghost use Rattle.c_typed_tree.specs.Counts.{declared_nodes, first_nodes, stmt_nodes, else_nodes, stmts_nodes, sections_nodes};
+ghost use Rattle.c_typed_tree.specs.Counts.{declared_nodes, first_part_nodes, stmt_nodes, else_nodes, stmts_nodes, sections_nodes};
 ghost use Rattle.c_typed_tree.specs.model.Lists.{sections_view, else_view};
 
 use crate::expressions::{expr_nodes, one_and, optional_nodes};
@@ -31,7 +31,7 @@ fn locals_nodes(list: &Seq<TLocal>) -> u64
 
 /// Those of the first part of a `for`.
 fn first_nodes(first: &TFirst) -> u64
-    ensures { result ≡ min (first_nodes (first_view first.now)) (2 ^ 64 - 1) }
+    ensures { result ≡ min (first_part_nodes (first_view first.now)) (2 ^ 64 - 1) }
 {
     match first {
         TFirst::Nothing => 0,

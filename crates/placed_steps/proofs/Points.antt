@@ -21,51 +21,51 @@ use Rattle.alloc_model.specs.declared.allocation.Transfer.TheVariants.{Store, Lo
 use Rattle.alloc_model.specs.Contents.{Content}
 use Rattle.alloc_model.specs.Stores.{put, put_all, without, first_or_unset}
 use Rattle.alloc_model.specs.Effect.{Fixed, places_written, does}
-use Rattle.alloc_model.specs.Places.{Places, Place, Reg, In, place_eq, home_of, places_read_at, places_written_at, is_ended, source_of, target_of, do_all}
+use Rattle.alloc_model.specs.Places.{Places, Place, Reg, In, place_eq, home_of, places_read_at, places_written_at, ends_place, source_of, transfer_target, do_all}
 use Rattle.flat_frames.specs.Shapes.{FrameShape}
 use Rattle.frame_transfers.specs.Items.{items_of_transfers}
 use Rattle.frame_transfers.specs.Laws.{CallAt, FitsTheStack, StandsFor, known_after, known_behind, CanTransfer, CanTransferAll, IsKept}
 use Rattle.frame_transfers.proofs.Runs.{transfers_are_done}
 use Rattle.division_calls.specs.Items.{ItemSetting, insn_items}
-use Rattle.division_calls.specs.Laws.{usable, IsStated, IsThere, HasOuter, RunIsOver, ActIsDone, is_no_call, store_behind}
+use Rattle.division_calls.specs.Laws.{is_usable, IsStated, IsThere, HasOuter, RunIsOver, ActIsDone, is_no_call, store_behind}
 use Rattle.division_calls.proofs.Runs.{usable-values, more-usable, writable, no-registers}
 use Rattle.division_calls.proofs.Instructions.{instructions_are_done}
 use Rattle.division_calls.specs.Stacks.{Waiting, Start, StackIs}
 use Rattle.division_calls.proofs.Stays.{stacks_stay}
 use Rattle.division_calls.specs.Divisions.{RoutinesStand, HasScratch}
 use Rattle.division_calls.proofs.Divisions.{divisions_are_done}
-use Rattle.placed_steps.specs.Points.{MayTransfer, AllMayTransfer, is_local, PointIsDone}
+use Rattle.placed_steps.specs.Points.{MayTransfer, AllMayTransfer, stays_in_call, PointIsDone}
 
 -- ---- transfers
 
-can-transfer : (s : FrameShape) (x : Transfer) → MayTransfer s x → CanTransfer s usable x
+can-transfer : (s : FrameShape) (x : Transfer) → MayTransfer s x → CanTransfer s is_usable x
 can-transfer s (Store t r) h = (h.0, h.1.usable_one)
 can-transfer s (Load t r) h = (h.0, writable s r h.1)
 can-transfer s (Shift t from to) h = (h.0.usable_one, writable s to h.1)
 
-known-same : (s : FrameShape) (x : Transfer) → MayTransfer s x → known_after x usable ≡ usable
+known-same : (s : FrameShape) (x : Transfer) → MayTransfer s x → known_after x is_usable ≡ is_usable
 known-same s (Store t r) h = refl
 known-same s (Load t r) h = more-usable r h.1.usable_one
 known-same s (Shift t from to) h = more-usable to h.1.usable_one
 
-pub can-transfer-all : (s : FrameShape) (xs : List Transfer) → AllMayTransfer s xs → CanTransferAll s usable xs
+pub can-transfer-all : (s : FrameShape) (xs : List Transfer) → AllMayTransfer s xs → CanTransferAll s is_usable xs
 can-transfer-all s [] h = tt
 can-transfer-all s (x ∷ xs) h = (can-transfer s x h.0, subst (λ k. CanTransferAll s k xs) (sym (known-same s x h.0)) (can-transfer-all s xs h.1))
 
-known-all-same : (s : FrameShape) (xs : List Transfer) → AllMayTransfer s xs → known_behind xs usable ≡ usable
+known-all-same : (s : FrameShape) (xs : List Transfer) → AllMayTransfer s xs → known_behind xs is_usable ≡ is_usable
 known-all-same s [] h = refl
 known-all-same s (x ∷ xs) h = ap (known_behind xs) (known-same s x h.0) ∙ known-all-same s xs h.1
 
 -- ---- arguments of the call are not written
 
-one-in : (x : Transfer) (c : Content) (store : Places) (k : ℕ) → put place_eq (target_of x) c store (In k) ≡ store (In k)
+one-in : (x : Transfer) (c : Content) (store : Places) (k : ℕ) → put place_eq (transfer_target x) c store (In k) ≡ store (In k)
 one-in (Store t r) c store k = refl
 one-in (Load t r) c store k = refl
 one-in (Shift t from to) c store k = refl
 
 pub all-in : (xs : List Transfer) (store : Places) (k : ℕ) → do_all xs store (In k) ≡ store (In k)
 all-in [] store k = refl
-all-in (x ∷ xs) store k = all-in xs (put place_eq (target_of x) (store (source_of x)) store) k ∙ one-in x (store (source_of x)) store k
+all-in (x ∷ xs) store k = all-in xs (put place_eq (transfer_target x) (store (source_of x)) store) k ∙ one-in x (store (source_of x)) store k
 
 -- places of which none is an argument of the call
 abbrev NoneIn : List Place → Type 0
@@ -105,10 +105,10 @@ homes-in i.Mark [] = tt
 
 behind-in : (registers : List ℕ) (x : TempInsn) (held : Places) (cs : List Content) (k : ℕ) → store_behind registers x held cs (In k) ≡ held (In k)
 behind-in registers x held cs k =
-    put-in (places_written_at registers x) cs (without (is_ended x) held) k
+    put-in (places_written_at registers x) cs (without (ends_place x) held) k
     (fixed-in (drop (length (reads_of x)) registers) (map home_of (map Fixed (fixed_writes_of x) ++ places_written x)) (homes-in x (fixed_writes_of x)))
 
-module _ (p : Program) (there : Labels) (start : Start) (g : ItemSetting) (rest : List AsmItem) (end : ℕ) (c : CallAt) (gs : List Waiting) (o : Outer) (store : Places) (s : State) (call : FitsTheStack c) (shape : g.shape ≡ c.shape) (stack : StackIs p there start c gs store s) (outer : HasOuter o s) (routines : RoutinesStand p there) (scratch : HasScratch p c s) (widest : ℕ) (few : widest ≤ c.shape.outgoing + 6) (transfers : List Transfer) (registers : List ℕ) (x : TempInsn) (may : AllMayTransfer c.shape transfers) (st : IsStated c.shape registers x) (is : IsThere p g c x) (h : StandsFor p there (items_of_transfers c.shape transfers (insn_items g registers x ++ rest)) end c o.memory usable store s) where
+module _ (p : Program) (there : Labels) (start : Start) (g : ItemSetting) (rest : List AsmItem) (end : ℕ) (c : CallAt) (gs : List Waiting) (o : Outer) (store : Places) (s : State) (call : FitsTheStack c) (shape : g.shape ≡ c.shape) (stack : StackIs p there start c gs store s) (outer : HasOuter o s) (routines : RoutinesStand p there) (scratch : HasScratch p c s) (widest : ℕ) (few : widest ≤ c.shape.outgoing + 6) (transfers : List Transfer) (registers : List ℕ) (x : TempInsn) (may : AllMayTransfer c.shape transfers) (st : IsStated c.shape registers x) (is : IsThere p g c x) (h : StandsFor p there (items_of_transfers c.shape transfers (insn_items g registers x ++ rest)) end c o.memory is_usable store s) where
   abbrev held : Places
   held = do_all transfers store
 
@@ -116,14 +116,14 @@ module _ (p : Program) (there : Labels) (start : Start) (g : ItemSetting) (rest 
   record Moved : Type 0 where
     to : State
     comes : Comes p s to
-    stands : StandsFor p there (insn_items g registers x ++ rest) end c o.memory usable held to
+    stands : StandsFor p there (insn_items g registers x ++ rest) end c o.memory is_usable held to
     stack_is : StackIs p there start c gs held to
     outer_is : HasOuter o to
     kept : IsKept p c s to
 
   moved : Moved
   moved =
-      let d = transfers_are_done p there (insn_items g registers x ++ rest) end c o.memory call transfers usable store s usable-values (can-transfer-all c.shape transfers may) h in
+      let d = transfers_are_done p there (insn_items g registers x ++ rest) end c o.memory call transfers is_usable store s usable-values (can-transfer-all c.shape transfers may) h in
       record {
         to = d.to;
         comes = d.comes;
@@ -182,7 +182,7 @@ module _ (p : Program) (there : Labels) (start : Start) (g : ItemSetting) (rest 
   scratch-moved m = record { room = scratch.room; free = scratch.free; reached = λ y from to. m.kept.reach y ∙ scratch.reached y from to }
 
 -- by the instruction: a division, or another one
-point-done : (p : Program) (there : Labels) (start : Start) (g : ItemSetting) (rest : List AsmItem) (end : ℕ) (c : CallAt) (gs : List Waiting) (o : Outer) (store : Places) (s : State) → FitsTheStack c → g.shape ≡ c.shape → StackIs p there start c gs store s → HasOuter o s → RoutinesStand p there → HasScratch p c s → (widest : ℕ) → widest ≤ c.shape.outgoing + 6 → (transfers : List Transfer) (registers : List ℕ) (x : TempInsn) → AllMayTransfer c.shape transfers → is_local x ≡ true → IsStated c.shape registers x → IsThere p g c x → StandsFor p there (items_of_transfers c.shape transfers (insn_items g registers x ++ rest)) end c o.memory usable store s → PointIsDone p there start g rest end c gs (store_behind registers x (do_all transfers store)) x s (does widest x c.own (map (do_all transfers store) (places_read_at registers x)) o)
+point-done : (p : Program) (there : Labels) (start : Start) (g : ItemSetting) (rest : List AsmItem) (end : ℕ) (c : CallAt) (gs : List Waiting) (o : Outer) (store : Places) (s : State) → FitsTheStack c → g.shape ≡ c.shape → StackIs p there start c gs store s → HasOuter o s → RoutinesStand p there → HasScratch p c s → (widest : ℕ) → widest ≤ c.shape.outgoing + 6 → (transfers : List Transfer) (registers : List ℕ) (x : TempInsn) → AllMayTransfer c.shape transfers → stays_in_call x ≡ true → IsStated c.shape registers x → IsThere p g c x → StandsFor p there (items_of_transfers c.shape transfers (insn_items g registers x ++ rest)) end c o.memory is_usable store s → PointIsDone p there start g rest end c gs (store_behind registers x (do_all transfers store)) x s (does widest x c.own (map (do_all transfers store) (places_read_at registers x)) o)
 point-done p there start g rest end c gs o store s call shape stack outer routines scratch widest few xs rs (i.Divide r) may local st is h =
     let none = no-registers rs st.count in
     let m = moved p there start g rest end c gs o store s call shape stack outer routines scratch widest few xs rs (i.Divide r) may st is h in
@@ -209,5 +209,5 @@ point-done p there start g rest end c gs o store s call shape stack outer routin
 point-done p there start g rest end c gs o store s call shape stack outer routines scratch widest few xs rs (i.Call function arguments) may local st is h = absurd (cc)
 point-done p there start g rest end c gs o store s call shape stack outer routines scratch widest few xs rs (i.Return with_value) may local st is h = absurd (cc)
 
-pub points_are_done : (p : Program) (there : Labels) (start : Start) (g : ItemSetting) (rest : List AsmItem) (end : ℕ) (c : CallAt) (gs : List Waiting) (o : Outer) (store : Places) (s : State) → FitsTheStack c → g.shape ≡ c.shape → StackIs p there start c gs store s → HasOuter o s → RoutinesStand p there → HasScratch p c s → (widest : ℕ) → widest ≤ c.shape.outgoing + 6 → (transfers : List Transfer) (registers : List ℕ) (x : TempInsn) → AllMayTransfer c.shape transfers → is_local x ≡ true → IsStated c.shape registers x → IsThere p g c x → StandsFor p there (items_of_transfers c.shape transfers (insn_items g registers x ++ rest)) end c o.memory usable store s → PointIsDone p there start g rest end c gs (store_behind registers x (do_all transfers store)) x s (does widest x c.own (map (do_all transfers store) (places_read_at registers x)) o)
+pub points_are_done : (p : Program) (there : Labels) (start : Start) (g : ItemSetting) (rest : List AsmItem) (end : ℕ) (c : CallAt) (gs : List Waiting) (o : Outer) (store : Places) (s : State) → FitsTheStack c → g.shape ≡ c.shape → StackIs p there start c gs store s → HasOuter o s → RoutinesStand p there → HasScratch p c s → (widest : ℕ) → widest ≤ c.shape.outgoing + 6 → (transfers : List Transfer) (registers : List ℕ) (x : TempInsn) → AllMayTransfer c.shape transfers → stays_in_call x ≡ true → IsStated c.shape registers x → IsThere p g c x → StandsFor p there (items_of_transfers c.shape transfers (insn_items g registers x ++ rest)) end c o.memory is_usable store s → PointIsDone p there start g rest end c gs (store_behind registers x (do_all transfers store)) x s (does widest x c.own (map (do_all transfers store) (places_read_at registers x)) o)
 points_are_done = point-done

@@ -20,7 +20,7 @@ use Rattle.flat_frames.specs.Shapes.{FrameShape}
 use Rattle.frame_transfers.specs.Items.{items_of_transfers}
 use Rattle.frame_transfers.specs.Laws.{CallAt, FitsTheStack, StandsFor}
 use Rattle.division_calls.specs.Items.{ItemSetting, insn_items}
-use Rattle.division_calls.specs.Laws.{usable, MayHold, IsStated, IsThere, HasOuter, RunIsOver}
+use Rattle.division_calls.specs.Laws.{is_usable, MayHold, IsStated, IsThere, HasOuter, RunIsOver}
 use Rattle.division_calls.specs.Stacks.{Waiting, Start, StackIs}
 use Rattle.division_calls.specs.Divisions.{RoutinesStand, HasScratch}
 
@@ -35,17 +35,17 @@ AllMayTransfer s [] = Unit {0}
 AllMayTransfer s (x ∷ xs) = MayTransfer s x × AllMayTransfer s xs
 
 -- the instructions that this is said of
-abbrev pub is_local : TempInsn → Bool
-is_local (i.Call function arguments) = false
-is_local (i.Return with_value) = false
-is_local _ = true
+abbrev pub stays_in_call : TempInsn → Bool
+stays_in_call (i.Call function arguments) = false
+stays_in_call (i.Return with_value) = false
+stays_in_call _ = true
 
 -- the machine stands behind the point, or at the label of a block, with the stack of the run
 pub record PointIsPassed (p : Program) (there : Labels) (start : Start) (items : List AsmItem) (end : ℕ) (c : CallAt)
     (gs : List Waiting) (o : Outer) (held : Places) (s : State) : Type 0 where
   pub to : State
   pub comes : Comes p s to
-  pub stands : StandsFor p there items end c o.memory usable held to
+  pub stands : StandsFor p there items end c o.memory is_usable held to
   pub stack : StackIs p there start c gs held to
   pub outer : HasOuter o to
 
@@ -56,7 +56,7 @@ pub record PointIsLeft (p : Program) (there : Labels) (start : Start) (l : ℕ) 
   pub comes : Comes p s to
   pub some : 1 ≤ comes.steps
   pub stands : (items : List AsmItem) (last : ℕ) → ItemsAt p there (there l) items last →
-      StandsFor p there items last c o.memory usable held to
+      StandsFor p there items last c o.memory is_usable held to
   pub stack : StackIs p there start c gs held to
   pub outer : HasOuter o to
 
@@ -83,8 +83,8 @@ PointsAreDone =
     StackIs p there start c gs store s → HasOuter o s → RoutinesStand p there → HasScratch p c s →
     (widest : ℕ) → widest ≤ c.shape.outgoing + 6 →
     (transfers : List Transfer) (registers : List ℕ) (x : TempInsn) → AllMayTransfer c.shape transfers →
-    is_local x ≡ true → IsStated c.shape registers x → IsThere p g c x →
-    StandsFor p there (items_of_transfers c.shape transfers (insn_items g registers x ++ rest)) end c o.memory usable
+    stays_in_call x ≡ true → IsStated c.shape registers x → IsThere p g c x →
+    StandsFor p there (items_of_transfers c.shape transfers (insn_items g registers x ++ rest)) end c o.memory is_usable
     store s →
     PointIsDone p there start g rest end c gs (λ cs. (placed_site widest transfers registers x).put cs store) x s
     ((placed_site widest transfers registers x).does c.own ((placed_site widest transfers registers x).fetch store) o)

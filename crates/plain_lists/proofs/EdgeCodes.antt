@@ -10,7 +10,7 @@ use Rattle.temp_ir.specs.Insns.{targets_of, flows_on_of}
 use Rattle.alloc_model.specs.declared.allocation.EdgeCode.{EdgeCode}
 use Rattle.alloc_model.specs.declared.allocation.Transfer.{Transfer}
 use Rattle.alloc_model.specs.Places.{code_in}
-use Rattle.alloc_model.specs.Faithful.{rising, edges_from}
+use Rattle.alloc_model.specs.Faithful.{sorted_targets, sorted_edges_from}
 use Rattle.plain_lists.specs.Plain.{stores_behind, edge_code, edges_behind, all_edges}
 use Rattle.plain_lists.proofs.Sets.{test_or_not}
 
@@ -53,7 +53,7 @@ rising_pair : (a b t : ℕ) (test : Bool) → Contains (a ∷ b ∷ []) t → Co
 rising_pair a b t true is = turned a b t is
 rising_pair a b t false is = is
 
-rising_has : (blocks : List ℕ) (t : ℕ) → Contains blocks t → Contains (rising blocks) t
+rising_has : (blocks : List ℕ) (t : ℕ) → Contains blocks t → Contains (sorted_targets blocks) t
 rising_has [] t is = is
 rising_has (a ∷ []) t is = is
 rising_has (a ∷ b ∷ []) t is = rising_pair a b t (nat_lt b a) is
@@ -66,11 +66,11 @@ edge_found start (b ∷ bs) zero from insns to e is has =
     let same = same_Some b insns is in
     let here : from ≡ start = omega (arith, e) in
     subst (λ s. code_in (find (leads from to) (edges_behind s b ++ all_edges (suc s) bs)) ≡ stores_behind (last_of insns)) here
-    (own_found from (stores_behind (last_of b)) (rising (successors_of targets_of flows_on_of from b)) (all_edges (suc from) bs) to
+    (own_found from (stores_behind (last_of b)) (sorted_targets (successors_of targets_of flows_on_of from b)) (all_edges (suc from) bs) to
     (rising_has (successors_of targets_of flows_on_of from b) to (subst (λ xs. Contains (successors_of targets_of flows_on_of from xs) to) (sym same) has))
     ∙ ap (λ xs. stores_behind (last_of xs)) same)
 edge_found start (b ∷ bs) (suc k) from insns to e is has =
-    ap code_in (others_pass start (stores_behind (last_of b)) (rising (successors_of targets_of flows_on_of start b)) (all_edges (suc start) bs) from to (λ clash. omega (arith, clash, e)))
+    ap code_in (others_pass start (stores_behind (last_of b)) (sorted_targets (successors_of targets_of flows_on_of start b)) (all_edges (suc start) bs) from to (λ clash. omega (arith, clash, e)))
     ∙ edge_found (suc start) bs k from insns to (omega (arith, e)) is has
 
 -- ---- the edges are those of the function
@@ -79,9 +79,9 @@ ends_of : (b : ℕ) (code : List Transfer) (ts : List ℕ) → map {B = ℕ × �
 ends_of b code [] = refl
 ends_of b code (t ∷ ts) = ap (λ ps. (b, t) ∷ ps) (ends_of b code ts)
 
-pub edges_all : (start : ℕ) (blocks : List (List TempInsn)) → map {B = ℕ × ℕ} (λ e. (e.from, e.to)) (all_edges start blocks) ≡ edges_from start blocks
+pub edges_all : (start : ℕ) (blocks : List (List TempInsn)) → map {B = ℕ × ℕ} (λ e. (e.from, e.to)) (all_edges start blocks) ≡ sorted_edges_from start blocks
 edges_all start [] = refl
 edges_all start (b ∷ bs) =
     map-append {B = ℕ × ℕ} (λ e. (e.from, e.to)) (edges_behind start b) (all_edges (suc start) bs)
-    ∙ ap (λ ps. ps ++ map {B = ℕ × ℕ} (λ e. (e.from, e.to)) (all_edges (suc start) bs)) (ends_of start (stores_behind (last_of b)) (rising (successors_of targets_of flows_on_of start b)))
-    ∙ ap (λ ps. map {B = ℕ × ℕ} (λ to. (start, to)) (rising (successors_of targets_of flows_on_of start b)) ++ ps) (edges_all (suc start) bs)
+    ∙ ap (λ ps. ps ++ map {B = ℕ × ℕ} (λ e. (e.from, e.to)) (all_edges (suc start) bs)) (ends_of start (stores_behind (last_of b)) (sorted_targets (successors_of targets_of flows_on_of start b)))
+    ∙ ap (λ ps. map {B = ℕ × ℕ} (λ to. (start, to)) (sorted_targets (successors_of targets_of flows_on_of start b)) ++ ps) (edges_all (suc start) bs)

@@ -17,11 +17,11 @@ use Rattle.alloc_model.specs.declared.allocation.Allocation.{Allocation}
 use Rattle.alloc_model.specs.Effect.{Holder, Temp, Fixed, Incoming, Outgoing}
 use Rattle.alloc_model.specs.Temporaries.{TemporaryCode, code_of, goes_on}
 use Rattle.alloc_model.specs.Places.{Place, Slot, Plan, plan_of, transfers_at, registers_at, edge_transfers}
-use Rattle.alloc_model.specs.Lifetimes.{Blocks, is_live}
+use Rattle.alloc_model.specs.Lifetimes.{Blocks, lives_at}
 use Rattle.alloc_model.specs.Needs.{named_place, place_at_top, IsNeeded}
 use Rattle.alloc_model.specs.Needs.IsNeeded.{Relied, Handed}
-use Rattle.alloc_model.specs.Faithful.{Held, Includes, move_all, MovesAsk, ReadsAsk, FixedAsk, behind_insn, at_top, at_entry, at_start, at_bottom, before, KeepsEdge, IsGivenRegister, IsGivenOrScratch, IsStanding, HasLists, Faithful}
-use Rattle.plain_lists.specs.Plain.{loads, registers_of, writes_in, first_in, stores_behind, transfers_from, plain_plan}
+use Rattle.alloc_model.specs.Faithful.{Held, Includes, move_all, MovesAsk, ReadsAsk, FixedAsk, behind_insn, at_top, at_entry, at_start, at_bottom, held_before, KeepsEdge, IsGivenRegister, IsGivenOrScratch, IsStanding, HasLists, Faithful}
+use Rattle.plain_lists.specs.Plain.{loads, plain_registers, writes_in, first_in, stores_behind, transfers_from, plain_plan}
 use Rattle.plain_lists.proofs.Sets.{same_or_not, slot_no_register, stores_ask, stores_done, stores_keep_slots}
 use Rattle.plain_lists.proofs.Registers.{and_first, and_second, has_contains, arguments_high}
 use Rattle.plain_lists.proofs.Lists.{there, read_in_block, length_of_blocks, block_there, previous, settled_at, previous_next, settled_next, settled_reads, previous_last, transfers_length, transfers_get, registers_get, range_length}
@@ -122,9 +122,9 @@ module _ (f : TemporaryCode) (params temps : ℕ) where
       read_in_block (transfers_from None) (transfers_length None) f.blocks block at insns [] is (slice_get_within insns at x at_is)
       ∙ transfers_get None insns at x at_is
 
-  registers_are : (block at : ℕ) (insns : List TempInsn) (x : TempInsn) → slice_get f.blocks block ≡ Some insns → slice_get insns at ≡ Some x → registers_at plan block at ≡ registers_of x
+  registers_are : (block at : ℕ) (insns : List TempInsn) (x : TempInsn) → slice_get f.blocks block ≡ Some insns → slice_get insns at ≡ Some x → registers_at plan block at ≡ plain_registers x
   registers_are block at insns x is at_is =
-      read_in_block (map registers_of) (λ insns. length-map insns registers_of) f.blocks block at insns [] is (slice_get_within insns at x at_is)
+      read_in_block (map plain_registers) (λ insns. length-map insns plain_registers) f.blocks block at insns [] is (slice_get_within insns at x at_is)
       ∙ registers_get insns at x at_is
 
   insn_is : (block at : ℕ) (insns : List TempInsn) (x : TempInsn) → slice_get f.blocks block ≡ Some insns → slice_get insns at ≡ Some x → insn_at f.blocks block at ≡ Some x
@@ -144,7 +144,7 @@ module _ (f : TemporaryCode) (params temps : ℕ) where
     high = λ r is. absurd (cc);
   }
 
-  walk : (block : ℕ) (insns : List TempInsn) → slice_get f.blocks block ≡ Some insns → (at : ℕ) → at ≤ length insns → Stands f.blocks block at (previous None insns at) (settled_at (settled_start params block) insns at) (before plan block at)
+  walk : (block : ℕ) (insns : List TempInsn) → slice_get f.blocks block ≡ Some insns → (at : ℕ) → at ≤ length insns → Stands f.blocks block at (previous None insns at) (settled_at (settled_start params block) insns at) (held_before plan block at)
   walk block insns is zero within = start block
   walk block insns is (suc at) within =
       let (x, at_is) = there insns at (omega (arith, within)) in
@@ -153,13 +153,13 @@ module _ (f : TemporaryCode) (params temps : ℕ) where
       let here = insn_is block at insns x is at_is in
       let so_far = walk block insns is at (omega (arith, within)) in
       same_stands f.blocks block (suc at) (Some x) (previous None insns (suc at)) (written_behind ws x) (settled_at (settled_start params block) insns (suc at))
-      (stores_behind p ++ loads (reads_of x) 1) (transfers_at plan block at) (registers_of x) (registers_at plan block at)
-      (Some x) (insn_at f.blocks block at) (before plan block at)
+      (stores_behind p ++ loads (reads_of x) 1) (transfers_at plan block at) (plain_registers x) (registers_at plan block at)
+      (Some x) (insn_at f.blocks block at) (held_before plan block at)
       (sym (previous_next None insns at x at_is)) (sym (settled_next (settled_start params block) insns at x at_is))
       (sym (transfers_are block at insns x is at_is)) (sym (registers_are block at insns x is at_is)) (sym here)
-      (behind f.blocks block at p ws (before plan block at) x here so_far)
+      (behind f.blocks block at p ws (held_before plan block at) x here so_far)
 
-  edge : (block : ℕ) (insns : List TempInsn) → slice_get f.blocks block ≡ Some insns → (j : ℕ) → Contains (successors_of targets_of flows_on_of block insns) (suc j) → KeepsEdge plan block (suc j) (before plan block (length insns))
+  edge : (block : ℕ) (insns : List TempInsn) → slice_get f.blocks block ≡ Some insns → (j : ℕ) → Contains (successors_of targets_of flows_on_of block insns) (suc j) → KeepsEdge plan block (suc j) (held_before plan block (length insns))
   edge block insns is j has = record {
     moves = subst (λ xs. MovesAsk xs h) (sym code) (stores_ask (writes_in last) (first_in last) h s.fresh);
     leads = subst (λ xs. Includes (move_all xs h) (at_start plan (suc j))) (sym code) (record { each = each });
@@ -169,7 +169,7 @@ module _ (f : TemporaryCode) (params temps : ℕ) where
       last = last_of insns
 
       h : Held
-      h = before plan block (length insns)
+      h = held_before plan block (length insns)
 
       code : edge_transfers plan block (suc j) ≡ stores_behind last
       code = edge_found 0 f.blocks block block insns (suc j) (omega arith) is has
@@ -178,7 +178,7 @@ module _ (f : TemporaryCode) (params temps : ℕ) where
       s = subst (λ p. Stands f.blocks block (length insns) p (settled_at (settled_start params block) insns (length insns)) h) (previous_last insns)
           (walk block insns is (length insns) (omega arith))
 
-      slot : (t : ℕ) → is_live f.blocks t (suc j) 0 → move_all (stores_behind last) h (Temp t) (Slot t)
+      slot : (t : ℕ) → lives_at f.blocks t (suc j) 0 → move_all (stores_behind last) h (Temp t) (Slot t)
       slot t live =
           ⊎_elim (λ new. stores_done (writes_in last) (first_in last) h t new) (λ k. stores_keep_slots (writes_in last) (first_in last) h t k)
           (s.slots t (Follows insns (suc j) is refl has live))
@@ -197,7 +197,7 @@ module _ (f : TemporaryCode) (params temps : ℕ) where
       tops = length-map f.blocks (λ block. []);
       bottoms = length-map f.blocks (λ block. []);
       ats = length_of_blocks (transfers_from None) (transfers_length None) f.blocks;
-      regs = length_of_blocks (map registers_of) (λ insns. length-map insns registers_of) f.blocks;
+      regs = length_of_blocks (map plain_registers) (λ insns. length-map insns plain_registers) f.blocks;
       stated = λ block at x is. let (insns, block_is, at_is) = block_there (slice_get f.blocks block) at x is in
           ap length (registers_are block at insns x block_is at_is) ∙ range_length 1 (length (reads_of x) + length (writes_of x));
       edges = edges_all 0 f.blocks;
@@ -220,33 +220,33 @@ module _ (f : TemporaryCode) (params temps : ℕ) where
         each (Incoming r) q k = absurd k
         each (Outgoing r) q k = absurd k
 
-    moves : (block at : ℕ) (x : TempInsn) → insn_at f.blocks block at ≡ Some x → MovesAsk (transfers_at plan block at) (before plan block at)
+    moves : (block at : ℕ) (x : TempInsn) → insn_at f.blocks block at ≡ Some x → MovesAsk (transfers_at plan block at) (held_before plan block at)
     moves block at x is =
         let (insns, block_is, at_is) = block_there (slice_get f.blocks block) at x is in
         let within = slice_get_within insns at x at_is in
-        subst (λ xs. MovesAsk xs (before plan block at)) (sym (transfers_are block at insns x block_is at_is))
-        (asks f.blocks block at (previous None insns at) (settled_at (settled_start params block) insns at) (before plan block at) x is
+        subst (λ xs. MovesAsk xs (held_before plan block at)) (sym (transfers_are block at insns x block_is at_is))
+        (asks f.blocks block at (previous None insns at) (settled_at (settled_start params block) insns at) (held_before plan block at) x is
         (walk block insns block_is at (omega (arith, within))))
 
-    temps_read : (block at : ℕ) (x : TempInsn) → insn_at f.blocks block at ≡ Some x → ReadsAsk (reads_of x) (registers_at plan block at) (move_all (transfers_at plan block at) (before plan block at))
+    temps_read : (block at : ℕ) (x : TempInsn) → insn_at f.blocks block at ≡ Some x → ReadsAsk (reads_of x) (registers_at plan block at) (move_all (transfers_at plan block at) (held_before plan block at))
     temps_read block at x is =
         let (insns, block_is, at_is) = block_there (slice_get f.blocks block) at x is in
         let within = slice_get_within insns at x at_is in
-        subst (λ xs. ReadsAsk (reads_of x) (registers_at plan block at) (move_all xs (before plan block at))) (sym (transfers_are block at insns x block_is at_is))
-        (subst (λ rs. ReadsAsk (reads_of x) rs (move_all (stores_behind (previous None insns at) ++ loads (reads_of x) 1) (before plan block at))) (sym (registers_are block at insns x block_is at_is))
-        (reads f.blocks block at (previous None insns at) (settled_at (settled_start params block) insns at) (before plan block at) x is
+        subst (λ xs. ReadsAsk (reads_of x) (registers_at plan block at) (move_all xs (held_before plan block at))) (sym (transfers_are block at insns x block_is at_is))
+        (subst (λ rs. ReadsAsk (reads_of x) rs (move_all (stores_behind (previous None insns at) ++ loads (reads_of x) 1) (held_before plan block at))) (sym (registers_are block at insns x block_is at_is))
+        (reads f.blocks block at (previous None insns at) (settled_at (settled_start params block) insns at) (held_before plan block at) x is
         (walk block insns block_is at (omega (arith, within)))))
 
-    fixed_read : (block at : ℕ) (x : TempInsn) → insn_at f.blocks block at ≡ Some x → FixedAsk (fixed_reads_of x) (move_all (transfers_at plan block at) (before plan block at))
+    fixed_read : (block at : ℕ) (x : TempInsn) → insn_at f.blocks block at ≡ Some x → FixedAsk (fixed_reads_of x) (move_all (transfers_at plan block at) (held_before plan block at))
     fixed_read block at x is =
         let (insns, block_is, at_is) = block_there (slice_get f.blocks block) at x is in
         let within = slice_get_within insns at x at_is in
-        subst (λ xs. FixedAsk (fixed_reads_of x) (move_all xs (before plan block at))) (sym (transfers_are block at insns x block_is at_is))
-        (fixed_reads f.blocks block at (previous None insns at) (settled_at (settled_start params block) insns at) (before plan block at) x is
+        subst (λ xs. FixedAsk (fixed_reads_of x) (move_all xs (held_before plan block at))) (sym (transfers_are block at insns x block_is at_is))
+        (fixed_reads f.blocks block at (previous None insns at) (settled_at (settled_start params block) insns at) (held_before plan block at) x is
         (walk block insns block_is at (omega (arith, within)))
         (settled_reads (settled_start params block) insns at x (settled_block params f.blocks block insns ok.settled block_is) at_is))
 
-    bottoms : (block : ℕ) (insns : List TempInsn) → slice_get f.blocks block ≡ Some insns → Includes (before plan block (length insns)) (at_bottom plan block insns)
+    bottoms : (block : ℕ) (insns : List TempInsn) → slice_get f.blocks block ≡ Some insns → Includes (held_before plan block (length insns)) (at_bottom plan block insns)
     bottoms block insns is = record { each = each }
       where
         nothing : (s : TempPlace) → Contains (slice_index_or (map {B = List TempPlace} (λ block. []) f.blocks) block []) s → ⊥
@@ -254,17 +254,17 @@ module _ (f : TemporaryCode) (params temps : ℕ) where
             let (k, within, at) = subst (λ named. Contains named s) (none_named f.blocks block) has in
             omega (arith, within)
 
-        each : (n : Holder) (q : Place) → at_bottom plan block insns n q → before plan block (length insns) n q
+        each : (n : Holder) (q : Place) → at_bottom plan block insns n q → held_before plan block (length insns) n q
         each (Temp t) q (live, (s, has, same, place)) = absurd (nothing s has)
         each (Fixed r) q k = absurd k
         each (Incoming r) q k = absurd k
         each (Outgoing r) q k = absurd k
 
-    jump_edge : (block : ℕ) (insns : List TempInsn) → slice_get f.blocks block ≡ Some insns → (to : ℕ) → 0 < to → Contains (successors_of targets_of flows_on_of block insns) to → KeepsEdge plan block to (before plan block (length insns))
+    jump_edge : (block : ℕ) (insns : List TempInsn) → slice_get f.blocks block ≡ Some insns → (to : ℕ) → 0 < to → Contains (successors_of targets_of flows_on_of block insns) to → KeepsEdge plan block to (held_before plan block (length insns))
     jump_edge block insns is zero low has = absurd (omega (arith, low))
     jump_edge block insns is (suc j) low has = edge block insns is j has
 
-    jumps : (block at : ℕ) (x : TempInsn) → insn_at f.blocks block at ≡ Some x → (k to : ℕ) → slice_get (targets_of x) k ≡ Some to → KeepsEdge plan block to (before plan block (suc at))
+    jumps : (block at : ℕ) (x : TempInsn) → insn_at f.blocks block at ≡ Some x → (k to : ℕ) → slice_get (targets_of x) k ≡ Some to → KeepsEdge plan block to (held_before plan block (suc at))
     jumps block at x is k to goes =
         let (insns, block_is, at_is) = block_there (slice_get f.blocks block) at x is in
         let inside = slice_get_within (targets_of x) k to goes in
@@ -275,7 +275,7 @@ module _ (f : TemporaryCode) (params temps : ℕ) where
         let low = (all_get (λ target. (0 < target) × (target < length f.blocks)) (targets_of x) k to own goes).0 in
         let place : length insns - 1 ≡ at = omega (arith, ends) in
         let last : last_of insns ≡ Some x = ap (slice_get insns) place ∙ at_is in
-        subst (λ n. KeepsEdge plan block to (before plan block n)) (sym ends)
+        subst (λ n. KeepsEdge plan block to (held_before plan block n)) (sym ends)
         (jump_edge block insns block_is to low
         (subst (λ o. Contains (successors_after targets_of flows_on_of block o) to) (sym last)
         (Contains-append_left (targets_of x) (if flows_on_of x then suc block ∷ [] else []) to (contains_get (targets_of x) k to goes))))

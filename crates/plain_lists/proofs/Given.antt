@@ -8,8 +8,8 @@ use Rattle.temp_ir.specs.declared.insn.TempInsn.{TempInsn}
 use Rattle.temp_ir.specs.Insns.{reads_of, writes_of, targets_of, flows_on_of}
 use Rattle.alloc_model.specs.declared.allocation.EdgeCode.{EdgeCode}
 use Rattle.alloc_model.specs.declared.allocation.Transfer.TheVariants.{Store, Load}
-use Rattle.alloc_model.specs.Faithful.{given_registers, IsGivenRegister, IsGivenOrScratch, IsTransfer, rising}
-use Rattle.plain_lists.specs.Plain.{loads, stores, registers_of, stores_behind, transfers_from, edge_code, edges_behind, all_edges}
+use Rattle.alloc_model.specs.Faithful.{given_registers, IsGivenRegister, IsGivenOrScratch, IsTransfer, sorted_targets}
+use Rattle.plain_lists.specs.Plain.{loads, stores, plain_registers, stores_behind, transfers_from, edge_code, edges_behind, all_edges}
 use Rattle.plain_lists.proofs.Registers.{few}
 
 given : (r : ℕ) → 1 ≤ r → r ≤ 3 → IsGivenRegister r
@@ -87,20 +87,20 @@ module _ (temps : ℕ) where
     all_edges_given start [] all = All-nil IsCode
     all_edges_given start (b ∷ bs) all =
         All-append IsCode (edges_behind start b) (all_edges (suc start) bs)
-        (All-map IsCode (edge_code start (stores_behind (last_of b))) (rising (successors_of targets_of flows_on_of start b))
+        (All-map IsCode (edge_code start (stores_behind (last_of b))) (sorted_targets (successors_of targets_of flows_on_of start b))
         (λ k d within. behind_given (last_of b) (uses_at b (length b - 1) (All-head (All Uses) b bs all))))
         (all_edges_given (suc start) bs (All-tail (All Uses) b bs all))
 
-registers_given : (insns : List TempInsn) → All (All IsGivenRegister) (map registers_of insns)
+registers_given : (insns : List TempInsn) → All (All IsGivenRegister) (map plain_registers insns)
 registers_given [] = All-nil (All IsGivenRegister)
 registers_given (x ∷ insns) =
     let most = few x in
     let reads = most.0 in
     let writes = most.1 in
-    All-cons (All IsGivenRegister) (registers_of x) (map registers_of insns)
+    All-cons (All IsGivenRegister) (plain_registers x) (map plain_registers insns)
     (range_given 1 (length (reads_of x) + length (writes_of x)) (omega arith) (omega (arith, reads, writes))) (registers_given insns)
 
-pub all_registers_given : (blocks : List (List TempInsn)) → All (All IsGivenRegister) (flat_map (map registers_of) blocks)
+pub all_registers_given : (blocks : List (List TempInsn)) → All (All IsGivenRegister) (flat_map (map plain_registers) blocks)
 all_registers_given [] = All-nil (All IsGivenRegister)
 all_registers_given (b ∷ bs) =
-    All-append (All IsGivenRegister) (map registers_of b) (flat_map (map registers_of) bs) (registers_given b) (all_registers_given bs)
+    All-append (All IsGivenRegister) (map plain_registers b) (flat_map (map plain_registers) bs) (registers_given b) (all_registers_given bs)

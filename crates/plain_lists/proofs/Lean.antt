@@ -9,9 +9,9 @@ use Rattle.temp_ir.specs.Programs.{TempFn}
 use Rattle.alloc_model.specs.declared.allocation.Allocation.{Allocation}
 use Rattle.alloc_model.specs.declared.allocation.EdgeCode.{EdgeCode}
 use Rattle.alloc_model.specs.declared.allocation.Transfer.{Transfer}
-use Rattle.temp_ir.specs.Cost.{is_call}
+use Rattle.temp_ir.specs.Cost.{makes_call}
 use Rattle.alloc_model.specs.Temporaries.{code_of}
-use Rattle.alloc_model.specs.Faithful.{rising}
+use Rattle.alloc_model.specs.Faithful.{sorted_targets}
 use Rattle.alloc_model.specs.Places.{plan_of}
 use Rattle.alloc_rules.specs.Lean.{IsLean}
 use Rattle.plain_lists.specs.Plain.{loads, stores, stores_behind, transfers_from, edge_code, edges_behind, all_edges, plain_plan}
@@ -68,12 +68,12 @@ edges_few : (start : ℕ) (blocks : List (List TempInsn)) → All IsShort (all_e
 edges_few start [] = All-nil IsShort
 edges_few start (b ∷ bs) =
     All-append IsShort (edges_behind start b) (all_edges (suc start) bs)
-    (All-map IsShort (edge_code start (stores_behind (last_of b))) (rising (successors_of targets_of flows_on_of start b))
+    (All-map IsShort (edge_code start (stores_behind (last_of b))) (sorted_targets (successors_of targets_of flows_on_of start b))
     (λ k d within. let one = behind_few (last_of b) in omega (arith, one)))
     (edges_few (suc start) bs)
 
 pub lean_by_plan : (f : TempFn) (a : Allocation) → plan_of a ≡ plain_plan (code_of f) f.params f.temps → IsLean (plan_of a)
 lean_by_plan f a same = subst IsLean (sym same) (record {
-  before = λ block at x there. room _ (is_call x) (few_at (flat_map (transfers_from None) f.blocks) _ (all_few f.blocks));
+  before = λ block at x there. room _ (makes_call x) (few_at (flat_map (transfers_from None) f.blocks) _ (all_few f.blocks));
   on_edges = edges_few 0 f.blocks;
 })

@@ -8,7 +8,7 @@ use Rattle.suifvm_ir.specs.Functions.{count_of, insn_in, last_of}
 use Rattle.temp_ir.specs.declared.insn.TempInsn.{TempInsn}
 use Rattle.temp_ir.specs.Insns.{reads_of}
 use Rattle.temp_ir.specs.Fixed.{fixed_reads_of, has_number, written_behind, is_settled_block}
-use Rattle.plain_lists.specs.Plain.{loads, registers_of, stores_behind, transfers_from}
+use Rattle.plain_lists.specs.Plain.{loads, plain_registers, stores_behind, transfers_from}
 use Rattle.plain_lists.proofs.Registers.{and_first, and_second}
 
 module _ {A : Type 0} where
@@ -112,9 +112,9 @@ transfers_get p [] at x is = absurd (none-some x is)
 transfers_get p (y ∷ insns) zero x is = ap (λ z. stores_behind p ++ loads (reads_of z) 1) (same_Some y x is)
 transfers_get p (y ∷ insns) (suc at) x is = transfers_get (Some y) insns at x is
 
-pub registers_get : (insns : List TempInsn) (at : ℕ) (x : TempInsn) → slice_get insns at ≡ Some x → slice_index_or (map registers_of insns) at [] ≡ registers_of x
+pub registers_get : (insns : List TempInsn) (at : ℕ) (x : TempInsn) → slice_get insns at ≡ Some x → slice_index_or (map plain_registers insns) at [] ≡ plain_registers x
 registers_get [] at x is = absurd (none-some x is)
-registers_get (y ∷ insns) zero x is = ap registers_of (same_Some y x is)
+registers_get (y ∷ insns) zero x is = ap plain_registers (same_Some y x is)
 registers_get (y ∷ insns) (suc at) x is = registers_get insns at x is
 
 pub range_length : (a n : ℕ) → length (range_with_len a n) ≡ n

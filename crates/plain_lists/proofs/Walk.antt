@@ -9,10 +9,10 @@ use Rattle.temp_ir.specs.Insns.{reads_of, writes_of}
 use Rattle.temp_ir.specs.Fixed.{fixed_reads_of, fixed_writes_of, has_number, written_behind}
 use Rattle.alloc_model.specs.declared.allocation.Transfer.{Transfer}
 use Rattle.alloc_model.specs.Effect.{Temp, Fixed, places_written, others_written, holders_written}
-use Rattle.alloc_model.specs.Places.{Reg, Slot, home_of, is_ended}
-use Rattle.alloc_model.specs.Lifetimes.{Blocks, is_live}
+use Rattle.alloc_model.specs.Places.{Reg, Slot, home_of, ends_place}
+use Rattle.alloc_model.specs.Lifetimes.{Blocks, lives_at}
 use Rattle.alloc_model.specs.Faithful.{Held, write_all, end_all, move_all, MovesAsk, ReadsAsk, FixedAsk, behind_insn}
-use Rattle.plain_lists.specs.Plain.{loads, registers_of, writes_in, first_in, stores_behind}
+use Rattle.plain_lists.specs.Plain.{loads, plain_registers, writes_in, first_in, stores_behind}
 use Rattle.plain_lists.proofs.Sets.{same_or_not, moves_in_turn, asks_in_turn, reads_kept, stores_keep_registers, stores_keep_slots, stores_ask, stores_done, loads_keep_slots, loads_keep_others, loads_ask, loads_read, written, written_fresh, written_slot, written_keeps, written_fixed, fixed_ask}
 use Rattle.plain_lists.proofs.Registers.{IsHigh, behind_either, written_high, all_has, lawful, few}
 use Rattle.plain_lists.proofs.Lists.{range_behind}
@@ -31,13 +31,13 @@ contains_or_not (x ∷ xs) t = ⊎_elim (λ e. inl (0, omega arith, e)) (λ ne. 
 
 -- before a place of a block, behind an instruction, where some fixed registers are written
 pub record Stands (blocks : Blocks) (block at : ℕ) (before : Option TempInsn) (ws : List ℕ) (h : Held) : Type 0 where
-  pub slots : (t : ℕ) → is_live blocks t block at → Contains (writes_in before) t ⊎ h (Temp t) (Slot t)
+  pub slots : (t : ℕ) → lives_at blocks t block at → Contains (writes_in before) t ⊎ h (Temp t) (Slot t)
   pub fresh : ReadsAsk (writes_in before) (range_with_len (first_in before) (length (writes_in before))) h
   pub fixed : (r : ℕ) → has_number ws r ≡ true → h (Fixed r) (Reg r)
   pub high : (r : ℕ) → has_number ws r ≡ true → IsHigh r
 
 -- behind the stores each live temporary stands in its slot
-pub stored : (blocks : Blocks) (block at : ℕ) (p : Option TempInsn) (ws : List ℕ) (h : Held) → Stands blocks block at p ws h → (t : ℕ) → is_live blocks t block at → move_all (stores_behind p) h (Temp t) (Slot t)
+pub stored : (blocks : Blocks) (block at : ℕ) (p : Option TempInsn) (ws : List ℕ) (h : Held) → Stands blocks block at p ws h → (t : ℕ) → lives_at blocks t block at → move_all (stores_behind p) h (Temp t) (Slot t)
 stored blocks block at p ws h s t live =
     ⊎_elim (λ has. stores_done (writes_in p) (first_in p) h t has) (λ k. stores_keep_slots (writes_in p) (first_in p) h t k) (s.slots t live)
 
@@ -51,7 +51,7 @@ module _ (blocks : Blocks) (block at : ℕ) (p : Option TempInsn) (ws : List ℕ
       asks_in_turn (stores_behind p) (loads (reads_of x) 1) h (stores_ask (writes_in p) (first_in p) h s.fresh)
       (loads_ask (reads_of x) 1 (move_all (stores_behind p) h) (λ u has. stored blocks block at p ws h s u (IsRead x there has)))
 
-  moved_slot : (t : ℕ) → is_live blocks t block at → move_all transfers h (Temp t) (Slot t)
+  moved_slot : (t : ℕ) → lives_at blocks t block at → move_all transfers h (Temp t) (Slot t)
   moved_slot t live =
       moves_in_turn (stores_behind p) (loads (reads_of x) 1) h (Temp t) (Slot t)
       (loads_keep_slots (reads_of x) 1 (move_all (stores_behind p) h) (Temp t) t (stored blocks block at p ws h s t live))
@@ -63,9 +63,9 @@ module _ (blocks : Blocks) (block at : ℕ) (p : Option TempInsn) (ws : List ℕ
       (⊎_elim (λ low. inl low) (λ big. let most = few x in let reads = most.0 in inr (omega (arith, big, reads))) (s.high r is))
       (stores_keep_registers (writes_in p) (first_in p) h (Fixed r) r (s.fixed r is)))
 
-  pub reads : ReadsAsk (reads_of x) (registers_of x) (move_all (stores_behind p ++ loads (reads_of x) 1) h)
+  pub reads : ReadsAsk (reads_of x) (plain_registers x) (move_all (stores_behind p ++ loads (reads_of x) 1) h)
   reads =
-      reads_kept (reads_of x) (registers_of x) (move_all (loads (reads_of x) 1) (move_all (stores_behind p) h)) (move_all transfers h)
+      reads_kept (reads_of x) (plain_registers x) (move_all (loads (reads_of x) 1) (move_all (stores_behind p) h)) (move_all transfers h)
       (λ n q k. moves_in_turn (stores_behind p) (loads (reads_of x) 1) h n (Reg q) k)
       (loads_read (reads_of x) 1 (length (reads_of x) + length (writes_of x)) (move_all (stores_behind p) h) (omega arith))
 
@@ -74,12 +74,12 @@ module _ (blocks : Blocks) (block at : ℕ) (p : Option TempInsn) (ws : List ℕ
       fixed_ask (fixed_reads_of x) (move_all transfers h) (λ r has. moved_fixed r (all_has ws (fixed_reads_of x) r all has))
 
   abbrev ended : Held
-  ended = end_all (is_ended x) (move_all transfers h)
+  ended = end_all (ends_place x) (move_all transfers h)
 
   abbrev behind_writes : Held
   behind_writes = written (writes_of x) (fixed_writes_of x) (places_written x) (1 + length (reads_of x)) ended
 
-  live_behind : (t : ℕ) → is_live blocks t block (suc at) → Contains (writes_of x) t ⊎ (Contains (writes_of x) t → ⊥) → Contains (writes_of x) t ⊎ behind_writes (Temp t) (Slot t)
+  live_behind : (t : ℕ) → lives_at blocks t block (suc at) → Contains (writes_of x) t ⊎ (Contains (writes_of x) t → ⊥) → Contains (writes_of x) t ⊎ behind_writes (Temp t) (Slot t)
   live_behind t live (inl has) = inl has
   live_behind t live (inr none) =
       written_slot (writes_of x) (fixed_writes_of x) (places_written x) (1 + length (reads_of x)) ended t (lawful x)
@@ -101,7 +101,7 @@ module _ (blocks : Blocks) (block at : ℕ) (p : Option TempInsn) (ws : List ℕ
     high = λ r is. ⊎_elim (λ new. written_high x r new) (λ (old, stays). s.high r old) (behind_either ws x r is);
   }
 
-  pub behind : Stands blocks block (suc at) (Some x) (written_behind ws x) (behind_insn (stores_behind p ++ loads (reads_of x) 1) (registers_of x) (Some x) h)
+  pub behind : Stands blocks block (suc at) (Some x) (written_behind ws x) (behind_insn (stores_behind p ++ loads (reads_of x) 1) (plain_registers x) (Some x) h)
   behind =
       subst (λ rs. Stands blocks block (suc at) (Some x) (written_behind ws x) (write_all (holders_written x) (map Reg rs ++ map home_of (others_written x)) ended))
       (sym (range_behind (length (reads_of x)) 1 (length (reads_of x) + length (writes_of x)) (length (writes_of x)) refl))

@@ -9,7 +9,7 @@ use Rattle.alloc_model.specs.declared.allocation.Transfer.{Transfer}
 use Rattle.alloc_model.specs.declared.allocation.Transfer.TheVariants.{Store, Load}
 use Rattle.alloc_model.specs.Temporaries.{TemporaryCode}
 use Rattle.alloc_model.specs.Places.{Plan}
-use Rattle.alloc_model.specs.Faithful.{rising}
+use Rattle.alloc_model.specs.Faithful.{sorted_targets}
 
 -- temporaries are moved one after the other, by registers from one on
 abbrev pub loads : (temps : List ℕ) → (register : ℕ) → List Transfer
@@ -21,8 +21,8 @@ stores [] r = []
 stores (t ∷ ts) r = Store t r ∷ stores ts (r + 1)
 
 -- the registers of an instruction's temporaries: those that it reads, then those that it writes
-abbrev pub registers_of : TempInsn → List ℕ
-registers_of x = range_with_len 1 (length (reads_of x) + length (writes_of x))
+abbrev pub plain_registers : TempInsn → List ℕ
+plain_registers x = range_with_len 1 (length (reads_of x) + length (writes_of x))
 
 -- what an instruction wrote, and the register of the first of these
 abbrev pub writes_in : Option TempInsn → List ℕ
@@ -47,7 +47,8 @@ edge_code from code to = record { from = from; to = to; code = code }
 
 abbrev pub edges_behind : (block : ℕ) → List TempInsn → List EdgeCode
 edges_behind block insns =
-    map (edge_code block (stores_behind (last_of insns))) (rising (successors_of targets_of flows_on_of block insns))
+    map (edge_code block (stores_behind (last_of insns)))
+    (sorted_targets (successors_of targets_of flows_on_of block insns))
 
 abbrev pub all_edges : (block : ℕ) → List (List TempInsn) → List EdgeCode
 all_edges block [] = []
@@ -61,6 +62,6 @@ plain_plan f params temps = record {
   top = map (λ block. []) f.blocks;
   bottom = map (λ block. []) f.blocks;
   at = flat_map (transfers_from None) f.blocks;
-  regs = flat_map (map registers_of) f.blocks;
+  regs = flat_map (map plain_registers) f.blocks;
   edges = all_edges 0 f.blocks;
 }

@@ -11,7 +11,7 @@ use Rattle.temp_ir.specs.declared.insn.TempInsn.{TempInsn}
 use Rattle.temp_ir.specs.declared.insn.TempInsn.TheVariants.{Operate, ToFixed, FromFixed, SetFixed, WriteArgument, ReadArgument, Branch, Call, Mark}
 use Rattle.alloc_model.specs.Temporaries.{TemporaryCode, temp_run, start_world}
 use Rattle.alloc_model.specs.Places.{Plan, placed_run}
-use Rattle.alloc_model.specs.Examples.{TemporaryObservation, ShowsDone, ShowsUndefined, observe, function, set, return, plan}
+use Rattle.alloc_model.specs.Examples.{TemporaryObservation, ShowsDone, ShowsUndefined, observe, example_function, set_temp, return_temp, plan}
 use Rattle.plain_lists.specs.Plain.{plain_plan}
 
 -- ---- runs of the first of some functions, in at most so many steps
@@ -26,16 +26,16 @@ runs_over_places plans turns steps = observe (placed_run [] plans 0 (start_world
 
 abbrev pub squares : List (List TempInsn)
 squares =
-    (set 0 0 ∷ set 1 3 ∷ [])
+    (set_temp 0 0 ∷ set_temp 1 3 ∷ [])
     ∷ (Mark ∷ ToFixed Argument0 1 ∷ ToFixed Argument1 0 ∷ Call 1 2 ∷ FromFixed 0 Value
     ∷ Operate Subq 1 (s.Temp 1) (o.Literal 1) ∷ Branch Bne 1 1 ∷ [])
-    ∷ return 0 ∷ []
+    ∷ return_temp 0 ∷ []
 
 -- the square of the first argument, and the second one
 abbrev pub square_and : List (List TempInsn)
 square_and =
     (FromFixed 0 Argument0 ∷ FromFixed 1 Argument1 ∷ Operate Mulq 2 (s.Temp 0) (o.Temp 0)
-    ∷ Operate Addq 3 (s.Temp 2) (o.Temp 1) ∷ return 3) ∷ []
+    ∷ Operate Addq 3 (s.Temp 2) (o.Temp 1) ∷ return_temp 3) ∷ []
 
 -- each temporary in a register of its own, those of the loop in these two
 abbrev pub squares_in : (sum count : ℕ) → List Plan
@@ -49,38 +49,41 @@ squares_in sum count =
 
 -- ---- thirty values at once: the sum of the numbers from 0 to 29
 
-abbrev pub numbers : List (List TempInsn)
-numbers =
-    (set 30 0 ∷ map (λ k. set k k) (range_with_len 0 30)
-    ++ map (λ k. Operate Addq 30 (s.Temp 30) (o.Temp k)) (range_with_len 0 30) ++ return 30) ∷ []
+abbrev pub thirty_numbers : List (List TempInsn)
+thirty_numbers =
+    (set_temp 30 0 ∷ map (λ k. set_temp k k) (range_with_len 0 30)
+    ++ map (λ k. Operate Addq 30 (s.Temp 30) (o.Temp k)) (range_with_len 0 30) ++ return_temp 30) ∷ []
 
 -- ---- eight arguments, of which the last two stand in places: ten times the last one, and the one before it
 
 abbrev pub gives_eight : List (List TempInsn)
 gives_eight =
     (SetFixed Argument0 (pos 0) ∷ SetFixed Argument1 (pos 0) ∷ SetFixed Argument2 (pos 0) ∷ SetFixed Argument3 (pos 0)
-    ∷ SetFixed Argument4 (pos 0) ∷ SetFixed Argument5 (pos 0) ∷ set 0 4 ∷ WriteArgument 0 0 ∷ set 1 7
+    ∷ SetFixed Argument4 (pos 0) ∷ SetFixed Argument5 (pos 0) ∷ set_temp 0 4 ∷ WriteArgument 0 0 ∷ set_temp 1 7
     ∷ WriteArgument 1 1
-    ∷ Call 1 8 ∷ FromFixed 2 Value ∷ return 2) ∷ []
+    ∷ Call 1 8 ∷ FromFixed 2 Value ∷ return_temp 2) ∷ []
 
 abbrev pub takes_eight : List (List TempInsn)
 takes_eight =
     (ReadArgument 0 0 ∷ ReadArgument 1 1 ∷ Operate Mulq 2 (s.Temp 1) (o.Literal 10)
-    ∷ Operate Addq 3 (s.Temp 2) (o.Temp 0) ∷ return 3) ∷ []
+    ∷ Operate Addq 3 (s.Temp 2) (o.Temp 0) ∷ return_temp 3) ∷ []
 
 -- ---- what is shown
 
 pub record PlainRuns : Type 0 where
-  pub squares_over_temps : runs_over_temps (function [] squares ∷ function [] square_and ∷ []) 6 60
+  pub squares_over_temps : runs_over_temps (example_function [] squares ∷ example_function [] square_and ∷ []) 6 60
       ≡ ShowsDone 14 []
   pub squares_in_slots : runs_over_places
-      (plain_plan (function [] squares) 0 2 ∷ plain_plan (function [] square_and) 2 4 ∷ []) 6 60 ≡ ShowsDone 14 []
+      (plain_plan (example_function [] squares) 0 2 ∷ plain_plan (example_function [] square_and) 2 4 ∷ []) 6 60
+      ≡ ShowsDone 14 []
   -- registers 9 and 10 are kept by a call, and register 1 is not
   pub squares_in_kept_registers : runs_over_places (squares_in 9 10) 6 60 ≡ ShowsDone 14 []
   pub squares_in_ended_register : runs_over_places (squares_in 9 1) 6 60 ≡ ShowsUndefined 7 []
-  pub numbers_over_temps : runs_over_temps (function [] numbers ∷ []) 0 70 ≡ ShowsDone 179 []
-  pub numbers_in_slots : runs_over_places (plain_plan (function [] numbers) 0 31 ∷ []) 0 70 ≡ ShowsDone 179 []
-  pub eight_over_temps : runs_over_temps (function [] gives_eight ∷ function [] takes_eight ∷ []) 1 30
+  pub numbers_over_temps : runs_over_temps (example_function [] thirty_numbers ∷ []) 0 70 ≡ ShowsDone 179 []
+  pub numbers_in_slots : runs_over_places (plain_plan (example_function [] thirty_numbers) 0 31 ∷ []) 0 70
+      ≡ ShowsDone 179 []
+  pub eight_over_temps : runs_over_temps (example_function [] gives_eight ∷ example_function [] takes_eight ∷ []) 1 30
       ≡ ShowsDone 74 []
   pub eight_in_slots : runs_over_places
-      (plain_plan (function [] gives_eight) 0 3 ∷ plain_plan (function [] takes_eight) 8 4 ∷ []) 1 30 ≡ ShowsDone 74 []
+      (plain_plan (example_function [] gives_eight) 0 3 ∷ plain_plan (example_function [] takes_eight) 8 4 ∷ []) 1 30
+      ≡ ShowsDone 74 []

@@ -2,7 +2,7 @@
 
 ghost use Rattle.std.specs.Prelude.{◌≡◌, ◌++◌, [], map, flat_map, None, IfOk, OnOk};
 ghost use Rattle.suifvm_ir.specs.Functions.{last_of};
-ghost use Rattle.plain_lists.specs.Plain.{registers_of, transfers_from};
+ghost use Rattle.plain_lists.specs.Plain.{plain_registers, transfers_from};
 
 use crate::insns::{registers, transfers};
 use alloc_model::allocation::{TempPlace, Transfer};
@@ -37,7 +37,7 @@ fn put_registers(
     out: &mut Seq<Seq<u8>>,
     block: &Block<TempInsn>,
 ) -> Result<(), AllocError>
-    ensures { OnOk result (out.new ≡ out.old ++ map registers_of block.now) }
+    ensures { OnOk result (out.new ≡ out.old ++ map plain_registers block.now) }
 {
     for line in block.insns.iter() {
         let (_id, insn) = line;
@@ -65,7 +65,7 @@ pub(crate) fn all_registers(
     alloc: Global,
     blocks: &[Block<TempInsn>],
 ) -> Result<Seq<Seq<u8>>, AllocError>
-    ensures { IfOk result (λ all. all ≡ flat_map (map registers_of) blocks.now) }
+    ensures { IfOk result (λ all. all ≡ flat_map (map plain_registers) blocks.now) }
 {
     let mut all = Seq::new(alloc);
     for block in blocks {

@@ -4,7 +4,7 @@ ghost use Rattle.std.specs.Prelude.{◌≡◌, ◌++◌, ◌<◌, ◌^◌, [], �
 ghost use Rattle.suifvm_ir.specs.Functions.{last_of};
 ghost use Rattle.temp_ir.specs.Insns.{targets_of, flows_on_of};
 ghost use Rattle.cfg.specs.Edges.{successors_from};
-ghost use Rattle.alloc_model.specs.Faithful.{rising};
+ghost use Rattle.alloc_model.specs.Faithful.{sorted_targets};
 ghost use Rattle.plain_lists.specs.Plain.{stores_behind, edge_code};
 ghost use Rattle.plain_lists.specs.Plain as lists;
 
@@ -29,7 +29,7 @@ fn pair(alloc: Global, first: u32, second: u32) -> Result<Seq<u32>, AllocError>
 /// The blocks that may follow one, by rising number.
 #[tactic(auto, using(crate::proofs::Loops::rising_same, crate::proofs::Loops::rising_few, crate::proofs::Loops::rising_turned))]
 fn rising_blocks(alloc: Global, followers: &[u32]) -> Result<Seq<u32>, AllocError>
-    ensures { IfOk result (λ blocks. blocks ≡ rising followers.now) }
+    ensures { IfOk result (λ blocks. blocks ≡ sorted_targets followers.now) }
 {
     if followers.len() != 2 {
         return Ok(Seq::from_vec(Vec::from_slice(alloc, followers)?));
@@ -73,7 +73,7 @@ fn put_block_edges(
     followers: &[u32],
 ) -> Result<(), AllocError>
     ensures { OnOk result
-        (out.new ≡ out.old ++ map (edge_code from (stores_behind (last_of block.now))) (rising followers.now)) }
+        (out.new ≡ out.old ++ map (edge_code from (stores_behind (last_of block.now))) (sorted_targets followers.now)) }
 {
     let targets = rising_blocks(alloc, followers)?;
     put_edges(alloc, out, from, last_insn(block), targets.as_slice())

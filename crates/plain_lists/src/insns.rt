@@ -2,7 +2,7 @@
 
 ghost use Rattle.std.specs.Prelude.{◌≡◌, ◌+◌, ◌++◌, ◌≤◌, length, IfOk, OnOk};
 ghost use Rattle.temp_ir.specs.Insns.{reads_of, writes_of};
-ghost use Rattle.plain_lists.specs.Plain.{loads, stores, registers_of, stores_behind, writes_in};
+ghost use Rattle.plain_lists.specs.Plain.{loads, stores, plain_registers, stores_behind, writes_in};
 
 use alloc_model::allocation::Transfer;
 use c_tree::Seq;
@@ -38,7 +38,7 @@ fn write_count(insn: &TempInsn) -> u8
 /// The registers of an instruction's temporaries.
 #[tactic(auto, using(crate::proofs::Counts::registers_next, crate::proofs::Counts::few_registers))]
 pub(crate) fn registers(alloc: Global, insn: &TempInsn) -> Result<Seq<u8>, AllocError>
-    ensures { IfOk result (λ registers. registers ≡ registers_of insn.now) }
+    ensures { IfOk result (λ registers. registers ≡ plain_registers insn.now) }
 {
     let count = read_count(insn) + write_count(insn);
     let mut registers = Seq::new(alloc);

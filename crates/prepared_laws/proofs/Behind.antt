@@ -14,9 +14,9 @@ use Rattle.temp_ir.specs.Programs.{TempFn}
 use Rattle.temp_ir.specs.Cost.{bulk_when_split}
 use Rattle.cfg.specs.Contents.{KeepsBlocks}
 use Rattle.cfg_edges.specs.Critical.{NoneCritical}
-use Rattle.value_tests.specs.Tests.{tested}
+use Rattle.value_tests.specs.Tests.{tested_block}
 use Rattle.value_tests.proofs.Functions.{tested_function, size_kept}
-use Rattle.selection_code.specs.Functions.{function_blocks}
+use Rattle.selection_code.specs.Functions.{selected_blocks}
 use Rattle.lowering.specs.Lowered.{IsLowered, AreLowered, IsWithinWeight, AreWithinWeight}
 use Rattle.alpha_select.specs.Selection.{IsSelectedFunction, AreSelected, CostLittle}
 use Rattle.near_arguments.specs.FrameBoundsNear.{IsNear}
@@ -28,10 +28,10 @@ use Rattle.prepared_laws.specs.Fit.{IsPreparedOf, PreparedFunctionsFit}
 module _ (have_widths : PassedFunctionsHaveWidths) (selected_near : SelectedFunctionsAreNear) (stay_near : NearBlocksStayNear) (ds : List StructDef) where
   one : (f : TypedFn) (v : VmFunction) (s g : TempFn) → IsLowered ds f v → IsWithinWeight ds f v → function_size v ≤ 2 ^ 24 → IsSelectedFunction v s → bulk_when_split s ≤ cost v → IsPrepared s g → IsPreparedOf ds f g
   one f v s g lowered within small selected little p =
-      let first : KeepsBlocks targets_of with_block flows_on_of (function_blocks v.params (map tested v.blocks)) p.between =
+      let first : KeepsBlocks targets_of with_block flows_on_of (selected_blocks v.params (map tested_block v.blocks)) p.between =
       subst (λ bs. KeepsBlocks targets_of with_block flows_on_of bs p.between) selected.blocks p.first in
       let size : function_size (tested_function v) ≤ 2 ^ 24 = omega (arith, size_kept v, small) in
-      let near : AllInsns IsNear (function_blocks v.params (map tested v.blocks)) = selected_near (tested_function v) size in
+      let near : AllInsns IsNear (selected_blocks v.params (map tested_block v.blocks)) = selected_near (tested_function v) size in
       let cost_within = within.cost in
       let bulk_within = p.bulk in
       record {
@@ -43,7 +43,7 @@ module _ (have_widths : PassedFunctionsHaveWidths) (selected_near : SelectedFunc
         temps = p.temps ∙ selected.temps;
         objects = p.objects ∙ selected.objects;
         widths = (have_widths v (function_weight ds f) p.between g.blocks within.arguments first p.second).2;
-        near = stay_near p.between g.blocks p.second (stay_near (function_blocks v.params (map tested v.blocks)) p.between first near);
+        near = stay_near p.between g.blocks p.second (stay_near (selected_blocks v.params (map tested_block v.blocks)) p.between first near);
         split = p.split;
         bulk = omega (arith, bulk_within, little, cost_within);
       }

@@ -2,7 +2,7 @@
 use Rattle.std.proofs.Common.{List, [], ◌∷◌, map, sym, subst}
 use Rattle.suifvm_ir.specs.Programs.{VmFunction}
 use Rattle.temp_ir.specs.Programs.{TempFn}
-use Rattle.value_tests.specs.Tests.{tested}
+use Rattle.value_tests.specs.Tests.{tested_block}
 use Rattle.temp_walk_laws.specs.SameRuns.{SameTempFunction, SameTempFunctions}
 use Rattle.selected_widths.specs.Widths.{AreWithinBlocks, SelectedBlocksAreWithin, BlocksStayWithin, BlocksAreWithinFunctions}
 use Rattle.selection_passes.specs.Laws.{SelectionsStayKept}
@@ -13,7 +13,7 @@ use Rattle.prepared_laws.specs.Kept.{PreparedSelectionsKeep}
 module _ (selected_within : SelectedBlocksAreWithin) (stay_within : BlocksStayWithin) (functions_within : BlocksAreWithinFunctions) where
   same_function : (v : VmFunction) (f g : TempFn) → IsSelectedFunction v f → IsPrepared f g → SameTempFunction f g
   same_function v f g s p =
-      let before : AreWithinBlocks f.blocks = subst AreWithinBlocks (sym s.blocks) (selected_within v.params (map tested v.blocks)) in
+      let before : AreWithinBlocks f.blocks = subst AreWithinBlocks (sym s.blocks) (selected_within v.params (map tested_block v.blocks)) in
       let after : AreWithinBlocks g.blocks = stay_within p.between g.blocks p.second (stay_within f.blocks p.between p.first before) in
       record {
         name = sym p.name;

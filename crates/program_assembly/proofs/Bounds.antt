@@ -6,7 +6,7 @@ use Rattle.data_object.specs.declared.DataCell.{DataCell}
 use Rattle.data_object.specs.declared.DataCell.TheVariants.{Byte, AddressPart}
 use Rattle.data_object.specs.Layout.{ObjectsLieFrom, end_of, data_end}
 use Rattle.data_object.specs.Globals.{Reaches, AreLawful}
-use Rattle.flat_globals.specs.Globals.{offset_of, AreLaidOut}
+use Rattle.flat_globals.specs.Globals.{global_offset, AreLaidOut}
 use Rattle.flat_globals.proofs.Lists.{stands-at, get-index}
 use Rattle.flat_globals.proofs.LaidOut.{lawful_ones_are_laid_out}
 use Rattle.program_assembly.specs.model.Bounds.{LieWithin, ReachesWithin, FitsFixes}
@@ -46,10 +46,10 @@ module _ (globals : List DataObject) (h : ∥ AreLawful globals ∥₁) (last : 
   pub lie : LieWithin 0 globals
   lie = lies_within 0 globals laid.layout (omega arith) last
 
-  pub reach : (global plus : ℕ) → Reaches plus (slice_get globals global) → offset_of (slice_get globals global) + plus ≤ most
+  pub reach : (global plus : ℕ) → Reaches plus (slice_get globals global) → global_offset (slice_get globals global) + plus ≤ most
   reach global plus r = of_one (slice_get globals global) refl r
     where
-      of_one : (o : Option DataObject) → slice_get globals global ≡ o → Reaches plus o → offset_of o + plus ≤ most
+      of_one : (o : Option DataObject) → slice_get globals global ≡ o → Reaches plus o → global_offset o + plus ≤ most
       of_one None e r = absurd r
       of_one (Some o) e r = let end = object-end 0 globals global o lie e in omega (arith, r, end)
 

@@ -9,7 +9,7 @@ use Rattle.data_object.specs.declared.DataObject.{DataObject}
 use Rattle.data_object.specs.declared.DataCell.{DataCell}
 use Rattle.data_object.specs.declared.DataCell.TheVariants.{AddressPart}
 use Rattle.data_object.specs.Layout.{place_after}
-use Rattle.flat_globals.specs.Globals.{offset_of}
+use Rattle.flat_globals.specs.Globals.{global_offset}
 use Rattle.global_data.specs.GlobalBytes.{unfixed_byte, object_bytes, bytes_from_end, cell_fixes, cells_fixes, objects_fixes}
 use Rattle.program_images.specs.Programs.{start_items}
 use Rattle.program_assembly.specs.Assemblies.{final_items}
@@ -78,7 +78,7 @@ pub part_fixes : (globals : List DataObject) (at g plus part : ℕ) → (part �
 part_fixes globals at g plus zero ne = absurd (ne refl)
 part_fixes globals at g plus (suc part) ne = refl
 
-pub first_fixes : (globals : List DataObject) (at g plus part : ℕ) → part ≡ 0 → cell_fixes globals at (AddressPart g plus part) ≡ record { at = at; offset = offset_of (slice_get globals g) + plus } ∷ []
+pub first_fixes : (globals : List DataObject) (at g plus part : ℕ) → part ≡ 0 → cell_fixes globals at (AddressPart g plus part) ≡ record { at = at; offset = global_offset (slice_get globals g) + plus } ∷ []
 first_fixes globals at g plus zero e = refl
 first_fixes globals at g plus (suc part) e = absurd (omega (arith, e))
 

@@ -21,8 +21,8 @@ is_main f = bytes_eq f.name (codes "main")
 abbrev pub main_of : List FinalFn → ℕ
 main_of finals = unwrap_or (position is_main finals) 0
 
-abbrev pub gathered : List FinalFn → List DataObject → Assembly
-gathered finals globals = record {
+abbrev pub whole_assembly : List FinalFn → List DataObject → Assembly
+whole_assembly finals globals = record {
   items = start_items (main_of finals) (final_items finals ++ all_items);
   bytes = global_bytes globals;
   fixes = global_fixes globals;

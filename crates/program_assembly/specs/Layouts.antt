@@ -52,7 +52,8 @@ pub record FunctionIsLaidOut (globals : List DataObject) (number first : ℕ) (a
 abbrev pub FollowFrom : List DataObject → (number first : ℕ) → List Allocation → List FinalFn → Type 0
 FollowFrom globals number first [] [] = Unit {0}
 FollowFrom globals number first (a ∷ allocations) (f ∷ finals) =
-    FunctionIsLaidOut globals number first a f × FollowFrom globals (suc number) (first + label_count a) allocations finals
+    FunctionIsLaidOut globals number first a f × FollowFrom globals (suc number) (first + label_count a) allocations
+    finals
 FollowFrom globals number first _ _ = ⊥
 
 abbrev pub FunctionsAreLaidOut : List DataObject → List Allocation → List FinalFn → Type 0

@@ -8,7 +8,7 @@ ghost use Rattle.data_object.specs.Globals.{AreLawful};
 ghost use Rattle.data_object.specs.Layout.{data_end};
 ghost use Rattle.program_images.specs.Programs.{start_items};
 ghost use Rattle.program_assembly.specs.Assemblies as spec;
-ghost use Rattle.program_assembly.specs.Assemblies.{gathered, final_items, main_of};
+ghost use Rattle.program_assembly.specs.Assemblies.{whole_assembly, final_items, main_of};
 
 use crate::globals::{bytes_of, fixes_of};
 use alpha_isa::insn::{BranchOp, Fields, Insn32, MemoryOp, Operand, OperateOp};
@@ -147,8 +147,8 @@ pub fn gather(alloc: Global, finals: &[FinalFn], globals: &[DataObject]) -> Resu
     requires functions { length finals.now < 2 ^ 31 }
     requires lawful { ∥ AreLawful globals.now ∥₁ }
     requires data_size { data_end globals.now ≤ MOST_DATA }
-    requires whole { IsWhole (gathered finals.now globals.now) }
-    ensures { IfOk result (λ asm. asm ≡ gathered finals.now globals.now) }
+    requires whole { IsWhole (whole_assembly finals.now globals.now) }
+    ensures { IfOk result (λ asm. asm ≡ whole_assembly finals.now globals.now) }
 {
     let items = items_of(alloc, finals)?;
     with_data(alloc, items, globals)

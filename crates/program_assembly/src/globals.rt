@@ -73,7 +73,7 @@ pub(crate) fn bytes_of(alloc: Global, globals: &[DataObject]) -> Result<Vec<u8>,
 
 /// Where an object begins.
 fn offset_of(globals: &[DataObject], global: usize) -> u64
-    ensures { result ≡ place.offset_of (slice_get globals.now global) }
+    ensures { result ≡ place.global_offset (slice_get globals.now global) }
 {
     match globals.get(global) {
         None => 0,

@@ -14,7 +14,7 @@ use Rattle.alloc_model.specs.declared.allocation.Allocation.{Allocation}
 use Rattle.alloc_model.specs.Places.{plan_of}
 use Rattle.alloc_model.specs.Faithful.{HasLists}
 use Rattle.alloc_rules.specs.Lean.{IsLean}
-use Rattle.frame_words.specs.Words.{words_of}
+use Rattle.frame_words.specs.Words.{most_words_of}
 use Rattle.allocation_laws.specs.Near.{IsNear}
 use Rattle.allocation_laws.specs.Assemblies.{final_items}
 use Rattle.allocation_laws.specs.Layouts.{FollowFrom, label_count}
@@ -28,7 +28,7 @@ module _ (short : LaidOutFunctionsAreShort) (ds : List StructDef) (globals : Lis
   pub finals_short : (number first : ℕ) (fs : List TypedFn) (allocations : List Allocation) (finals : List FinalFn) → length allocations ≡ length fs →
       All (λ (a : Allocation). HasLists (plan_of a)) allocations → All (λ (a : Allocation). IsLean (plan_of a)) allocations → All (λ (a : Allocation). AllInsns IsNear a.func.blocks) allocations →
       ((k : ℕ) (f : TypedFn) (a : Allocation) → slice_get fs k ≡ Some f → slice_get allocations k ≡ Some a → bulk a.func ≤ 2048 * (function_weight ds f + 1)) →
-      FollowFrom globals number first allocations finals → words_of (final_items finals) ≤ 2048 * weights ds fs
+      FollowFrom globals number first allocations finals → most_words_of (final_items finals) ≤ 2048 * weights ds fs
   finals_short number first fs [] [] count lists lean near bulks h = omega arith
   finals_short number first fs [] (x ∷ finals) count lists lean near bulks h = absurd h
   finals_short number first fs (a ∷ allocations) [] count lists lean near bulks h = absurd h
@@ -44,7 +44,7 @@ module _ (short : LaidOutFunctionsAreShort) (ds : List StructDef) (globals : Lis
       (All-tail (λ (b : Allocation). AllInsns IsNear b.func.blocks) a allocations near) (λ k g b e i. bulks (suc k) g b e i) h.1 in
       let joined = words_join x.items.items (final_items finals) in
       let sum = sum_by-cons (λ g. 1 + function_weight ds g) f fs in
-      counted (words_of x.items.items) (bulk a.func) (words_of (final_items finals)) (words_of (final_items (x ∷ finals))) (function_weight ds f) (weights ds fs) (weights ds (f ∷ fs)) one most rest joined sum
+      counted (most_words_of x.items.items) (bulk a.func) (most_words_of (final_items finals)) (most_words_of (final_items (x ∷ finals))) (function_weight ds f) (weights ds fs) (weights ds (f ∷ fs)) one most rest joined sum
     where
       counted : (one most rest all w ws sum : ℕ) → one ≤ most → most ≤ 2048 * (w + 1) → rest ≤ 2048 * ws → all ≡ one + rest → sum ≡ (1 + w) + ws → all ≤ 2048 * sum
       counted one most rest all w ws sum a b c d e = omega (arith, a, b, c, d, e)

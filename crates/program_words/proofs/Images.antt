@@ -3,7 +3,7 @@ use Rattle.std.proofs.Common.{◌≡◌, ℕ, ◌+◌, ◌*◌, ◌≤◌, ◌++
 use Rattle.alpha_items.specs.Layout.{text_words}
 use Rattle.alpha_asm.specs.declared.assemble.AsmFault.TheVariants.{CodeTooLong, NoMemory}
 use Rattle.alpha_rt.specs.Items.{all_items}
-use Rattle.frame_words.specs.Words.{words_of, TextsHaveMostWords}
+use Rattle.frame_words.specs.Words.{most_words_of, TextsHaveMostWords}
 use Rattle.allocation_laws.specs.Programs.{start_items}
 use Rattle.allocation_laws.specs.Assemblies.{final_items, main_of}
 use Rattle.allocation_laws.specs.Layouts.{first_label}
@@ -21,7 +21,7 @@ texts_are_within_weight texts short unit globals allocations finals light laid f
     let start = start_words (main_of finals) (final_items finals ++ all_items) in
     let joined = words_join (final_items finals) all_items in
     let functions = finals_short short unit.structs globals 0 (first_label (length allocations)) unit.functions allocations finals light.count light.lists light.lean light.near light.bulks laid in
-    counted (text_words items far) (words_of items) (words_of (final_items finals)) (words_of (final_items finals ++ all_items)) (words_of all_items) (weights unit.structs unit.functions) most start joined routine_words functions
+    counted (text_words items far) (most_words_of items) (most_words_of (final_items finals)) (most_words_of (final_items finals ++ all_items)) (most_words_of all_items) (weights unit.structs unit.functions) most start joined routine_words functions
 
 pub light_texts_fit_images : TextsAreWithinWeight → LightTextsFitImages
 light_texts_fit_images within unit globals allocations finals light laid few = record {

@@ -18,11 +18,11 @@ use Rattle.alloc_model.specs.declared.allocation.Allocation.{Allocation}
 use Rattle.alloc_model.specs.Places.{plan_of}
 use Rattle.alloc_model.specs.Faithful.{HasLists}
 use Rattle.alloc_rules.specs.Lean.{IsLean}
-use Rattle.frame_words.specs.Words.{words_of}
+use Rattle.frame_words.specs.Words.{most_words_of}
 use Rattle.allocation_laws.specs.Near.{IsNear}
 use Rattle.allocation_laws.specs.Programs.{start_items}
 use Rattle.allocation_laws.specs.Layouts.{FunctionIsLaidOut, FunctionsAreLaidOut}
-use Rattle.allocation_laws.specs.Assemblies.{gathered}
+use Rattle.allocation_laws.specs.Assemblies.{whole_assembly}
 
 -- ---- parts of a text
 
@@ -31,11 +31,11 @@ abbrev pub LaidOutFunctionsAreShort : Type 0
 LaidOutFunctionsAreShort =
     (globals : List DataObject) (number first : ℕ) (a : Allocation) (f : FinalFn) → HasLists (plan_of a) →
     IsLean (plan_of a) → AllInsns IsNear a.func.blocks → FunctionIsLaidOut globals number first a f →
-    words_of f.items.items ≤ bulk a.func
+    most_words_of f.items.items ≤ bulk a.func
 
 -- the start piece, with the division routines behind it, is no longer than one unit of weight allows
 abbrev pub StartsAreShort : Type 0
-StartsAreShort = (main : ℕ) → words_of (start_items main all_items) ≤ 2048
+StartsAreShort = (main : ℕ) → most_words_of (start_items main all_items) ≤ 2048
 
 -- ---- a text
 
@@ -53,7 +53,7 @@ pub record AreLight (unit : TypedUnit) (allocations : List Allocation) : Type 0 
 abbrev pub OfAssemblies : ((unit : TypedUnit) → (asm : Assembly) → Type 0) → Type 0
 OfAssemblies P =
     (unit : TypedUnit) (globals : List DataObject) (allocations : List Allocation) (finals : List FinalFn) →
-    AreLight unit allocations → FunctionsAreLaidOut globals allocations finals → P unit (gathered finals globals)
+    AreLight unit allocations → FunctionsAreLaidOut globals allocations finals → P unit (whole_assembly finals globals)
 
 -- its text has at most 2,048 words for each unit of weight, whichever branches are far
 abbrev pub TextIsWithinWeight : (unit : TypedUnit) → (asm : Assembly) → Type 0

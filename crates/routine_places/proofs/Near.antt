@@ -7,9 +7,9 @@ use Rattle.std.proofs.lemmas.List.Elements.{filter_map-append}
 use Rattle.alpha_isa.specs.Lawful.{IsBranchDisplacement}
 use Rattle.alpha_items.specs.declared.item.AsmItem.{AsmItem}
 use Rattle.alpha_items.specs.declared.item.AsmItem.TheVariants.{Label, Name, Plain, Branch, TextAddress, DataAddress}
-use Rattle.alpha_items.specs.Items.{label_named, names}
+use Rattle.alpha_items.specs.Items.{label_named, names_label}
 use Rattle.alpha_items.specs.Assembly.{labels, label_index}
-use Rattle.alpha_items.specs.Layout.{text_words, place, label_place, displacement, is_far, ItemReaches, AllReach, Within, IsLeastFar}
+use Rattle.alpha_items.specs.Layout.{text_words, item_place, label_place, displacement, is_far, ItemReaches, AllReach, Within, IsLeastFar}
 use Rattle.alpha_items.proofs.Reach.{reaches_within, reaches_from}
 use Rattle.alpha_items.proofs.Far.{gap_grows, place_mono}
 use Rattle.alpha_items.proofs.Unique.{far_unique}
@@ -70,8 +70,8 @@ goes_within _ = true
 all-go-within : list_all goes_within all_items ≡ true
 all-go-within = refl
 
-routines-short : place all_items all_near (length all_items) < 1000
-routines-short = ltb-true (place all_items all_near (length all_items)) 1000 refl
+routines-short : item_place all_items all_near (length all_items) < 1000
+routines-short = ltb-true (item_place all_items all_near (length all_items)) 1000 refl
 
 -- ---- labels that stand once
 
@@ -95,7 +95,7 @@ any-at (x ∷ xs) l e = by_test (any-at xs l) (x == l) refl e
         rest true b f e = absurd (cc)
         rest false b f e = e
 
-named-at : (front : List AsmItem) (l k : ℕ) (d : AsmItem) → k < length front → names l (slice_index_or front k d) ≡ true → IsAt (labels front) l
+named-at : (front : List AsmItem) (l k : ℕ) (d : AsmItem) → k < length front → names_label l (slice_index_or front k d) ≡ true → IsAt (labels front) l
 named-at [] l k d lt e = absurd (omega (arith, lt))
 named-at (Label m ∷ front) l zero d lt e = record { at = 0; below = omega arith; is = eqb-true m l e }
 named-at (Label m ∷ front) l (suc k) d lt e =
@@ -123,10 +123,10 @@ module _ (front back : List AsmItem) (once : AllPairs (λ l m. l ≢ m) (labels 
   abbrev m : ℕ
   m = length all_items
 
-  none-before : (l : ℕ) → 1 ≤ l → l ≤ 20 → (k : ℕ) (d : AsmItem) → k < n → names l (slice_index_or front k d) ≡ false
-  none-before l from to k d lt = by_test (names l (slice_index_or front k d)) refl
+  none-before : (l : ℕ) → 1 ≤ l → l ≤ 20 → (k : ℕ) (d : AsmItem) → k < n → names_label l (slice_index_or front k d) ≡ false
+  none-before l from to k d lt = by_test (names_label l (slice_index_or front k d)) refl
     where
-      by_test : (t : Bool) → names l (slice_index_or front k d) ≡ t → t ≡ false
+      by_test : (t : Bool) → names_label l (slice_index_or front k d) ≡ t → t ≡ false
       by_test false e = refl
       by_test true e =
           let a = named-at front l k d lt e in
@@ -145,7 +145,7 @@ module _ (front back : List AsmItem) (once : AllPairs (λ l m. l ≢ m) (labels 
           absurd (apart (first ∙ sym second))
 
   pub label-at : (l : ℕ) → 1 ≤ l → l ≤ 20 → label_index items l ≡ n + label_index all_items l
-  label-at l from to = position-second (names l) front (all_items ++ back) (none-before l from to) ∙ ap (λ j. n + j) (position-first (names l) all_items back (label-within l from to))
+  label-at l from to = position-second (names_label l) front (all_items ++ back) (none-before l from to) ∙ ap (λ j. n + j) (position-first (names_label l) all_items back (label-within l from to))
 
   module _ (far : List Bool) (least : IsLeastFar items far) where
     abbrev pub F1 : List Bool
@@ -218,7 +218,7 @@ module _ (front back : List AsmItem) (once : AllPairs (λ l m. l ≢ m) (labels 
     abbrev pub W : ℕ
     W = text_words front F1
 
-    pub place-in : (j : ℕ) → j ≤ m → place items other (n + j) ≡ W + place all_items all_near j
+    pub place-in : (j : ℕ) → j ≤ m → item_place items other (n + j) ≡ W + item_place all_items all_near j
     place-in j le =
         place-second front (all_items ++ back) F1 (all_near ++ F2) j F1-size
         ∙ ap (λ z. W + z) (place-first all_items back all_near F2 j near-size le)
@@ -226,20 +226,20 @@ module _ (front back : List AsmItem) (once : AllPairs (λ l m. l ≢ m) (labels 
     pub label-in : (l : ℕ) → 1 ≤ l → l ≤ 20 → label_place items other l ≡ W + label_place all_items all_near l
     label-in l from to =
         let lt = label-within l from to in
-        ap (place items other) (label-at l from to) ∙ place-in (label_index all_items l) (omega (arith, lt))
+        ap (item_place items other) (label-at l from to) ∙ place-in (label_index all_items l) (omega (arith, lt))
 
-    short : (j : ℕ) → j ≤ m → place all_items all_near j < 1000
+    short : (j : ℕ) → j ≤ m → item_place all_items all_near j < 1000
     short j le = let mono = place_mono all_items all_near j m le in let most = routines-short in omega (arith, mono, most)
 
     -- a branch within the routines reaches
-    reaches-in : (j : ℕ) → j ≤ m → (l : ℕ) → 1 ≤ l → l ≤ 20 → IsBranchDisplacement (displacement (place items other (n + j)) (label_place items other l))
+    reaches-in : (j : ℕ) → j ≤ m → (l : ℕ) → 1 ≤ l → l ≤ 20 → IsBranchDisplacement (displacement (item_place items other (n + j)) (label_place items other l))
     reaches-in j le l from to =
         let here = place-in j le in
         let there = label-in l from to in
         let a = short j le in
         let lt = label-within l from to in
         let b = short (label_index all_items l) (omega (arith, lt)) in
-        reaches_from (place items other (n + j)) (label_place items other l) (omega (arith, here, there, a, b)) (omega (arith, here, there, a, b))
+        reaches_from (item_place items other (n + j)) (label_place items other l) (omega (arith, here, there, a, b)) (omega (arith, here, there, a, b))
 
     own-reaches : (here : ℕ) (x : AsmItem) → goes_within x ≡ true → ((l : ℕ) → 1 ≤ l → l ≤ 20 → IsBranchDisplacement (displacement here (label_place items other l))) → ItemReaches (label_place items other) here x
     own-reaches here (Branch op ra l) own h =
@@ -257,23 +257,23 @@ module _ (front back : List AsmItem) (once : AllPairs (λ l m. l ≢ m) (labels 
     own-reaches here (DataAddress ra offset) own h = tt
 
     -- another one reaches as before, as nothing between has more words
-    nearer : (k t : ℕ) → IsBranchDisplacement (displacement (place items far k) (place items far t)) → IsBranchDisplacement (displacement (place items other k) (place items other t))
+    nearer : (k t : ℕ) → IsBranchDisplacement (displacement (item_place items far k) (item_place items far t)) → IsBranchDisplacement (displacement (item_place items other k) (item_place items other t))
     nearer k t h =
-        let r = reaches_within (place items far k) (place items far t) h in
+        let r = reaches_within (item_place items far k) (item_place items far t) h in
         let ahead = r.0 in
         let back-far = r.1 in
         ⊎_elim
         (λ lt.
         let gap = gap_grows items other far other-size least.one_each within k t (omega (arith, lt)) in
         let mono = place_mono items other k t (omega (arith, lt)) in
-        reaches_from (place items other k) (place items other t) (omega (arith, ahead, gap)) (omega (arith, mono)))
+        reaches_from (item_place items other k) (item_place items other t) (omega (arith, ahead, gap)) (omega (arith, mono)))
         (λ le.
         let gap = gap_grows items other far other-size least.one_each within t k (omega (arith, le)) in
         let mono = place_mono items other t k (omega (arith, le)) in
-        reaches_from (place items other k) (place items other t) (omega (arith, mono)) (omega (arith, back-far, gap)))
+        reaches_from (item_place items other k) (item_place items other t) (omega (arith, mono)) (omega (arith, back-far, gap)))
         (cases_lt k t)
 
-    item-nearer : (k : ℕ) (x : AsmItem) → ItemReaches (label_place items far) (place items far k) x → ItemReaches (label_place items other) (place items other k) x
+    item-nearer : (k : ℕ) (x : AsmItem) → ItemReaches (label_place items far) (item_place items far k) x → ItemReaches (label_place items other) (item_place items other k) x
     item-nearer k (Branch op ra l) h = nearer k (label_index items l) h
     item-nearer k (Label l) h = tt
     item-nearer k (Name bytes) h = tt
@@ -290,9 +290,9 @@ module _ (front back : List AsmItem) (once : AllPairs (λ l m. l ≢ m) (labels 
         let sum : n + (k - n) ≡ k = omega (arith, from) in
         let below : k - n < m = omega (arith, from, to) in
         let is : slice_index_or items k d ≡ slice_index_or all_items (k - n) d = index-second front (all_items ++ back) k d (omega (arith, from)) ∙ index-first all_items back (k - n) d below in
-        subst (ItemReaches (label_place items other) (place items other k)) (sym is)
-        (own-reaches (place items other k) (slice_index_or all_items (k - n) d) (all-holds goes_within all_items (k - n) d all-go-within below)
-        (λ l a b. subst (λ z. IsBranchDisplacement (displacement (place items other z) (label_place items other l))) sum (reaches-in (k - n) (omega (arith, below)) l a b))))
+        subst (ItemReaches (label_place items other) (item_place items other k)) (sym is)
+        (own-reaches (item_place items other k) (slice_index_or all_items (k - n) d) (all-holds goes_within all_items (k - n) d all-go-within below)
+        (λ l a b. subst (λ z. IsBranchDisplacement (displacement (item_place items other z) (label_place items other l))) sum (reaches-in (k - n) (omega (arith, below)) l a b))))
         (beside k)
 
     pub same-far : other ≡ far

@@ -3,7 +3,7 @@ use Rattle.std.proofs.Common.{◌≡◌, ◌≢◌, ℕ, ◌+◌, ◌≤◌, Boo
 use Rattle.std.proofs.lemmas.List.{length-map}
 use Rattle.std.specs.List.{AllPairs}
 use Rattle.alpha_isa.specs.declared.insn.Fields.{Fields}
-use Rattle.alpha_isa.specs.Words.{word_of}
+use Rattle.alpha_isa.specs.Words.{insn_word}
 use Rattle.alpha_isa.specs.Program.{Program, data_start}
 use Rattle.alpha_items.specs.declared.item.AsmItem.{AsmItem}
 use Rattle.alpha_items.specs.Assembly.{Assembly, labels, IsWhole}
@@ -11,7 +11,7 @@ use Rattle.alpha_items.specs.Layout.{text_words, label_place, IsLeastFar}
 use Rattle.alpha_items.specs.Words.{text_insns, Words}
 use Rattle.alpha_items.proofs.Unique.{length-text_insns}
 use Rattle.alpha_rt.specs.Routine.{Routine, Divq, Remq, Divqu, Remqu, Divl, Reml, Divlu, Remlu}
-use Rattle.alpha_rt.specs.Code.{code}
+use Rattle.alpha_rt.specs.Code.{all_code}
 use Rattle.alpha_rt.specs.Calls.{RoutinesStandAt}
 use Rattle.alpha_rt.specs.Items.{all_items, all_near, entry_label}
 use Rattle.alpha_rt.proofs.Assembled.{give_code, entries_labelled}
@@ -39,7 +39,7 @@ entry-labels Divlu = record { from = omega arith; to = omega arith }
 entry-labels Remlu = record { from = omega arith; to = omega arith }
 
 -- with the items and their far branches as they are
-routines-at : (p : Program) (front back : List AsmItem) (once : AllPairs (λ l m. l ≢ m) (labels (front ++ (all_items ++ back)))) (far : List Bool) (least : IsLeastFar (front ++ (all_items ++ back)) far) → p.words ≡ map word_of (text_insns (label_place (front ++ (all_items ++ back)) far) (data_start p) 0 (front ++ (all_items ++ back)) far) → RoutinesStand p (label_place (front ++ (all_items ++ back)) far)
+routines-at : (p : Program) (front back : List AsmItem) (once : AllPairs (λ l m. l ≢ m) (labels (front ++ (all_items ++ back)))) (far : List Bool) (least : IsLeastFar (front ++ (all_items ++ back)) far) → p.words ≡ map insn_word (text_insns (label_place (front ++ (all_items ++ back)) far) (data_start p) 0 (front ++ (all_items ++ back)) far) → RoutinesStand p (label_place (front ++ (all_items ++ back)) far)
 routines-at p front back once far least words =
     let items : List AsmItem = front ++ (all_items ++ back) in
     let there : ℕ → ℕ = label_place (front ++ (all_items ++ back)) far in
@@ -49,24 +49,24 @@ routines-at p front back once far least words =
     let A : List Fields = text_insns (label_place (front ++ (all_items ++ back)) far) (data_start p) 0 front (F1 front back once far least) in
     let B : List Fields = text_insns (label_place (front ++ (all_items ++ back)) far) (data_start p) (0 + W front back once far least + text_words all_items all_near) back (F2 front back once far least) in
     let none : 0 + W front back once far least ≡ W front back once far least = omega arith in
-    let coded : text_insns (label_place (front ++ (all_items ++ back)) far) (data_start p) (0 + W front back once far least) all_items all_near ≡ code =
+    let coded : text_insns (label_place (front ++ (all_items ++ back)) far) (data_start p) (0 + W front back once far least) all_items all_near ≡ all_code =
     ap (λ h. text_insns (label_place (front ++ (all_items ++ back)) far) (data_start p) h all_items all_near) none ∙ give_code (label_place (front ++ (all_items ++ back)) far) (data_start p) (W front back once far least) label in
-    let whole : text_insns (label_place (front ++ (all_items ++ back)) far) (data_start p) 0 (front ++ (all_items ++ back)) far ≡ A ++ (code ++ B) =
+    let whole : text_insns (label_place (front ++ (all_items ++ back)) far) (data_start p) 0 (front ++ (all_items ++ back)) far ≡ A ++ (all_code ++ B) =
     ap (text_insns (label_place (front ++ (all_items ++ back)) far) (data_start p) 0 (front ++ (all_items ++ back))) (sym (same-far front back once far least))
     ∙ text-append (label_place (front ++ (all_items ++ back)) far) (data_start p) 0 front (all_items ++ back) (F1 front back once far least) (all_near ++ F2 front back once far least) (F1-size front back once far least)
     ∙ ap (λ l. A ++ l) (text-append (label_place (front ++ (all_items ++ back)) far) (data_start p) (0 + W front back once far least) all_items back all_near (F2 front back once far least) refl)
     ∙ ap (λ l. A ++ (l ++ B)) coded in
-    let split : p.words ≡ map word_of A ++ (map word_of code ++ map word_of B) =
-    words ∙ ap (map word_of) whole ∙ map-append word_of A (code ++ B) ∙ ap (λ l. map word_of A ++ l) (map-append word_of code B) in
-    let size : length (map word_of A) ≡ W front back once far least = length-map A word_of ∙ length-text_insns (label_place (front ++ (all_items ++ back)) far) (data_start p) 0 front (F1 front back once far least) in
+    let split : p.words ≡ map insn_word A ++ (map insn_word all_code ++ map insn_word B) =
+    words ∙ ap (map insn_word) whole ∙ map-append insn_word A (all_code ++ B) ∙ ap (λ l. map insn_word A ++ l) (map-append insn_word all_code B) in
+    let size : length (map insn_word A) ≡ W front back once far least = length-map A insn_word ∙ length-text_insns (label_place (front ++ (all_items ++ back)) far) (data_start p) 0 front (F1 front back once far least) in
     record {
       word = W front back once far least;
-      code_stands = subst (RoutinesStandAt p) size (code_stands p (map word_of A) (map word_of B) split);
+      code_stands = subst (RoutinesStandAt p) size (code_stands p (map insn_word A) (map insn_word B) split);
       labels = λ r. let e = entry-labels r in label (entry_label r) e.from e.to ∙ ap (λ z. W front back once far least + z) (entries_labelled r);
     }
 
 pub routines_stand : (asm : Assembly) (p : Program) → IsWhole asm → (w : Words asm p) → (front back : List AsmItem) → asm.items ≡ front ++ (all_items ++ back) → RoutinesStand p (label_place asm.items w.far)
 routines_stand asm p whole w front back e =
-    subst (λ (items : List AsmItem). AllPairs (λ l m. l ≢ m) (labels items) → IsLeastFar items w.far → p.words ≡ map word_of (text_insns (label_place items w.far) (data_start p) 0 items w.far) → RoutinesStand p (label_place items w.far)) (sym e)
+    subst (λ (items : List AsmItem). AllPairs (λ l m. l ≢ m) (labels items) → IsLeastFar items w.far → p.words ≡ map insn_word (text_insns (label_place items w.far) (data_start p) 0 items w.far) → RoutinesStand p (label_place items w.far)) (sym e)
     (λ once least words. routines-at p front back once w.far least words)
     whole.labels_once w.least w.words

@@ -2,7 +2,7 @@
 use Rattle.std.proofs.Common.{◌≡◌, ℕ, zero, suc, ◌+◌, ◌≤◌, Bool, List, [], ◌∷◌, ◌++◌, length, take, refl, sym, ap, ◌∙◌, arith, append_assoc}
 use Rattle.std.specs.List.{sum}
 use Rattle.alpha_items.specs.declared.item.AsmItem.{AsmItem}
-use Rattle.alpha_items.specs.Layout.{item_words, sizes, text_words, place}
+use Rattle.alpha_items.specs.Layout.{item_words, sizes, text_words, item_place}
 use Rattle.alpha_items.specs.Words.{item_insns, text_insns}
 use Rattle.alpha_items.proofs.Sums.{sum-cons}
 
@@ -38,14 +38,14 @@ take-first (x ∷ xs) ys (suc k) le =
     omega (arith, here, there, rest)
 
 -- places in a second text, and in a first one
-pub place-second : (xs ys : List AsmItem) (fs gs : List Bool) (k : ℕ) → length fs ≡ length xs → place (xs ++ ys) (fs ++ gs) (length xs + k) ≡ text_words xs fs + place ys gs k
+pub place-second : (xs ys : List AsmItem) (fs gs : List Bool) (k : ℕ) → length fs ≡ length xs → item_place (xs ++ ys) (fs ++ gs) (length xs + k) ≡ text_words xs fs + item_place ys gs k
 place-second xs ys fs gs k e =
     let count = sizes-count xs fs e in
     ap (λ l. sum (take (length xs + k) l)) (sizes-append xs ys fs gs e)
     ∙ ap (λ n. sum (take (n + k) (sizes xs fs ++ sizes ys gs))) (sym count)
     ∙ take-second (sizes xs fs) (sizes ys gs) k
 
-pub place-first : (xs ys : List AsmItem) (fs gs : List Bool) (k : ℕ) → length fs ≡ length xs → k ≤ length xs → place (xs ++ ys) (fs ++ gs) k ≡ place xs fs k
+pub place-first : (xs ys : List AsmItem) (fs gs : List Bool) (k : ℕ) → length fs ≡ length xs → k ≤ length xs → item_place (xs ++ ys) (fs ++ gs) k ≡ item_place xs fs k
 place-first xs ys fs gs k e le =
     let count = sizes-count xs fs e in
     ap (λ l. sum (take k l)) (sizes-append xs ys fs gs e) ∙ take-first (sizes xs fs) (sizes ys gs) k (omega (arith, count, le))

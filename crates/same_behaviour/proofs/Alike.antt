@@ -10,7 +10,7 @@ use Rattle.mem_model.specs.Ending.{Ending, Done, Trap, Undefined, More, ending_o
 use Rattle.machine_model.specs.Laws.{IsPrefix}
 use Rattle.unit_images.specs.Same.{IsSame}
 use Rattle.c_typed_tree.specs.declared.units.TypedUnit.{TypedUnit}
-use Rattle.c_semantics.specs.Behaves.{meaning, rooms_of, behaviour_of, run}
+use Rattle.c_semantics.specs.Behaves.{meaning, rooms_of, behaviour_of, run_main}
 use Rattle.unit_images.specs.Laws.{InputIsGood, UnitsAreSame}
 use Rattle.same_behaviour.specs.Same.{SameOn, UnitsBehaveAlike}
 
@@ -86,7 +86,7 @@ module _ (p : Program) (stack : ℕ) (input : List ℕ) (at : (turns : ℕ) → 
 
 pub behave_alike : UnitsAreSame → UnitsBehaveAlike
 behave_alike are_same u image typed made stack is_stack input bytes good =
-    let at : (turns : ℕ) → Ending = run u (rooms_of u) input in
+    let at : (turns : ℕ) → Ending = run_main u (rooms_of u) input in
     let is_defined : (n : ℕ) → IsDefined (at n) = λ n. defined (at n) (good.defined n) in
     let is_good : InputIsGood u (rooms_of u) stack input = record { defined = is_defined; room = good.has_room } in
     on_behaviours image stack input at is_defined (are_same u (rooms_of u) image typed made stack is_stack input bytes is_good) u (λ n. refl)

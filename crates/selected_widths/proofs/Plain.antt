@@ -5,7 +5,7 @@ use Rattle.std.specs.List.{list_all}
 use Rattle.std.specs.Int.{w16}
 use Rattle.std.proofs.lemmas.Bool.{and_from}
 use Rattle.std.proofs.lemmas.List.Folds.{list_all-append}
-use Rattle.alpha_isa.specs.Arithmetic.{fits, word_from}
+use Rattle.alpha_isa.specs.Arithmetic.{fits_signed, word_from}
 use Rattle.alpha_constants.specs.declared.recipe.Finish.{Finish}
 use Rattle.alpha_constants.specs.declared.recipe.Finish.TheVariants.{Nothing, ShiftLeft, ShiftRight, LowHalf, AddLower}
 use Rattle.alpha_constants.specs.declared.recipe.Recipe.{Recipe}
@@ -32,8 +32,8 @@ use Rattle.temp_ir.specs.declared.insn.TempInsn.TheVariants as i
 use Rattle.alpha_forms.specs.Constants.{unless_zero, near_items, lower_items, finish_items, recipe_items, constant_items}
 use Rattle.alpha_forms.specs.Accesses.{near_load, near_store, far_items, load_by, load_items, store_by, store_items}
 use Rattle.alpha_forms.specs.Operations.{binary_items, left_items, logical_right_items, shift_items, compare_items, convert_items, convert_item, is_narrow, from_unsigned_item, from_wide_item}
-use Rattle.alpha_copies.specs.Copies.{part_items, moved_items, reach, parts_items}
-use Rattle.selection_code.specs.Instructions.{temp_of, take_item, take_items, result_items, byte_items, put_char_items, exit_items, builtin_items, argument_register, return_items, insn_items}
+use Rattle.alpha_copies.specs.Copies.{part_items, moved_items, copy_reach, parts_items}
+use Rattle.selection_code.specs.Instructions.{temp_of, take_item, take_items, result_items, byte_items, put_char_items, exit_call_items, builtin_items, argument_register, return_items, selected_insn}
 use Rattle.suifvm_ir.specs.declared.insn.TypedRegister.{TypedRegister}
 use Rattle.suifvm_ir.specs.declared.insn.VmInsn.{VmInsn}
 use Rattle.suifvm_ir.specs.declared.insn.VmInsn.TheVariants as x
@@ -100,14 +100,14 @@ far_plain : (p : ℕ) (plus : ℤ) → are_plain (far_items p plus) ≡ true
 far_plain p plus = plain-append (constant_items 0 (word_from plus)) _ (constant_plain 0 (word_from plus)) refl
 
 load_plain : (ty : MemoryType) (d p : ℕ) (plus : ℤ) → are_plain (load_items ty d p plus) ≡ true
-load_plain ty d p plus = by_fit (fits w16 plus)
+load_plain ty d p plus = by_fit (fits_signed w16 plus)
   where
     by_fit : (b : Bool) → are_plain (load_by ty d p plus (if b then Some plus else None)) ≡ true
     by_fit true = near_load_plain ty d p plus
     by_fit false = plain-append (far_items p plus) (near_load ty d 0 (pos 0)) (far_plain p plus) (near_load_plain ty d 0 (pos 0))
 
 store_plain : (ty : MemoryType) (p : ℕ) (plus : ℤ) (a : ℕ) → are_plain (store_items ty p plus a) ≡ true
-store_plain ty p plus a = by_fit (fits w16 plus)
+store_plain ty p plus a = by_fit (fits_signed w16 plus)
   where
     by_fit : (b : Bool) → are_plain (store_by ty p plus a (if b then Some plus else None)) ≡ true
     by_fit true = refl
@@ -116,7 +116,7 @@ store_plain ty p plus a = by_fit (fits w16 plus)
 parts_plain : (al : Alignment) (n to from at : ℕ) → are_plain (parts_items al n to from at) ≡ true
 parts_plain al zero to from at = refl
 parts_plain al (suc n) to from at =
-    plain_one (nat_lt at reach) (part_items al to from at ++ parts_items al n to from (at + alignment_bytes al))
+    plain_one (nat_lt at copy_reach) (part_items al to from at ++ parts_items al n to from (at + alignment_bytes al))
     (moved_items to from at ++ (part_items al 1 2 0 ++ parts_items al n 1 2 (alignment_bytes al)))
     (parts_plain al n to from (at + alignment_bytes al)) (parts_plain al n 1 2 (alignment_bytes al))
 
@@ -198,7 +198,7 @@ put_char-plain : (d : Option ℕ) (arguments : List ℕ) → are_plain (put_char
 put_char-plain d [] = refl
 put_char-plain d (a ∷ arguments) = byte-plain d a
 
-exit-plain : (arguments : List ℕ) → are_plain (exit_items arguments) ≡ true
+exit-plain : (arguments : List ℕ) → are_plain (exit_call_items arguments) ≡ true
 exit-plain [] = refl
 exit-plain (a ∷ arguments) = refl
 
@@ -217,7 +217,7 @@ return-plain (Some value) = refl
 -- a call of a function, or an instruction with plain code
 pub data Form : VmInsn → Type 0 where
   Calls : (d : Option ℕ) (k : ℕ) (arguments : List ℕ) → Form (x.Call d (callee.Function k) arguments)
-  Plain : (y : VmInsn) → are_plain (insn_items y) ≡ true → Form y
+  Plain : (y : VmInsn) → are_plain (selected_insn y) ≡ true → Form y
 
 call_form : (d : Option ℕ) (c : VmCallee) (arguments : List ℕ) → Form (x.Call d c arguments)
 call_form d (callee.Function k) arguments = Calls d k arguments

@@ -8,8 +8,8 @@ use Rattle.suifvm_ir.specs.Functions.{AllInsns}
 use Rattle.lowering_bounds.specs.Laws.{arguments_of}
 use Rattle.temp_ir.specs.declared.insn.TempInsn.{TempInsn}
 use Rattle.temp_ir.specs.declared.insn.TempInsn.TheVariants as i
-use Rattle.selection_code.specs.Instructions.{temp_of, pass_item, pass_items, result_items, argument_register, insn_items}
-use Rattle.selection_code.specs.Functions.{insns_items, parameter_items, function_blocks}
+use Rattle.selection_code.specs.Instructions.{temp_of, pass_item, pass_items, result_items, argument_register, selected_insn}
+use Rattle.selection_code.specs.Functions.{selected_insns, parameter_items, selected_blocks}
 use Rattle.alloc_model.specs.Effect.{width_of, widest_in, widest_call}
 use Rattle.temp_walk_laws.specs.SameRuns.{WritesWithin}
 use Rattle.selected_widths.specs.Widths.{IsWithinBlock, AreWithinBlocks, SelectedBlocksAreWithin}
@@ -58,32 +58,32 @@ call_within w d k arguments le =
 
 -- ---- instructions
 
-insn_within : (w : ℕ) (y : VmInsn) → widest_in (insn_items y) ≤ w → All (WritesWithin w) (insn_items y)
+insn_within : (w : ℕ) (y : VmInsn) → widest_in (selected_insn y) ≤ w → All (WritesWithin w) (selected_insn y)
 insn_within w y le = by_form y (form y) le
   where
-    by_form : (z : VmInsn) → Form z → widest_in (insn_items z) ≤ w → All (WritesWithin w) (insn_items z)
+    by_form : (z : VmInsn) → Form z → widest_in (selected_insn z) ≤ w → All (WritesWithin w) (selected_insn z)
     by_form z (Calls d k arguments) g = call_within w d k arguments (omega (arith, g, call_width d k arguments))
-    by_form z (Plain z2 plain) g = plains_within w (insn_items z) plain
+    by_form z (Plain z2 plain) g = plains_within w (selected_insn z) plain
 
-insn_width : (y : VmInsn) → widest_in (insn_items y) ≤ arguments_of y
+insn_width : (y : VmInsn) → widest_in (selected_insn y) ≤ arguments_of y
 insn_width y = by_form y (form y)
   where
-    by_form : (z : VmInsn) → Form z → widest_in (insn_items z) ≤ arguments_of z
+    by_form : (z : VmInsn) → Form z → widest_in (selected_insn z) ≤ arguments_of z
     by_form z (Calls d k arguments) = omega (arith, call_width d k arguments)
-    by_form z (Plain z2 plain) = omega (arith, plains_width (insn_items z) plain)
+    by_form z (Plain z2 plain) = omega (arith, plains_width (selected_insn z) plain)
 
-insns_within : (w : ℕ) (insns : List VmInsn) → widest_in (insns_items insns) ≤ w → All (WritesWithin w) (insns_items insns)
+insns_within : (w : ℕ) (insns : List VmInsn) → widest_in (selected_insns insns) ≤ w → All (WritesWithin w) (selected_insns insns)
 insns_within w [] le = All-nil (WritesWithin w)
 insns_within w (y ∷ insns) le =
-    let s = widest_append (insn_items y) (insns_items insns) in
-    All-append (WritesWithin w) (insn_items y) (insns_items insns) (insn_within w y (omega (arith, le, s))) (insns_within w insns (omega (arith, le, s)))
+    let s = widest_append (selected_insn y) (selected_insns insns) in
+    All-append (WritesWithin w) (selected_insn y) (selected_insns insns) (insn_within w y (omega (arith, le, s))) (insns_within w insns (omega (arith, le, s)))
 
-insns_width : (most : ℕ) (insns : List VmInsn) → All (λ y. arguments_of y ≤ most) insns → widest_in (insns_items insns) ≤ most
+insns_width : (most : ℕ) (insns : List VmInsn) → All (λ y. arguments_of y ≤ most) insns → widest_in (selected_insns insns) ≤ most
 insns_width most [] h = omega arith
 insns_width most (y ∷ insns) h =
     omega (
       arith,
-      widest_append (insn_items y) (insns_items insns),
+      widest_append (selected_insn y) (selected_insns insns),
       insn_width y,
       all_first (λ z. arguments_of z ≤ most) y insns h,
       insns_width most insns (all_rest (λ z. arguments_of z ≤ most) y insns h),
@@ -91,28 +91,28 @@ insns_width most (y ∷ insns) h =
 
 -- ---- functions
 
-first_within : (params : ℕ) (block : List VmInsn) → IsWithinBlock (parameter_items params ++ insns_items block)
+first_within : (params : ℕ) (block : List VmInsn) → IsWithinBlock (parameter_items params ++ selected_insns block)
 first_within params block =
-    let w = widest_in (parameter_items params ++ insns_items block) in
-    All-append (WritesWithin w) (parameter_items params) (insns_items block)
+    let w = widest_in (parameter_items params ++ selected_insns block) in
+    All-append (WritesWithin w) (parameter_items params) (selected_insns block)
     (plains_within w (parameter_items params) (takes-plain 0 params))
-    (insns_within w block (omega (arith, widest_append (parameter_items params) (insns_items block))))
+    (insns_within w block (omega (arith, widest_append (parameter_items params) (selected_insns block))))
 
-others_within : (blocks : List (List VmInsn)) → AreWithinBlocks (map insns_items blocks)
+others_within : (blocks : List (List VmInsn)) → AreWithinBlocks (map selected_insns blocks)
 others_within [] = All-nil IsWithinBlock
 others_within (block ∷ blocks) =
-    All-cons IsWithinBlock (insns_items block) (map insns_items blocks)
-    (insns_within (widest_in (insns_items block)) block (omega arith)) (others_within blocks)
+    All-cons IsWithinBlock (selected_insns block) (map selected_insns blocks)
+    (insns_within (widest_in (selected_insns block)) block (omega arith)) (others_within blocks)
 
 pub selected_within : SelectedBlocksAreWithin
 selected_within params [] = All-nil IsWithinBlock
 selected_within params (block ∷ blocks) =
-    All-cons IsWithinBlock (parameter_items params ++ insns_items block) (map insns_items blocks) (first_within params block) (others_within blocks)
+    All-cons IsWithinBlock (parameter_items params ++ selected_insns block) (map selected_insns blocks) (first_within params block) (others_within blocks)
 
 abbrev AreFew : ℕ → List (List VmInsn) → Type 0
 AreFew most blocks = AllInsns (λ y. arguments_of y ≤ most) blocks
 
-others_narrow : (most : ℕ) (blocks : List (List VmInsn)) → AreFew most blocks → widest_call (map insns_items blocks) ≤ most
+others_narrow : (most : ℕ) (blocks : List (List VmInsn)) → AreFew most blocks → widest_call (map selected_insns blocks) ≤ most
 others_narrow most [] h = omega arith
 others_narrow most (block ∷ blocks) h =
     omega (
@@ -121,12 +121,12 @@ others_narrow most (block ∷ blocks) h =
       others_narrow most blocks (all_rest (All (λ y. arguments_of y ≤ most)) block blocks h),
     )
 
-pub calls_narrow : (params most : ℕ) (blocks : List (List VmInsn)) → AllInsns (λ y. arguments_of y ≤ most) blocks → widest_call (function_blocks params blocks) ≤ most
+pub calls_narrow : (params most : ℕ) (blocks : List (List VmInsn)) → AllInsns (λ y. arguments_of y ≤ most) blocks → widest_call (selected_blocks params blocks) ≤ most
 calls_narrow params most [] h = omega arith
 calls_narrow params most (block ∷ blocks) h =
     omega (
       arith,
-      widest_append (parameter_items params) (insns_items block),
+      widest_append (parameter_items params) (selected_insns block),
       plains_width (parameter_items params) (takes-plain 0 params),
       insns_width most block (all_first (All (λ y. arguments_of y ≤ most)) block blocks h),
       others_narrow most blocks (all_rest (All (λ y. arguments_of y ≤ most)) block blocks h),

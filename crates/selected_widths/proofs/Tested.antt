@@ -8,12 +8,12 @@ use Rattle.suifvm_ir.specs.Functions.{AllInsns}
 use Rattle.lowering_bounds.specs.Laws.{arguments_of}
 use Rattle.value_tests.specs.declared.known.Known.{Known}
 use Rattle.value_tests.specs.declared.known.Known.TheVariants.{Nothing}
-use Rattle.value_tests.specs.Tests.{after, seen, tested_from, tested}
+use Rattle.value_tests.specs.Tests.{facts_after, tested_insn, tested_from, tested_block}
 use Rattle.selected_widths.specs.Widths.{SelectedCallsAreNarrow}
 use Rattle.selected_widths.proofs.Selected.{calls_narrow}
 use Rattle.selected_widths.proofs.Forms.{all_first, all_rest}
 
-seen_arguments : (k : Known) (y : VmInsn) → arguments_of (seen k y) ≡ arguments_of y
+seen_arguments : (k : Known) (y : VmInsn) → arguments_of (tested_insn k y) ≡ arguments_of y
 seen_arguments k (x.LoadConstant ty d word) = refl
 seen_arguments k (x.LoadAddress d place plus) = refl
 seen_arguments k (x.Load ty d p plus) = refl
@@ -37,16 +37,16 @@ IsFew most y = arguments_of y ≤ most
 tested_few : (most : ℕ) (k : Known) (insns : List VmInsn) → All (IsFew most) insns → All (IsFew most) (tested_from k insns)
 tested_few most k [] h = All-nil (IsFew most)
 tested_few most k (y ∷ insns) h =
-    All-cons (IsFew most) (seen k y) (tested_from (after k y) insns)
+    All-cons (IsFew most) (tested_insn k y) (tested_from (facts_after k y) insns)
     (omega (arith, seen_arguments k y, all_first (IsFew most) y insns h))
-    (tested_few most (after k y) insns (all_rest (IsFew most) y insns h))
+    (tested_few most (facts_after k y) insns (all_rest (IsFew most) y insns h))
 
-blocks_few : (most : ℕ) (blocks : List (List VmInsn)) → AllInsns (IsFew most) blocks → AllInsns (IsFew most) (map tested blocks)
+blocks_few : (most : ℕ) (blocks : List (List VmInsn)) → AllInsns (IsFew most) blocks → AllInsns (IsFew most) (map tested_block blocks)
 blocks_few most [] h = All-nil (All (IsFew most))
 blocks_few most (block ∷ blocks) h =
-    All-cons (All (IsFew most)) (tested block) (map tested blocks)
+    All-cons (All (IsFew most)) (tested_block block) (map tested_block blocks)
     (tested_few most Nothing block (all_first (All (IsFew most)) block blocks h))
     (blocks_few most blocks (all_rest (All (IsFew most)) block blocks h))
 
 pub selected_narrow : SelectedCallsAreNarrow
-selected_narrow params most blocks h = calls_narrow params most (map tested blocks) (blocks_few most blocks h)
+selected_narrow params most blocks h = calls_narrow params most (map tested_block blocks) (blocks_few most blocks h)

@@ -4,11 +4,11 @@ use Rattle.suifvm_ir.specs.declared.insn.VmInsn.{VmInsn}
 use Rattle.suifvm_ir.specs.Functions.{AllInsns}
 use Rattle.suifvm_ir.specs.Programs.{VmFunction}
 use Rattle.lowering_bounds.specs.Laws.{arguments_of}
-use Rattle.value_tests.specs.Tests.{tested}
+use Rattle.value_tests.specs.Tests.{tested_block}
 use Rattle.temp_ir.specs.declared.insn.TempInsn.{TempInsn}
 use Rattle.temp_ir.specs.Insns.{targets_of, with_block, flows_on_of}
 use Rattle.cfg.specs.Contents.{KeepsBlocks}
-use Rattle.selection_code.specs.Functions.{function_blocks}
+use Rattle.selection_code.specs.Functions.{selected_blocks}
 use Rattle.alloc_model.specs.Effect.{widest_in, widest_call}
 use Rattle.temp_walk_laws.specs.SameRuns.{WritesWithin, AreWithin}
 
@@ -22,7 +22,7 @@ AreWithinBlocks blocks = All IsWithinBlock blocks
 -- those of a selected function are, since a call stands behind the writes of its arguments
 abbrev pub SelectedBlocksAreWithin : Type 0
 SelectedBlocksAreWithin =
-    (params : ℕ) (blocks : List (List VmInsn)) → AreWithinBlocks (function_blocks params blocks)
+    (params : ℕ) (blocks : List (List VmInsn)) → AreWithinBlocks (selected_blocks params blocks)
 
 -- blocks with the contents of others are too
 abbrev pub BlocksStayWithin : Type 0
@@ -39,7 +39,7 @@ BlocksAreWithinFunctions = (blocks : List (List TempInsn)) → AreWithinBlocks b
 abbrev pub SelectedCallsAreNarrow : Type 0
 SelectedCallsAreNarrow =
     (params most : ℕ) (blocks : List (List VmInsn)) → AllInsns (λ i. arguments_of i ≤ most) blocks →
-    widest_call (function_blocks params (map tested blocks)) ≤ most
+    widest_call (selected_blocks params (map tested_block blocks)) ≤ most
 
 -- blocks with the contents of others have no wider calls
 abbrev pub CallsStayNarrow : Type 0
@@ -57,6 +57,7 @@ abbrev pub PassedFunctionsHaveWidths : Type 0
 PassedFunctionsHaveWidths =
     (f : VmFunction) (most : ℕ) (reached after : List (List TempInsn)) →
     AllInsns (λ i. arguments_of i ≤ most) f.blocks →
-    KeepsBlocks targets_of with_block flows_on_of (function_blocks f.params (map tested f.blocks)) reached →
+    KeepsBlocks targets_of with_block flows_on_of (selected_blocks f.params (map tested_block f.blocks)) reached →
     KeepsBlocks targets_of with_block flows_on_of reached after →
-    HasWidths most (function_blocks f.params (map tested f.blocks)) × HasWidths most reached × HasWidths most after
+    HasWidths most (selected_blocks f.params (map tested_block f.blocks)) × HasWidths most reached
+    × HasWidths most after

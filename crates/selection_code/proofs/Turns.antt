@@ -4,11 +4,11 @@ use Rattle.std.proofs.lemmas.List.{append_assoc}
 use Rattle.bk_ilist.specs.Listing.{items}
 use Rattle.suifvm_ir.specs.declared.insn.VmInsn.{VmInsn}
 use Rattle.temp_ir.specs.declared.insn.TempInsn.{TempInsn}
-use Rattle.selection_code.specs.Instructions.{temp_of, pass_item, pass_items, take_item, take_items, insn_items}
-use Rattle.selection_code.specs.Functions.{insns_items}
+use Rattle.selection_code.specs.Instructions.{temp_of, pass_item, pass_items, take_item, take_items, selected_insn}
+use Rattle.selection_code.specs.Functions.{selected_insns}
 use Rattle.selection_code.specs.Fields.{HasFields, HasNumbers}
 use Rattle.value_tests.specs.declared.known.Known.{Known}
-use Rattle.value_tests.specs.Tests.{after, seen, tested_from}
+use Rattle.value_tests.specs.Tests.{facts_after, tested_insn, tested_from}
 use Rattle.value_tests.specs.model.Registers.{KnownIsBelow}
 use Rattle.value_tests.proofs.Functions.{after_below}
 
@@ -74,15 +74,15 @@ all_more P x xs p h zero d lt = p
 all_more P x xs p h (suc k) d lt = h k d (omega (arith, lt))
 
 module _ (all : List (ℕ × VmInsn)) (id : ℕ) (y : VmInsn) (rest : List (ℕ × VmInsn)) (is : all ≡ (id, y) ∷ rest) where
-  pub insn_turn : (k next : Known) → next ≡ after k y → (xs ys whole : List TempInsn) → ys ≡ xs ++ insn_items (seen k y) → xs ++ insns_items (tested_from k (items all)) ≡ whole → ys ++ insns_items (tested_from next (items rest)) ≡ whole
+  pub insn_turn : (k next : Known) → next ≡ facts_after k y → (xs ys whole : List TempInsn) → ys ≡ xs ++ selected_insn (tested_insn k y) → xs ++ selected_insns (tested_from k (items all)) ≡ whole → ys ++ selected_insns (tested_from next (items rest)) ≡ whole
   insn_turn k next behind xs ys whole put e =
-      ap (λ j. ys ++ insns_items (tested_from j (items rest))) behind ∙ ap (λ l. l ++ insns_items (tested_from (after k y) (items rest))) put
-      ∙ append_assoc xs (insn_items (seen k y)) (insns_items (tested_from (after k y) (items rest))) ∙ ap (λ l. xs ++ insns_items (tested_from k (items l))) (sym is) ∙ e
+      ap (λ j. ys ++ selected_insns (tested_from j (items rest))) behind ∙ ap (λ l. l ++ selected_insns (tested_from (facts_after k y) (items rest))) put
+      ∙ append_assoc xs (selected_insn (tested_insn k y)) (selected_insns (tested_from (facts_after k y) (items rest))) ∙ ap (λ l. xs ++ selected_insns (tested_from k (items l))) (sym is) ∙ e
 
   pub numbers_here : All HasNumbers (items all) → HasNumbers y
   numbers_here h = all_first HasNumbers y (items rest) (subst (λ l. All HasNumbers (items l)) is h)
 
-  pub known_turn : (k next : Known) → next ≡ after k y → All HasNumbers (items all) → KnownIsBelow (2 ^ 32 - 4) next
+  pub known_turn : (k next : Known) → next ≡ facts_after k y → All HasNumbers (items all) → KnownIsBelow (2 ^ 32 - 4) next
   known_turn k next behind h = let here = numbers_here h in subst (KnownIsBelow (2 ^ 32 - 4)) (sym behind) (after_below (2 ^ 32 - 4) k y (here.reads, here.writes))
 
   pub numbers_left : All HasNumbers (items all) → All HasNumbers (items rest)

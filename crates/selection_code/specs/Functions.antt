@@ -3,12 +3,12 @@
 use Rattle.std.specs.Prelude.{ℕ, List, [], ◌∷◌, ◌++◌, map}
 use Rattle.suifvm_ir.specs.declared.insn.VmInsn.{VmInsn}
 use Rattle.temp_ir.specs.declared.insn.TempInsn.{TempInsn}
-use Rattle.selection_code.specs.Instructions.{take_items, insn_items}
+use Rattle.selection_code.specs.Instructions.{take_items, selected_insn}
 
 -- the code of instructions, in order
-abbrev pub insns_items : List VmInsn → List TempInsn
-insns_items [] = []
-insns_items (i ∷ insns) = insn_items i ++ insns_items insns
+abbrev pub selected_insns : List VmInsn → List TempInsn
+selected_insns [] = []
+selected_insns (i ∷ insns) = selected_insn i ++ selected_insns insns
 
 -- the code that takes so many parameters
 abbrev pub parameter_items : (params : ℕ) → List TempInsn
@@ -20,5 +20,5 @@ in_front items [] = []
 in_front items (block ∷ blocks) = (items ++ block) ∷ blocks
 
 -- the blocks of a function with so many parameters
-abbrev pub function_blocks : (params : ℕ) → List (List VmInsn) → List (List TempInsn)
-function_blocks params blocks = in_front (parameter_items params) (map insns_items blocks)
+abbrev pub selected_blocks : (params : ℕ) → List (List VmInsn) → List (List TempInsn)
+selected_blocks params blocks = in_front (parameter_items params) (map selected_insns blocks)

@@ -16,7 +16,7 @@ use Rattle.temp_ir.specs.declared.insn.TempInsn.TheVariants as i
 use Rattle.alpha_forms.specs.Registers.{scratch_count}
 use Rattle.alpha_forms.specs.Constants.{constant_items}
 use Rattle.alpha_forms.specs.Accesses.{load_items, store_items}
-use Rattle.alpha_forms.specs.Operations.{on_number, unary_items, binary_items, shift_items, convert_items, compare_items, branch_op}
+use Rattle.alpha_forms.specs.Operations.{on_literal, unary_items, binary_items, shift_items, convert_items, compare_items, temp_branch}
 use Rattle.alpha_copies.specs.Copies.{copy_items}
 
 -- the temporary that stands for a register
@@ -53,15 +53,15 @@ abbrev pub result_items : Option ℕ → List TempInsn
 result_items None = []
 result_items (Some d) = i.FromFixed (temp_of d) Value ∷ []
 
-abbrev pub function_items : (destination : Option ℕ) → (function : ℕ) → (arguments : List ℕ) → List TempInsn
-function_items destination function arguments =
+abbrev pub function_call_items : (destination : Option ℕ) → (function : ℕ) → (arguments : List ℕ) → List TempInsn
+function_call_items destination function arguments =
     pass_items 0 arguments ++ i.Call function (length arguments) ∷ result_items destination
 
 -- ---- calls of built-in functions: services of the machine, whose numbers stand in register 0
 
 abbrev pub byte_items : Option ℕ → (argument : ℕ) → List TempInsn
 byte_items None a = []
-byte_items (Some d) a = on_number Zapnot (temp_of d) (temp_of a) 1 ∷ []
+byte_items (Some d) a = on_literal Zapnot (temp_of d) (temp_of a) 1 ∷ []
 
 -- the low byte is put, and is the result
 abbrev pub put_char_items : Option ℕ → (arguments : List ℕ) → List TempInsn
@@ -76,18 +76,18 @@ get_char_items destination = i.SetFixed Value (pos 3) ∷ i.Serve GetByte ∷ re
 abbrev pub abort_items : List TempInsn
 abort_items = i.SetFixed Argument0 (pos 2) ∷ i.Serve Trap ∷ []
 
-abbrev pub exit_items : (arguments : List ℕ) → List TempInsn
-exit_items [] = []
-exit_items (a ∷ arguments) = i.ToFixed Argument0 (temp_of a) ∷ i.SetFixed Value (pos 1) ∷ i.Serve End ∷ []
+abbrev pub exit_call_items : (arguments : List ℕ) → List TempInsn
+exit_call_items [] = []
+exit_call_items (a ∷ arguments) = i.ToFixed Argument0 (temp_of a) ∷ i.SetFixed Value (pos 1) ∷ i.Serve End ∷ []
 
 abbrev pub builtin_items : Option ℕ → VmBuiltin → (arguments : List ℕ) → List TempInsn
 builtin_items destination PutChar arguments = put_char_items destination arguments
 builtin_items destination GetChar arguments = get_char_items destination
 builtin_items destination Abort arguments = abort_items
-builtin_items destination Exit arguments = exit_items arguments
+builtin_items destination Exit arguments = exit_call_items arguments
 
 abbrev pub call_items : Option ℕ → VmCallee → (arguments : List ℕ) → List TempInsn
-call_items destination (c.Function k) arguments = function_items destination k arguments
+call_items destination (c.Function k) arguments = function_call_items destination k arguments
 call_items destination (c.Builtin b) arguments = builtin_items destination b arguments
 
 -- ---- all instructions
@@ -96,20 +96,20 @@ abbrev pub return_items : Option TypedRegister → List TempInsn
 return_items None = i.Return false ∷ []
 return_items (Some value) = i.ToFixed Value (temp_of value.register) ∷ i.Return true ∷ []
 
-abbrev pub insn_items : VmInsn → List TempInsn
-insn_items (vm.LoadConstant ty d word) = constant_items (temp_of d) word
-insn_items (vm.LoadAddress d place plus) = i.ObjectAddress (temp_of d) place plus ∷ []
-insn_items (vm.Load ty d pointer plus) = load_items ty (temp_of d) (temp_of pointer) plus
-insn_items (vm.Store ty pointer plus value) = store_items ty (temp_of pointer) plus (temp_of value)
-insn_items (vm.Copy to from size align) = copy_items align (temp_of to) (temp_of from) size
-insn_items (vm.Unary op ty d a) = unary_items op ty (temp_of d) (temp_of a)
-insn_items (vm.Binary op ty d a b) = binary_items op ty (temp_of d) (temp_of a) (temp_of b)
-insn_items (vm.Shift op ty d a count) = shift_items op ty (temp_of d) (temp_of a) (temp_of count)
-insn_items (vm.Convert from to d a) = convert_items from to (temp_of d) (temp_of a)
-insn_items (vm.Compare op ty d a b) = compare_items op ty (temp_of d) (temp_of a) (temp_of b)
-insn_items (vm.Branch op ty a block) = i.Branch (branch_op op) (temp_of a) block ∷ []
-insn_items (vm.Jump block) = i.Jump block ∷ []
-insn_items (vm.Call d callee arguments) = call_items d callee arguments
-insn_items (vm.Return value) = return_items value
-insn_items vm.Mark = i.Mark ∷ []
-insn_items vm.Nop = []
+abbrev pub selected_insn : VmInsn → List TempInsn
+selected_insn (vm.LoadConstant ty d word) = constant_items (temp_of d) word
+selected_insn (vm.LoadAddress d place plus) = i.ObjectAddress (temp_of d) place plus ∷ []
+selected_insn (vm.Load ty d pointer plus) = load_items ty (temp_of d) (temp_of pointer) plus
+selected_insn (vm.Store ty pointer plus value) = store_items ty (temp_of pointer) plus (temp_of value)
+selected_insn (vm.Copy to from size align) = copy_items align (temp_of to) (temp_of from) size
+selected_insn (vm.Unary op ty d a) = unary_items op ty (temp_of d) (temp_of a)
+selected_insn (vm.Binary op ty d a b) = binary_items op ty (temp_of d) (temp_of a) (temp_of b)
+selected_insn (vm.Shift op ty d a count) = shift_items op ty (temp_of d) (temp_of a) (temp_of count)
+selected_insn (vm.Convert from to d a) = convert_items from to (temp_of d) (temp_of a)
+selected_insn (vm.Compare op ty d a b) = compare_items op ty (temp_of d) (temp_of a) (temp_of b)
+selected_insn (vm.Branch op ty a block) = i.Branch (temp_branch op) (temp_of a) block ∷ []
+selected_insn (vm.Jump block) = i.Jump block ∷ []
+selected_insn (vm.Call d callee arguments) = call_items d callee arguments
+selected_insn (vm.Return value) = return_items value
+selected_insn vm.Mark = i.Mark ∷ []
+selected_insn vm.Nop = []

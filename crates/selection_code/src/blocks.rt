@@ -4,7 +4,7 @@ ghost use Rattle.std.specs.Prelude.{◌≡◌, ◌-◌, ◌^◌, ◌<◌, All, �
 ghost use Rattle.suifvm_ir.specs.Functions.{AllInsns};
 ghost use Rattle.selection_code.specs.Functions as functions;
 ghost use Rattle.selection_code.specs.Fields.{HasFields, HasNumbers};
-ghost use Rattle.value_tests.specs.Tests.{tested};
+ghost use Rattle.value_tests.specs.Tests.{tested_block};
 
 use crate::calls::put_parameters;
 use crate::instructions::put_insn;
@@ -19,7 +19,7 @@ use value_tests::Known;
 #[tactic(auto, using(crate::proofs::Turns::insn_turn, crate::proofs::Turns::numbers_here, crate::proofs::Turns::numbers_left, crate::proofs::Turns::fields_turn))]
 fn put_insns(out: &mut Block<TempInsn>, block: &Block<VmInsn>) -> Result<(), AllocError>
     requires { All HasNumbers block.now }
-    ensures put { OnOk result (out.new ≡ out.old ++ functions.insns_items (tested block.now)) }
+    ensures put { OnOk result (out.new ≡ out.old ++ functions.selected_insns (tested_block block.now)) }
     ensures fields { OnOk result (All HasFields block.now) }
 {
     let mut known = Known::Nothing;
@@ -39,7 +39,7 @@ fn block_code(
 ) -> Result<Block<TempInsn>, AllocError>
     requires few { params < 2 ^ 32 - 4 }
     requires numbers { All HasNumbers block.now }
-    ensures put { IfOk result (λ code. code ≡ functions.parameter_items params ++ functions.insns_items (tested block.now)) }
+    ensures put { IfOk result (λ code. code ≡ functions.parameter_items params ++ functions.selected_insns (tested_block block.now)) }
     ensures fields { OnOk result (All HasFields block.now) }
 {
     let mut code = Block::new(alloc);
@@ -56,7 +56,7 @@ pub fn function_blocks(
 ) -> Result<Seq<Block<TempInsn>>, AllocError>
     requires few { params < 2 ^ 32 - 4 }
     requires numbers { AllInsns HasNumbers blocks.now }
-    ensures put { IfOk result (λ codes. codes ≡ functions.function_blocks params (map tested blocks.now)) }
+    ensures put { IfOk result (λ codes. codes ≡ functions.selected_blocks params (map tested_block blocks.now)) }
     ensures fields { OnOk result (AllInsns HasFields blocks.now) }
 {
     let mut codes = Seq::new(alloc);

@@ -113,7 +113,7 @@ fn put_function(
     requires few { length arguments.now < 2 ^ 32 }
     requires registers { All IsNumbered arguments.now }
     requires result { All IsNumbered (named_register destination) }
-    ensures { OnOk result (out.new ≡ out.old ++ code.function_items destination function arguments.now) }
+    ensures { OnOk result (out.new ≡ out.old ++ code.function_call_items destination function arguments.now) }
 {
     put_arguments(out, arguments)?;
     out.push(TempInsn::Call {
@@ -218,7 +218,7 @@ fn put_abort(out: &mut Block<TempInsn>) -> Result<(), AllocError>
 /// Puts the code of `exit`.
 fn put_exit(out: &mut Block<TempInsn>, arguments: &[u32]) -> Result<(), AllocError>
     requires { All IsNumbered arguments.now }
-    ensures { OnOk result (out.new ≡ out.old ++ code.exit_items arguments.now) }
+    ensures { OnOk result (out.new ≡ out.old ++ code.exit_call_items arguments.now) }
 {
     match arguments {
         [] => Ok(()),

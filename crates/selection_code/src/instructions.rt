@@ -3,7 +3,7 @@
 ghost use Rattle.std.specs.Prelude.{◌≡◌, ◌++◌, ◌-◌, ◌^◌, OnOk};
 ghost use Rattle.selection_code.specs.Instructions as code;
 ghost use Rattle.selection_code.specs.Fields.{HasFields, HasNumbers};
-ghost use Rattle.value_tests.specs.Tests.{seen};
+ghost use Rattle.value_tests.specs.Tests.{tested_insn};
 ghost use Rattle.value_tests.specs.model.Registers.{KnownIsBelow};
 
 use crate::calls::{put_call, put_return};
@@ -29,7 +29,7 @@ pub(crate) fn put_insn(
 ) -> Result<(), AllocError>
     requires numbers { HasNumbers insn.now }
     requires known { KnownIsBelow (2 ^ 32 - 4) known }
-    ensures put { OnOk result (out.new ≡ out.old ++ code.insn_items (seen known insn.now)) }
+    ensures put { OnOk result (out.new ≡ out.old ++ code.selected_insn (tested_insn known insn.now)) }
     ensures fields { OnOk result (HasFields insn.now) }
 {
     match insn {

@@ -8,9 +8,9 @@ use Rattle.suifvm_ir.specs.Functions.{EndsLate, count_of, edge_count}
 use Rattle.suifvm_ir.specs.Cost.{insn_cost}
 use Rattle.temp_ir.specs.declared.insn.TempInsn.{TempInsn}
 use Rattle.temp_ir.specs.Insns.{targets_of, flows_on_of}
-use Rattle.temp_ir.specs.Cost.{is_call, call_count}
-use Rattle.selection_code.specs.Instructions.{insn_items}
-use Rattle.selection_code.specs.Functions.{insns_items, parameter_items, function_blocks}
+use Rattle.temp_ir.specs.Cost.{makes_call, call_count}
+use Rattle.selection_code.specs.Instructions.{selected_insn}
+use Rattle.selection_code.specs.Functions.{selected_insns, parameter_items, selected_blocks}
 use Rattle.selection_shapes.proofs.Lists.{all_first, all_rest}
 use Rattle.selection_shapes.proofs.Plain.{are_plain, takes_plain}
 use Rattle.selection_costs.specs.Costs.{CodeCostsLittle}
@@ -18,15 +18,15 @@ use Rattle.selection_costs.proofs.Lengths.{insn_short, length-take_items}
 use Rattle.selection_costs.proofs.Calls.{calls-append, insn_calls, takes_calls}
 use Rattle.selection_costs.proofs.Edges.{edges, vm_edges, block_edges}
 
-insns_cost : (insns : List VmInsn) → 24 * length (insns_items insns) + 160 * count_by is_call (insns_items insns) ≤ sum_by insn_cost insns
+insns_cost : (insns : List VmInsn) → 24 * length (selected_insns insns) + 160 * count_by makes_call (selected_insns insns) ≤ sum_by insn_cost insns
 insns_cost [] = omega arith
 insns_cost (y ∷ insns) =
-    omega (arith, length-append (insn_items y) (insns_items insns), calls-append (insn_items y) (insns_items insns), insn_short y, insn_calls y, insns_cost insns, sum_by-cons insn_cost y insns)
+    omega (arith, length-append (selected_insn y) (selected_insns insns), calls-append (selected_insn y) (selected_insns insns), insn_short y, insn_calls y, insns_cost insns, sum_by-cons insn_cost y insns)
 
 -- ---- blocks
 
 abbrev block_bulk : List TempInsn → ℕ
-block_bulk xs = 24 * length xs + 160 * count_by is_call xs + 536 * edges xs
+block_bulk xs = 24 * length xs + 160 * count_by makes_call xs + 536 * edges xs
 
 abbrev bulk_of : List (List TempInsn) → ℕ
 bulk_of blocks = 24 * count_of blocks + 160 * call_count blocks + 536 * edge_count targets_of flows_on_of blocks
@@ -39,7 +39,7 @@ bulk_more xs blocks =
     omega (
       arith,
       sum_by-cons (λ (block : List TempInsn). length block) xs blocks,
-      sum_by-cons (λ (block : List TempInsn). count_by is_call block) xs blocks,
+      sum_by-cons (λ (block : List TempInsn). count_by makes_call block) xs blocks,
       sum_by-cons (λ (block : List TempInsn). edges block) xs blocks,
     )
 
@@ -48,16 +48,16 @@ cost_more insns blocks =
     omega (arith, sum_by-cons (λ (block : List VmInsn). sum_by insn_cost block) insns blocks, sum_by-cons (λ (block : List VmInsn). vm_edges block) insns blocks)
 
 block_cost : (before : List TempInsn) (insns : List VmInsn) → are_plain before ≡ true → EndsLate vm.targets_of vm.flows_on_of insns →
-    block_bulk (before ++ insns_items insns) ≤ 24 * length before + 160 * count_by is_call before + (sum_by insn_cost insns + 536 * vm_edges insns)
+    block_bulk (before ++ selected_insns insns) ≤ 24 * length before + 160 * count_by makes_call before + (sum_by insn_cost insns + 536 * vm_edges insns)
 block_cost before insns p late =
-    omega (arith, length-append before (insns_items insns), calls-append before (insns_items insns), insns_cost insns, block_edges insns before late p)
+    omega (arith, length-append before (selected_insns insns), calls-append before (selected_insns insns), insns_cost insns, block_edges insns before late p)
 
-blocks_cost : (blocks : List (List VmInsn)) → All (EndsLate vm.targets_of vm.flows_on_of) blocks → bulk_of (map insns_items blocks) ≤ cost_of blocks
+blocks_cost : (blocks : List (List VmInsn)) → All (EndsLate vm.targets_of vm.flows_on_of) blocks → bulk_of (map selected_insns blocks) ≤ cost_of blocks
 blocks_cost [] h = omega arith
 blocks_cost (insns ∷ blocks) h =
     omega (
       arith,
-      bulk_more (insns_items insns) (map insns_items blocks),
+      bulk_more (selected_insns insns) (map selected_insns blocks),
       cost_more insns blocks,
       block_cost [] insns refl (all_first (EndsLate vm.targets_of vm.flows_on_of) insns blocks h),
       blocks_cost blocks (all_rest (EndsLate vm.targets_of vm.flows_on_of) insns blocks h),
@@ -65,12 +65,12 @@ blocks_cost (insns ∷ blocks) h =
 
 -- ---- functions
 
-function_cost : (params : ℕ) (blocks : List (List VmInsn)) → All (EndsLate vm.targets_of vm.flows_on_of) blocks → bulk_of (function_blocks params blocks) ≤ 24 * params + cost_of blocks
+function_cost : (params : ℕ) (blocks : List (List VmInsn)) → All (EndsLate vm.targets_of vm.flows_on_of) blocks → bulk_of (selected_blocks params blocks) ≤ 24 * params + cost_of blocks
 function_cost params [] h = omega arith
 function_cost params (insns ∷ blocks) h =
     omega (
       arith,
-      bulk_more (parameter_items params ++ insns_items insns) (map insns_items blocks),
+      bulk_more (parameter_items params ++ selected_insns insns) (map selected_insns blocks),
       cost_more insns blocks,
       block_cost (parameter_items params) insns (takes_plain 0 params) (all_first (EndsLate vm.targets_of vm.flows_on_of) insns blocks h),
       length-take_items 0 params,

@@ -9,9 +9,9 @@ use Rattle.suifvm_ir.specs.Functions.{front_of, IsStraight, EndsLate, successors
 use Rattle.temp_ir.specs.declared.insn.TempInsn.{TempInsn}
 use Rattle.temp_ir.specs.declared.insn.TempInsn.TheVariants as i
 use Rattle.temp_ir.specs.Insns.{targets_of, flows_on_of}
-use Rattle.alpha_forms.specs.Operations.{branch_op}
-use Rattle.selection_code.specs.Instructions.{temp_of, insn_items}
-use Rattle.selection_code.specs.Functions.{insns_items}
+use Rattle.alpha_forms.specs.Operations.{temp_branch}
+use Rattle.selection_code.specs.Instructions.{temp_of, selected_insn}
+use Rattle.selection_code.specs.Functions.{selected_insns}
 use Rattle.selection_shapes.proofs.Lists.{both, all_first, all_rest}
 use Rattle.selection_shapes.proofs.Plain.{is_plain, are_plain, plain-append}
 use Rattle.selection_shapes.proofs.Shaped.{front_more, last_more, last_push, straight_plain, plain_is}
@@ -44,10 +44,10 @@ plain_edges (z ∷ y ∷ zs) e =
 -- ---- the last instruction
 
 module _ (before : List TempInsn) (p : are_plain before ≡ true) where
-  straight_last : (y : VmInsn) → IsStraight vm.targets_of vm.flows_on_of y → edges (before ++ insn_items y) ≡ 1
-  straight_last y s = plain_edges (before ++ insn_items y) (plain-append before (insn_items y) p (straight_plain y s))
+  straight_last : (y : VmInsn) → IsStraight vm.targets_of vm.flows_on_of y → edges (before ++ selected_insn y) ≡ 1
+  straight_last y s = plain_edges (before ++ selected_insn y) (plain-append before (selected_insn y) p (straight_plain y s))
 
-  pub last_edges : (y : VmInsn) → edges (before ++ insn_items y) ≡ vm_edges (y ∷ [])
+  pub last_edges : (y : VmInsn) → edges (before ++ selected_insn y) ≡ vm_edges (y ∷ [])
   unfolding edges_after
   last_edges (x.LoadConstant ty d word) = straight_last (x.LoadConstant ty d word) (refl, refl)
   last_edges (x.LoadAddress d place plus) = straight_last (x.LoadAddress d place plus) (refl, refl)
@@ -59,7 +59,7 @@ module _ (before : List TempInsn) (p : are_plain before ≡ true) where
   last_edges (x.Shift op ty d a b) = straight_last (x.Shift op ty d a b) (refl, refl)
   last_edges (x.Convert from to d a) = straight_last (x.Convert from to d a) (refl, refl)
   last_edges (x.Compare op ty d a b) = straight_last (x.Compare op ty d a b) (refl, refl)
-  last_edges (x.Branch op ty a block) = ap edges_after (last_push before (i.Branch (branch_op op) (temp_of a) block))
+  last_edges (x.Branch op ty a block) = ap edges_after (last_push before (i.Branch (temp_branch op) (temp_of a) block))
   last_edges (x.Jump block) = ap edges_after (last_push before (i.Jump block))
   last_edges (x.Call d c arguments) = straight_last (x.Call d c arguments) (refl, refl)
   last_edges (x.Return None) = ap edges_after (last_push before (i.Return false))
@@ -71,13 +71,13 @@ module _ (before : List TempInsn) (p : are_plain before ≡ true) where
 -- ---- blocks
 
 pub block_edges : (insns : List VmInsn) (before : List TempInsn) → EndsLate vm.targets_of vm.flows_on_of insns → are_plain before ≡ true →
-    edges (before ++ insns_items insns) ≡ vm_edges insns
+    edges (before ++ selected_insns insns) ≡ vm_edges insns
 unfolding vm_edges_after
 block_edges [] before h p = ap edges (append-nil before) ∙ plain_edges before p
-block_edges (y ∷ []) before h p = ap (λ l. edges (before ++ l)) (append-nil (insn_items y)) ∙ last_edges before p y
+block_edges (y ∷ []) before h p = ap (λ l. edges (before ++ l)) (append-nil (selected_insn y)) ∙ last_edges before p y
 block_edges (y ∷ z ∷ insns) before h p =
     let g : All (IsStraight vm.targets_of vm.flows_on_of) (y ∷ front_of (z ∷ insns)) = subst (All (IsStraight vm.targets_of vm.flows_on_of)) (front_more y z insns) h in
-    ap edges (sym (append_assoc before (insn_items y) (insns_items (z ∷ insns))))
-    ∙ block_edges (z ∷ insns) (before ++ insn_items y) (all_rest (IsStraight vm.targets_of vm.flows_on_of) y (front_of (z ∷ insns)) g)
-    (plain-append before (insn_items y) p (straight_plain y (all_first (IsStraight vm.targets_of vm.flows_on_of) y (front_of (z ∷ insns)) g)))
+    ap edges (sym (append_assoc before (selected_insn y) (selected_insns (z ∷ insns))))
+    ∙ block_edges (z ∷ insns) (before ++ selected_insn y) (all_rest (IsStraight vm.targets_of vm.flows_on_of) y (front_of (z ∷ insns)) g)
+    (plain-append before (selected_insn y) p (straight_plain y (all_first (IsStraight vm.targets_of vm.flows_on_of) y (front_of (z ∷ insns)) g)))
     ∙ ap vm_edges_after (sym (last_more y z insns))

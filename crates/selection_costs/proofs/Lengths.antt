@@ -4,7 +4,7 @@ use Rattle.std.specs.Prelude.{if◌then◌else◌}
 use Rattle.std.proofs.lemmas.List.{length-map}
 use Rattle.std.proofs.lemmas.List.Sums.{sum_by-cons}
 use Rattle.std.specs.Int.{w16}
-use Rattle.alpha_isa.specs.Arithmetic.{fits, word_from}
+use Rattle.alpha_isa.specs.Arithmetic.{fits_signed, word_from}
 use Rattle.suifvm_ir.specs.declared.types.VmType.{VmType}
 use Rattle.suifvm_ir.specs.declared.types.MemoryType.{MemoryType}
 use Rattle.suifvm_ir.specs.declared.types.MemoryType.TheVariants.{S8, U8, S16, U16, S32, U32, S64, U64, P64}
@@ -34,8 +34,8 @@ use Rattle.alpha_forms.specs.Accesses.{near_load, near_store, far_items, load_by
 use Rattle.alpha_forms.specs.Operations.{binary_items, left_items, logical_right_items, shift_items, compare_items, is_narrow}
 use Rattle.alpha_forms.proofs.Making as making
 use Rattle.alpha_copies.proofs.Copying.{copies_short}
-use Rattle.selection_code.specs.Instructions.{temp_of, pass_items, take_items, result_items, byte_items, put_char_items, exit_items, builtin_items, call_items, return_items, insn_items}
-use Rattle.selection_code.specs.Functions.{insns_items, parameter_items, in_front, function_blocks}
+use Rattle.selection_code.specs.Instructions.{temp_of, pass_items, take_items, result_items, byte_items, put_char_items, exit_call_items, builtin_items, call_items, return_items, selected_insn}
+use Rattle.selection_code.specs.Functions.{selected_insns, parameter_items, in_front, selected_blocks}
 use Rattle.selection_costs.specs.Costs.{CodeIsShort}
 
 -- ---- instructions
@@ -55,14 +55,14 @@ far_short : (p : ℕ) (plus : ℤ) → length (far_items p plus) ≤ 6
 far_short p plus = omega (arith, length-append (constant_items 0 (word_from plus)) (Operate Addq 0 (source.Temp p) (operand.Temp 0) ∷ []), making.short 0 (word_from plus))
 
 load_short : (ty : MemoryType) (d p : ℕ) (plus : ℤ) → length (load_items ty d p plus) ≤ 8
-load_short ty d p plus = by_fit (fits w16 plus)
+load_short ty d p plus = by_fit (fits_signed w16 plus)
   where
     by_fit : (b : Bool) → length (load_by ty d p plus (if b then Some plus else None)) ≤ 8
     by_fit true = omega (arith, near_short ty d p plus)
     by_fit false = omega (arith, length-append (far_items p plus) (near_load ty d 0 (pos 0)), far_short p plus, near_short ty d 0 (pos 0))
 
 store_short : (ty : MemoryType) (p : ℕ) (plus : ℤ) (a : ℕ) → length (store_items ty p plus a) ≤ 8
-store_short ty p plus a = by_fit (fits w16 plus)
+store_short ty p plus a = by_fit (fits_signed w16 plus)
   where
     by_fit : (b : Bool) → length (store_by ty p plus a (if b then Some plus else None)) ≤ 8
     by_fit true = omega arith
@@ -113,7 +113,7 @@ put_char_short : (d : Option ℕ) (arguments : List ℕ) → length (put_char_it
 put_char_short d [] = omega arith
 put_char_short d (a ∷ arguments) = omega (arith, byte_short d a)
 
-exit_short : (arguments : List ℕ) → length (exit_items arguments) ≤ 4
+exit_short : (arguments : List ℕ) → length (exit_call_items arguments) ≤ 4
 exit_short [] = omega arith
 exit_short (a ∷ arguments) = omega arith
 
@@ -131,7 +131,7 @@ return_short : (value : Option TypedRegister) → length (return_items value) �
 return_short None = omega arith
 return_short (Some value) = omega arith
 
-pub insn_short : (y : VmInsn) → length (insn_items y) ≤ most_insns y
+pub insn_short : (y : VmInsn) → length (selected_insn y) ≤ most_insns y
 insn_short (x.LoadConstant ty d word) = omega (arith, making.short (temp_of d) word)
 insn_short (x.LoadAddress d place plus) = omega arith
 insn_short (x.Load ty d p plus) = omega (arith, load_short ty (temp_of d) (temp_of p) plus)
@@ -180,18 +180,18 @@ most_short x.Nop = omega arith
 
 -- ---- blocks and functions
 
-insns_short : (insns : List VmInsn) → length (insns_items insns) ≤ 8 * length insns + 4 * sum_by weight_of insns
+insns_short : (insns : List VmInsn) → length (selected_insns insns) ≤ 8 * length insns + 4 * sum_by weight_of insns
 insns_short [] = omega arith
-insns_short (y ∷ insns) = omega (arith, length-append (insn_items y) (insns_items insns), insn_short y, most_short y, insns_short insns, sum_by-cons weight_of y insns)
+insns_short (y ∷ insns) = omega (arith, length-append (selected_insn y) (selected_insns insns), insn_short y, most_short y, insns_short insns, sum_by-cons weight_of y insns)
 
-blocks_short : (blocks : List (List VmInsn)) → count_of (map insns_items blocks) ≤ 8 * count_of blocks + 4 * sum_by (λ block. sum_by weight_of block) blocks
+blocks_short : (blocks : List (List VmInsn)) → count_of (map selected_insns blocks) ≤ 8 * count_of blocks + 4 * sum_by (λ block. sum_by weight_of block) blocks
 blocks_short [] = omega arith
 blocks_short (block ∷ blocks) =
     omega (
       arith,
       insns_short block,
       blocks_short blocks,
-      sum_by-cons (λ (b : List TempInsn). length b) (insns_items block) (map insns_items blocks),
+      sum_by-cons (λ (b : List TempInsn). length b) (selected_insns block) (map selected_insns blocks),
       sum_by-cons (λ (b : List VmInsn). length b) block blocks,
       sum_by-cons (λ b. sum_by weight_of b) block blocks,
     )
@@ -212,8 +212,8 @@ length-take_items k (suc count) = ap suc (length-take_items (suc k) count)
 pub code_short : CodeIsShort
 code_short f = record {
   blocks = same;
-  count = omega (arith, same, front_short (parameter_items f.params) (map insns_items f.blocks), blocks_short f.blocks, length-take_items 0 f.params);
+  count = omega (arith, same, front_short (parameter_items f.params) (map selected_insns f.blocks), blocks_short f.blocks, length-take_items 0 f.params);
 }
   where
-    same : length (function_blocks f.params f.blocks) ≡ length f.blocks
-    same = length-front (parameter_items f.params) (map insns_items f.blocks) ∙ length-map f.blocks insns_items
+    same : length (selected_blocks f.params f.blocks) ≡ length f.blocks
+    same = length-front (parameter_items f.params) (map selected_insns f.blocks) ∙ length-map f.blocks selected_insns

@@ -5,13 +5,13 @@ use Rattle.suifvm_ir.specs.Programs.{VmFunction, function_size}
 use Rattle.suifvm_ir.specs.Cost.{cost}
 use Rattle.temp_ir.specs.Programs.{TempFn}
 use Rattle.temp_ir.specs.Cost.{bulk_when_split}
-use Rattle.selection_code.specs.Functions.{function_blocks}
+use Rattle.selection_code.specs.Functions.{selected_blocks}
 
 -- Five times the blocks of a selected function, and its instructions, are at most 13 times the size of the function
 -- that was given; it has as many blocks
 pub record IsShort (f : VmFunction) : Type 0 where
-  pub blocks : length (function_blocks f.params f.blocks) ≡ length f.blocks
-  pub count : 5 * length (function_blocks f.params f.blocks) + count_of (function_blocks f.params f.blocks)
+  pub blocks : length (selected_blocks f.params f.blocks) ≡ length f.blocks
+  pub count : 5 * length (selected_blocks f.params f.blocks) + count_of (selected_blocks f.params f.blocks)
       ≤ 13 * function_size f
 
 abbrev pub CodeIsShort : Type 0
@@ -21,4 +21,4 @@ CodeIsShort = (f : VmFunction) → IsShort f
 -- the function that was given
 abbrev pub CodeCostsLittle : Type 0
 CodeCostsLittle =
-    (f : VmFunction) (g : TempFn) → g.blocks ≡ function_blocks f.params f.blocks → bulk_when_split g ≤ cost f
+    (f : VmFunction) (g : TempFn) → g.blocks ≡ selected_blocks f.params f.blocks → bulk_when_split g ≤ cost f

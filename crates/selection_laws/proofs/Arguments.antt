@@ -14,9 +14,9 @@ use Rattle.temp_ir.specs.declared.insn.TempInsn.{TempInsn}
 use Rattle.temp_ir.specs.declared.insn.TempInsn.TheVariants as i
 use Rattle.temp_ir.specs.Fixed.{register_number}
 use Rattle.temp_ir.specs.Fixed as fixed
-use Rattle.alloc_model.specs.Contents.{Content, Plain, Gives, unset}
+use Rattle.alloc_model.specs.Contents.{Content, Plain, Gives, unset_content}
 use Rattle.alloc_model.specs.Stores.{without, put, put_all, empty}
-use Rattle.alloc_model.specs.Effect.{Holder, Temp, Fixed, Incoming, Outgoing, holder_eq, argument_places, entry_holders, argument_answer, writes, fails, holders_read, holders_written, is_call, is_emptied, does, takes_turn}
+use Rattle.alloc_model.specs.Effect.{Holder, Temp, Fixed, Incoming, Outgoing, holder_eq, argument_places, entry_holders, argument_answer, writes, fails, holders_read, holders_written, calls_function, is_emptied, does, takes_turn}
 use Rattle.alloc_model.specs.Temporaries.{Temps}
 use Rattle.alpha_forms.specs.Straight.{NotStraight, goes_with, runs}
 use Rattle.alpha_forms.proofs.Runs.{without_plain}
@@ -37,7 +37,7 @@ pub record Wrote (widest own : ℕ) (x : TempInsn) (s : Temps) (o : Outer) (h : 
   pub holds : after h ≡ c
   pub kept : (k : Holder) → holder_eq k h ≡ false → after k ≡ s k
 
-pub wrote_one : (widest own : ℕ) (x : TempInsn) (s : Temps) (o : Outer) (h : Holder) (c : Content) → takes_turn x ≡ false → is_call x ≡ false → holders_written x ≡ h ∷ [] →
+pub wrote_one : (widest own : ℕ) (x : TempInsn) (s : Temps) (o : Outer) (h : Holder) (c : Content) → takes_turn x ≡ false → calls_function x ≡ false → holders_written x ≡ h ∷ [] →
     does widest x own (map s (holders_read x)) o ≡ Writes (c ∷ []) o → Wrote widest own x s o h c
 wrote_one widest own x s o h c turn call written act = record {
   after = put holder_eq h c (without (is_emptied x) s);
@@ -274,7 +274,7 @@ module _ (widest own : ℕ) (o : Outer) where
       other t (inr b) e = omega (arith, b, e)
 
   -- a register holds its argument, and what is past the arguments is unset
-  pub register_holds : (vs : List Value) (k j : ℕ) (s : Temps) → RegistersFrom s k vs → ((t : ℕ) → temp_of k + length vs ≤ t → s (Temp t) ≡ unset) →
+  pub register_holds : (vs : List Value) (k j : ℕ) (s : Temps) → RegistersFrom s k vs → ((t : ℕ) → temp_of k + length vs ≤ t → s (Temp t) ≡ unset_content) →
       s (Temp (temp_of (k + j))) ≡ Plain (slice_index_or vs j Unset)
   register_holds [] k j s h past = past (temp_of (k + j)) (omega arith)
   register_holds (v ∷ vs) k zero s h past = let same : k + 0 ≡ k = omega arith in ap (λ n. s (Temp (temp_of n))) same ∙ h.0

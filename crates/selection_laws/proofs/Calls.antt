@@ -9,7 +9,7 @@ use Rattle.mem_model.specs.declared.value.Value.TheVariants.{Word, Address, Unse
 use Rattle.mem_model.specs.World.{Meter, World, Rooms, enter_call, leave_call}
 use Rattle.mem_model.specs.Ending.{Ending, Done, IsDefined}
 use Rattle.machine_model.specs.Code.{Calls, Returns}
-use Rattle.machine_model.specs.Machine.{Frame, Over, world_of, begin_locals, end_locals, act_on, go_on, exec, resume, return_to, status_ending}
+use Rattle.machine_model.specs.Machine.{Frame, Over, whole_world, begin_locals, end_locals, act_on, go_on, exec, resume, return_to, status_ending}
 use Rattle.suifvm_ir.specs.declared.insn.VmCallee.TheVariants as callee
 use Rattle.suifvm_ir.specs.declared.insn.TypedRegister.{TypedRegister}
 use Rattle.suifvm_ir.specs.declared.insn.VmInsn.{VmInsn}
@@ -30,7 +30,7 @@ use Rattle.alloc_model.specs.Temporaries as alloc
 use Rattle.alpha_forms.specs.Straight.{After, runs}
 use Rattle.alpha_forms.specs.Registers.{IsHeldWord}
 use Rattle.selection_code.specs.Instructions.{temp_of, pass_items, take_items, result_items}
-use Rattle.selection_code.specs.Functions.{insns_items, parameter_items, function_blocks}
+use Rattle.selection_code.specs.Functions.{selected_insns, parameter_items, selected_blocks}
 use Rattle.selection_laws.proofs.Plain.{plain_code}
 use Rattle.selection_laws.proofs.Memories.{bytes_begins, bytes_ends}
 use Rattle.selection_laws.proofs.Machines.{next_place, Standing, next_standing, site_there, comes_then, Came, straight}
@@ -94,15 +94,15 @@ module _ (rooms : Rooms) (fs : List VmFunction) where
       by_block None there =
           absurd (lost rooms fs n (vm_conf rooms fs g 0 0 own (registers_of us) vs w) e (ap (site_in_function 0 0) (vm_number rooms fs g f number) ∙ ap (site_in_block 0 0) there) defined is)
       by_block (Some insns) there =
-          let widest = widest_call (function_blocks f.params f.blocks) in
+          let widest = widest_call (selected_blocks f.params f.blocks) in
           let entered : Entered widest own w.outer us = enters widest own w.outer us set in
-          let standing : Standing (function_blocks f.params f.blocks) 0 0 (parameter_items f.params ++ insns_items insns) =
-          record { place = record { before = []; there = first_block f.params f.blocks ∙ ap (option_map (λ l. parameter_items f.params ++ insns_items l)) there; here = refl }; flows = refl } in
+          let standing : Standing (selected_blocks f.params f.blocks) 0 0 (parameter_items f.params ++ selected_insns insns) =
+          record { place = record { before = []; there = first_block f.params f.blocks ∙ ap (option_map (λ l. parameter_items f.params ++ selected_insns l)) there; here = refl }; flows = refl } in
           let ran : runs widest (parameter_items f.params) own start w.outer ≡ After entered.after w.outer =
           ap (λ k. runs widest (take_items 0 k) own start w.outer) (sym count)
           ∙ ap (λ xs. runs widest xs own start w.outer) (sym (append_nil (take_items 0 (length us)))) ∙ entered.ran [] in
-          let c = subst (Came rooms (map plain_code fs) g 0 own ts w.meter (plain_code f) (temp_number rooms fs g f number) 0 start w.outer (insns_items insns)) ran
-          (straight rooms (map plain_code fs) g 0 own ts w.meter (plain_code f) (temp_number rooms fs g f number) (parameter_items f.params) (insns_items insns) 0 start w.outer standing) in
+          let c = subst (Came rooms (map plain_code fs) g 0 own ts w.meter (plain_code f) (temp_number rooms fs g f number) 0 start w.outer (selected_insns insns)) ran
+          (straight rooms (map plain_code fs) g 0 own ts w.meter (plain_code f) (temp_number rooms fs g f number) (parameter_items f.params) (selected_insns insns) 0 start w.outer standing) in
           comes_then rooms (map plain_code fs) (temp_conf rooms fs g 0 0 own start ts w) (temp_conf rooms fs g 0 c.place own entered.after ts w) (Over e) c.comes
           (ih g 0 0 c.place own (registers_of us) entered.after f insns vs ts w e
           (record {
@@ -123,8 +123,8 @@ module _ (rooms : Rooms) (fs : List VmFunction) where
 
     pub function_step : (d : Option ℕ) (k : ℕ) (arguments : List ℕ) (f2 : VmFunction) → slice_get fs k ≡ Some f2 → f2.params ≡ length arguments → Steps (x.Call d (callee.Function k) arguments)
     function_step d k arguments f2 number2 count h is =
-        turn_step rooms fs n ih g b at place own r s f y left vs ts w e h ordinary waits defined is (pass_items 0 arguments) z (result_items d ++ insns_items left) p.after parts refl refl
-        (ap (λ xs. runs (widest_call (function_blocks f.params f.blocks)) xs own s w.outer) (sym (append_nil (pass_items 0 arguments))) ∙ p.ran [])
+        turn_step rooms fs n ih g b at place own r s f y left vs ts w e h ordinary waits defined is (pass_items 0 arguments) z (result_items d ++ selected_insns left) p.after parts refl refl
+        (ap (λ xs. runs (widest_call (selected_blocks f.params f.blocks)) xs own s w.outer) (sym (append_nil (pass_items 0 arguments))) ∙ p.ran [])
         (λ m there st q. by_set (list_all is_set (map r arguments)) refl m there st q)
       where
         y : VmInsn
@@ -133,21 +133,21 @@ module _ (rooms : Rooms) (fs : List VmFunction) where
         z : TempInsn
         z = i.Call k (length arguments)
 
-        parts : insns_items (y ∷ left) ≡ pass_items 0 arguments ++ z ∷ (result_items d ++ insns_items left)
-        parts = append_assoc (pass_items 0 arguments) (z ∷ result_items d) (insns_items left)
+        parts : selected_insns (y ∷ left) ≡ pass_items 0 arguments ++ z ∷ (result_items d ++ selected_insns left)
+        parts = append_assoc (pass_items 0 arguments) (z ∷ result_items d) (selected_insns left)
 
-        whole : (h.standing.place.before ++ pass_items 0 arguments) ++ z ∷ (result_items d ++ insns_items left) ≡ h.standing.place.before ++ insns_items (y ∷ left)
-        whole = append_assoc h.standing.place.before (pass_items 0 arguments) (z ∷ (result_items d ++ insns_items left)) ∙ ap (λ l. h.standing.place.before ++ l) (sym parts)
+        whole : (h.standing.place.before ++ pass_items 0 arguments) ++ z ∷ (result_items d ++ selected_insns left) ≡ h.standing.place.before ++ selected_insns (y ∷ left)
+        whole = append_assoc h.standing.place.before (pass_items 0 arguments) (z ∷ (result_items d ++ selected_insns left)) ∙ ap (λ l. h.standing.place.before ++ l) (sym parts)
 
-        fits : 0 + length arguments ≤ widest_call (function_blocks f.params f.blocks)
+        fits : 0 + length arguments ≤ widest_call (selected_blocks f.params f.blocks)
         fits =
-            let one : length arguments ≤ widest_in (h.standing.place.before ++ insns_items (y ∷ left)) =
-            subst (λ l. length arguments ≤ widest_in l) whole (wide_in (h.standing.place.before ++ pass_items 0 arguments) z (result_items d ++ insns_items left)) in
-            let two = wide_among (function_blocks f.params f.blocks) b (h.standing.place.before ++ insns_items (y ∷ left)) h.standing.place.there in
+            let one : length arguments ≤ widest_in (h.standing.place.before ++ selected_insns (y ∷ left)) =
+            subst (λ l. length arguments ≤ widest_in l) whole (wide_in (h.standing.place.before ++ pass_items 0 arguments) z (result_items d ++ selected_insns left)) in
+            let two = wide_among (selected_blocks f.params f.blocks) b (h.standing.place.before ++ selected_insns (y ∷ left)) h.standing.place.there in
             omega (arith, one, two)
 
-        p : Passed (widest_call (function_blocks f.params f.blocks)) own w.outer s 0 arguments
-        p = passed (widest_call (function_blocks f.params f.blocks)) own w.outer arguments 0 s fits
+        p : Passed (widest_call (selected_blocks f.params f.blocks)) own w.outer s 0 arguments
+        p = passed (widest_call (selected_blocks f.params f.blocks)) own w.outer arguments 0 s fits
 
         read : map p.after (holders_read z) ≡ map Plain (map r arguments)
         read =
@@ -157,15 +157,15 @@ module _ (rooms : Rooms) (fs : List VmFunction) where
         entered_outer : (m : Meter) → IsOrdinary (begin_locals w.outer (sizes_in (slice_get (map code_of fs) k)))
         entered_outer m = record { memory = bytes_begins (sizes_in (slice_get (map code_of fs) k)) w.outer.memory ordinary.memory; input = ordinary.input }
 
-        by_set : (c : Bool) → list_all is_set (map r arguments) ≡ c → (m : Meter) (there : ℕ) → Standing (function_blocks f.params f.blocks) b there (z ∷ (result_items d ++ insns_items left)) →
+        by_set : (c : Bool) → list_all is_set (map r arguments) ≡ c → (m : Meter) (there : ℕ) → Standing (selected_blocks f.params f.blocks) b there (z ∷ (result_items d ++ selected_insns left)) →
             go_on (act_on Value Registers rooms (vm_code (map code_of fs)) (vm_conf rooms fs g b at own r vs w) m (insn_site y) (if c then Calls k (map r arguments) w.outer else fails w.outer)) (exec Value Registers rooms (vm_code (map code_of fs)) n) ≡ Over e →
-            NextReaches rooms fs (act_on Content Temps rooms (temp_code (map plain_code fs)) (temp_conf rooms fs g b there own p.after ts w) m (temp_site (widest_call (function_blocks f.params f.blocks)) z) (Calls k (map p.after (holders_read z)) w.outer)) e
-        by_set false c m there st q = absurd (never_undefined (world_of w.outer m) _ e q defined)
+            NextReaches rooms fs (act_on Content Temps rooms (temp_code (map plain_code fs)) (temp_conf rooms fs g b there own p.after ts w) m (temp_site (widest_call (selected_blocks f.params f.blocks)) z) (Calls k (map p.after (holders_read z)) w.outer)) e
+        by_set false c m there st q = absurd (never_undefined (whole_world w.outer m) _ e q defined)
         by_set true c m there st q =
             let frame : Frame Temps = record { point = record { function = g; block = b; at = there }; own = own; store = p.after } in
-            let u : World = world_of (begin_locals w.outer (sizes_in (slice_get (map code_of fs) k))) (enter_call rooms k m) in
-            subst (λ cs. NextReaches rooms fs (act_on Content Temps rooms (temp_code (map plain_code fs)) (temp_conf rooms fs g b there own p.after ts w) m (temp_site (widest_call (function_blocks f.params f.blocks)) z) (Calls k cs w.outer)) e) (sym read)
-            (subst (λ sizes. Reaches rooms fs (temp_conf rooms fs k 0 0 (length w.outer.memory) (put_all holder_eq (entry_holders (length (map Plain (map r arguments)))) (map Plain (map r arguments)) empty) (frame ∷ ts) (world_of (begin_locals w.outer sizes) (enter_call rooms k m))) e)
+            let u : World = whole_world (begin_locals w.outer (sizes_in (slice_get (map code_of fs) k))) (enter_call rooms k m) in
+            subst (λ cs. NextReaches rooms fs (act_on Content Temps rooms (temp_code (map plain_code fs)) (temp_conf rooms fs g b there own p.after ts w) m (temp_site (widest_call (selected_blocks f.params f.blocks)) z) (Calls k cs w.outer)) e) (sym read)
+            (subst (λ sizes. Reaches rooms fs (temp_conf rooms fs k 0 0 (length w.outer.memory) (put_all holder_eq (entry_holders (length (map Plain (map r arguments)))) (map Plain (map r arguments)) empty) (frame ∷ ts) (whole_world (begin_locals w.outer sizes) (enter_call rooms k m))) e)
             (same_sizes k f2 number2)
             (enter_function n ih k (length w.outer.memory) (map r arguments) f2 (record { point = record { function = g; block = b; at = at }; own = own; store = r } ∷ vs) (frame ∷ ts) u e number2 (length-map arguments r ∙ sym count)
             (all_set (map r arguments) c) (registers_held r arguments h.held) (entered_outer m)
@@ -175,14 +175,14 @@ module _ (rooms : Rooms) (fs : List VmFunction) where
 
     -- to the caller, or with the status of the run
     returned : (us : List Value) (there : ℕ) (number : ℕ) → IsHeldWord (first_or_unset us) → slice_get fs g ≡ Some f → (vs : List (Frame Registers)) (ts : List (Frame Temps)) → Waits rooms fs vs ts →
-        go_on (return_to Value Registers rooms (vm_code (map code_of fs)) number us (world_of (end_locals w.outer own (length (sizes_in (slice_get (map code_of fs) g)))) (leave_call rooms g w.meter)) vs) (exec Value Registers rooms (vm_code (map code_of fs)) n) ≡ Over e →
-        (at2 : ℕ) → NextReaches rooms fs (return_to Content Temps rooms (temp_code (map plain_code fs)) at2 (map Plain us) (world_of (end_locals w.outer own (length (alloc.sizes_in (slice_get (map plain_code fs) g)))) (leave_call rooms g w.meter)) ts) e
+        go_on (return_to Value Registers rooms (vm_code (map code_of fs)) number us (whole_world (end_locals w.outer own (length (sizes_in (slice_get (map code_of fs) g)))) (leave_call rooms g w.meter)) vs) (exec Value Registers rooms (vm_code (map code_of fs)) n) ≡ Over e →
+        (at2 : ℕ) → NextReaches rooms fs (return_to Content Temps rooms (temp_code (map plain_code fs)) at2 (map Plain us) (whole_world (end_locals w.outer own (length (alloc.sizes_in (slice_get (map plain_code fs) g)))) (leave_call rooms g w.meter)) ts) e
     returned us there number held is vs ts wait q at2 =
-        subst (λ sizes. NextReaches rooms fs (return_to Content Temps rooms (temp_code (map plain_code fs)) at2 (map Plain us) (world_of (end_locals w.outer own (length sizes)) (leave_call rooms g w.meter)) ts) e) (same_sizes g f is)
+        subst (λ sizes. NextReaches rooms fs (return_to Content Temps rooms (temp_code (map plain_code fs)) at2 (map Plain us) (whole_world (end_locals w.outer own (length sizes)) (leave_call rooms g w.meter)) ts) e) (same_sizes g f is)
         (by_waits vs ts wait q)
       where
         u : World
-        u = world_of (end_locals w.outer own (length (sizes_in (slice_get (map code_of fs) g)))) (leave_call rooms g w.meter)
+        u = whole_world (end_locals w.outer own (length (sizes_in (slice_get (map code_of fs) g)))) (leave_call rooms g w.meter)
 
         good : IsOrdinary u.outer
         good = record { memory = bytes_ends (length (sizes_in (slice_get (map code_of fs) g))) w.outer.memory own ordinary.memory; input = ordinary.input }
@@ -209,18 +209,18 @@ module _ (rooms : Rooms) (fs : List VmFunction) where
             let call : TempInsn = i.Call k (length arguments) in
             let back = ap (λ o. go_on (resume Value Registers rooms (vm_code (map code_of fs)) a vs u us o) (exec Value Registers rooms (vm_code (map code_of fs)) n)) (vm_site rooms fs g2 b2 place2 f2 y left2 number2 placed2) in
             subst (λ o. NextReaches rooms fs (resume Content Temps rooms (temp_code (map plain_code fs)) c ts u (map Plain us) o) e)
-            (sym (site_there (map plain_code fs) g2 b2 (plain_code f2) (temp_number rooms fs g2 f2 number2) there2 call (result_items d ++ insns_items left2) standing2))
+            (sym (site_there (map plain_code fs) g2 b2 (plain_code f2) (temp_number rooms fs g2 f2 number2) there2 call (result_items d ++ selected_insns left2) standing2))
             (result_tail rooms fs n ih g2 b2 (suc place2) (suc there2) own2 r2 (put holder_eq (Fixed 0) (stores.first_or_unset (map Plain us)) (without (is_emptied call) s2)) f2 left2 vs ts u e d us number2
-            (next_place f2.blocks b2 place2 y left2 placed2) (next_standing (function_blocks f2.params f2.blocks) b2 there2 call (result_items d ++ insns_items left2) refl standing2) holds2 held2 good waits2 defined (first_plain us) held
+            (next_place f2.blocks b2 place2 y left2 placed2) (next_standing (selected_blocks f2.params f2.blocks) b2 there2 call (result_items d ++ selected_insns left2) refl standing2) holds2 held2 good waits2 defined (first_plain us) held
             (sym back ∙ z))
 
     pub return_step : (value : Option TypedRegister) → Steps (x.Return value)
     return_step None h is =
-        last_step rooms fs n ih g b at place own r s f (x.Return None) left vs ts w e h ordinary waits defined is [] (i.Return false) (insns_items left) s refl refl refl
+        last_step rooms fs n ih g b at place own r s f (x.Return None) left vs ts w e h ordinary waits defined is [] (i.Return false) (selected_insns left) s refl refl refl
         (λ there st. returned [] there _ tt h.number vs ts waits
         (vm_acts rooms fs n ih g b at place own r s f (x.Return None) left vs ts w e h ordinary waits defined is (Returns [] w.outer) refl refl) _)
     return_step (Some value) h is =
-        last_step rooms fs n ih g b at place own r s f (x.Return (Some value)) left vs ts w e h ordinary waits defined is (i.ToFixed fixed.Value (temp_of value.register) ∷ []) (i.Return true) (insns_items left) t refl refl refl
+        last_step rooms fs n ih g b at place own r s f (x.Return (Some value)) left vs ts w e h ordinary waits defined is (i.ToFixed fixed.Value (temp_of value.register) ∷ []) (i.Return true) (selected_insns left) t refl refl refl
         (λ there st. by_type (is_value_of value.ty (r value.register)) there
         (vm_acts rooms fs n ih g b at place own r s f (x.Return (Some value)) left vs ts w e h ordinary waits defined is (return_act (Some value) (r value.register ∷ []) w.outer) refl refl))
       where
@@ -229,8 +229,8 @@ module _ (rooms : Rooms) (fs : List VmFunction) where
 
         by_type : (c : Bool) (there : ℕ) →
             go_on (act_on Value Registers rooms (vm_code (map code_of fs)) (vm_conf rooms fs g b at own r vs w) w.meter (insn_site (x.Return (Some value))) (if c then Returns (r value.register ∷ []) w.outer else fails w.outer)) (exec Value Registers rooms (vm_code (map code_of fs)) n) ≡ Over e →
-            NextReaches rooms fs (act_on Content Temps rooms (temp_code (map plain_code fs)) (temp_conf rooms fs g b there own t ts w) w.meter (temp_site (widest_call (function_blocks f.params f.blocks)) (i.Return true)) (Returns (map t (holders_read (i.Return true))) w.outer)) e
+            NextReaches rooms fs (act_on Content Temps rooms (temp_code (map plain_code fs)) (temp_conf rooms fs g b there own t ts w) w.meter (temp_site (widest_call (selected_blocks f.params f.blocks)) (i.Return true)) (Returns (map t (holders_read (i.Return true))) w.outer)) e
         by_type false there q = absurd (never_undefined w _ e q defined)
         by_type true there q =
-            subst (λ c. NextReaches rooms fs (act_on Content Temps rooms (temp_code (map plain_code fs)) (temp_conf rooms fs g b there own t ts w) w.meter (temp_site (widest_call (function_blocks f.params f.blocks)) (i.Return true)) (Returns (c ∷ []) w.outer)) e) (sym (h.holds value.register))
+            subst (λ c. NextReaches rooms fs (act_on Content Temps rooms (temp_code (map plain_code fs)) (temp_conf rooms fs g b there own t ts w) w.meter (temp_site (widest_call (selected_blocks f.params f.blocks)) (i.Return true)) (Returns (c ∷ []) w.outer)) e) (sym (h.holds value.register))
             (returned (r value.register ∷ []) there _ (h.held value.register) h.number vs ts waits q _)

@@ -9,7 +9,7 @@ use Rattle.std.proofs.lemmas.Option.{same_Some, slice_get-map}
 use Rattle.mem_model.specs.declared.value.Value.{Value}
 use Rattle.mem_model.specs.World.{World, Rooms, enter_call}
 use Rattle.mem_model.specs.Ending.{Ending, IsDefined}
-use Rattle.machine_model.specs.Machine.{Frame, Over, world_of, begin_locals, exec, start}
+use Rattle.machine_model.specs.Machine.{Frame, Over, whole_world, begin_locals, exec, start_config}
 use Rattle.machine_model.proofs.Runs.{one_ending}
 use Rattle.suifvm_ir.specs.declared.insn.VmBuiltin.TheVariants.{PutChar, GetChar, Abort, Exit}
 use Rattle.suifvm_ir.specs.declared.insn.VmCallee.{VmCallee}
@@ -123,7 +123,7 @@ module _ (rooms : Rooms) (fs : List VmFunction) (globals : List DataObject) (law
   run_ends main w steps e none_ ordinary defined is = by_function (slice_get fs main) refl
     where
       u : World
-      u = world_of (begin_locals w.outer (sizes_in (slice_get (map code_of fs) main))) (enter_call rooms main w.meter)
+      u = whole_world (begin_locals w.outer (sizes_in (slice_get (map code_of fs) main))) (enter_call rooms main w.meter)
 
       by_function : (o : Option VmFunction) → slice_get fs main ≡ o → (n : ℕ) × (temp_run rooms (map plain_code fs) main w n ≡ Over e)
       by_function None there =
@@ -133,7 +133,7 @@ module _ (rooms : Rooms) (fs : List VmFunction) (globals : List DataObject) (law
           let good : IsOrdinary u.outer = record { memory = bytes_begins (sizes_in (slice_get (map code_of fs) main)) w.outer.memory ordinary.memory; input = ordinary.input } in
           let run = enter_function rooms fs steps (simulates steps) main (length w.outer.memory) [] f [] [] u e there (sym (none_ f there)) tt (λ k. tt) good none defined is in
           let same = same_sizes rooms fs main f there in
-          (run.steps, ap (λ sizes. exec Content Temps rooms (alloc.temp_code (map plain_code fs)) run.steps (temp_conf rooms fs main 0 0 (length w.outer.memory) (put_all holder_eq (entry_holders 0) [] empty) [] (world_of (begin_locals w.outer sizes) (enter_call rooms main w.meter)))) (sym same) ∙ run.run)
+          (run.steps, ap (λ sizes. exec Content Temps rooms (alloc.temp_code (map plain_code fs)) run.steps (temp_conf rooms fs main 0 0 (length w.outer.memory) (put_all holder_eq (entry_holders 0) [] empty) [] (whole_world (begin_locals w.outer sizes) (enter_call rooms main w.meter)))) (sym same) ∙ run.run)
 
 -- ---- where a program begins
 
@@ -211,5 +211,5 @@ selected_programs program selected is rooms input turns e bytes run defined =
       ends = ends;
       only = λ f other.
           one_ending Content Temps rooms (alloc.temp_code (map alloc.code_of selected.functions)) other.steps found.0
-          (start Content Temps rooms (alloc.temp_code (map alloc.code_of selected.functions)) (alloc.main_of selected.functions) (alloc.start_world selected.globals input turns)) f e other.over ends.over;
+          (start_config Content Temps rooms (alloc.temp_code (map alloc.code_of selected.functions)) (alloc.main_of selected.functions) (alloc.start_world selected.globals input turns)) f e other.over ends.over;
     }

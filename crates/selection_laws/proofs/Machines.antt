@@ -9,7 +9,7 @@ use Rattle.std.proofs.lemmas.List.{append_assoc}
 use Rattle.std.proofs.lemmas.List.Folds.{list_all-append}
 use Rattle.mem_model.specs.World.{Outer, Meter, World, Rooms}
 use Rattle.machine_model.specs.Code.{Stop, Act, Writes, Jumps, Calls, Returns, Stops, Code}
-use Rattle.machine_model.specs.Machine.{Frame, Config, Next, Goes, Over, world_of, turn_if, stop_ending, act_on, step_with, step_at, step, go_on, exec}
+use Rattle.machine_model.specs.Machine.{Frame, Config, Next, Goes, Over, whole_world, turn_if, stop_ending, act_on, step_with, step_at, step, go_on, exec}
 use Rattle.machine_model.proofs.Runs.{steps_add_up}
 use Rattle.suifvm_ir.specs.Functions.{last_of}
 use Rattle.temp_ir.specs.declared.insn.TempInsn.{TempInsn}
@@ -167,12 +167,12 @@ module _ (rooms : Rooms) (functions : List TemporaryCode) where
     -- where straight code comes to
     pub record CameBehind (at : ℕ) (s : Temps) (o : Outer) (ys : List TempInsn) (t : Temps) (p : Outer) : Type 0 where
       pub place : ℕ
-      pub comes : Comes (tconf g b at own s ts (world_of o m)) (Goes (tconf g b place own t ts (world_of p m)))
+      pub comes : Comes (tconf g b at own s ts (whole_world o m)) (Goes (tconf g b place own t ts (whole_world p m)))
       pub standing : Standing fn.blocks b place ys
 
     pub record Stopped (at : ℕ) (s : Temps) (o : Outer) (e : Stop) (p : Outer) : Type 0 where
       pub insn : ℕ
-      pub comes : Comes (tconf g b at own s ts (world_of o m)) (Over (stop_ending e insn (world_of p m)))
+      pub comes : Comes (tconf g b at own s ts (whole_world o m)) (Over (stop_ending e insn (whole_world p m)))
 
     abbrev pub Came : (at : ℕ) → Temps → Outer → List TempInsn → Ran → Type 0
     Came at s o ys (After t p) = CameBehind at s o ys t p
@@ -185,7 +185,7 @@ module _ (rooms : Rooms) (functions : List TemporaryCode) where
         by_turn (λ t p k. straight xs ys (suc at) t p k) (takes_turn x) refl (does (widest_call fn.blocks) x own (map s (holders_read x)) o) refl
       where
         here : Config Temps
-        here = tconf g b at own s ts (world_of o m)
+        here = tconf g b at own s ts (whole_world o m)
 
         site : (temp_code functions).site (record { function = g; block = b; at = at }) ≡ Some (temp_site (widest_call fn.blocks) x)
         site = site_there functions g b fn number at x (xs ++ ys) h
@@ -197,7 +197,7 @@ module _ (rooms : Rooms) (functions : List TemporaryCode) where
             ∙ ap (λ t. step_with Content Temps rooms (temp_code functions) here (temp_site (widest_call fn.blocks) x) (turn_if t m)) turn
             ∙ ap (act_on Content Temps rooms (temp_code functions) here m (temp_site (widest_call fn.blocks) x)) act
 
-        then_came : (t : Temps) (p : Outer) (r : Ran) → Comes here (Goes (tconf g b (suc at) own t ts (world_of p m))) → Came (suc at) t p ys r → Came at s o ys r
+        then_came : (t : Temps) (p : Outer) (r : Ran) → Comes here (Goes (tconf g b (suc at) own t ts (whole_world p m))) → Came (suc at) t p ys r → Came at s o ys r
         then_came t p (After u q) c d = record { place = d.place; comes = comes_then _ _ _ c d.comes; standing = d.standing }
         then_came t p (Halted e q) c d = record { insn = d.insn; comes = comes_then _ _ _ c d.comes }
         then_came t p NotStraight c d = tt

@@ -39,7 +39,7 @@ use Rattle.alpha_forms.proofs.Moving.{arithmetic_shifts_done, left_shifts_done, 
 use Rattle.alpha_forms.proofs.Others.{constants_loaded, addresses_loaded}
 use Rattle.alpha_copies.proofs.Copying.{copies_done}
 use Rattle.selection_code.specs.Instructions.{temp_of}
-use Rattle.selection_code.specs.Functions.{function_blocks}
+use Rattle.selection_code.specs.Functions.{selected_blocks}
 use Rattle.selection_laws.proofs.Values.{value_held, unary_held, convert_held, binary_held, shift_held, compare_held, load_held}
 use Rattle.selection_laws.proofs.Memories.{stored_bytes, copied_bytes}
 use Rattle.selection_laws.proofs.Steps.{of_register, IsOrdinary, vm_conf, temp_conf, Here, Waits, Simulates, Reaches, value_step, memory_step}
@@ -84,7 +84,7 @@ module _ (rooms : Rooms) (fs : List VmFunction) (n : ℕ) (ih : Simulates rooms 
       Reaches rooms fs (temp_conf rooms fs g b place own s ts w) e
 
   abbrev widest : ℕ
-  widest = widest_call (function_blocks f.params f.blocks)
+  widest = widest_call (selected_blocks f.params f.blocks)
 
   pub constant_step : (ty : VmType) (d word : ℕ) → word < 2 ^ 64 → Steps (x.LoadConstant ty d word)
   constant_step ty d word small h is =

@@ -6,21 +6,21 @@ use Rattle.suifvm_ir.specs.declared.insn.VmInsn.{VmInsn}
 use Rattle.suifvm_ir.specs.declared.insn.VmInsn.TheVariants as x
 use Rattle.alloc_model.specs.Temporaries.{TemporaryCode}
 use Rattle.value_tests.specs.declared.known.Known.{Known}
-use Rattle.value_tests.specs.Tests.{seen, HasMeaning}
+use Rattle.value_tests.specs.Tests.{tested_insn, HasMeaning}
 use Rattle.value_tests.proofs.Functions.{tested_function}
 use Rattle.selection_code.specs.Fields.{HasFields}
-use Rattle.selection_code.specs.Functions.{function_blocks}
+use Rattle.selection_code.specs.Functions.{selected_blocks}
 use Rattle.selection_laws.specs.Selected.{selected_code}
 
 abbrev pub plain_code : VmFunction → TemporaryCode
-plain_code f = record { sizes = map (λ o. o.size) f.objects; blocks = function_blocks f.params f.blocks }
+plain_code f = record { sizes = map (λ o. o.size) f.objects; blocks = selected_blocks f.params f.blocks }
 
 pub selected_plain : (fs : List VmFunction) → map plain_code (map tested_function fs) ≡ map selected_code fs
 selected_plain [] = refl
 selected_plain (f ∷ fs) = ap (λ l. selected_code f ∷ l) (selected_plain fs)
 
 -- the numbers in an instruction stay
-pub fields_kept : (k : Known) (i : VmInsn) → HasFields i → HasFields (seen k i)
+pub fields_kept : (k : Known) (i : VmInsn) → HasFields i → HasFields (tested_insn k i)
 fields_kept k (x.LoadConstant ty d word) h = h
 fields_kept k (x.LoadAddress d place plus) h = h
 fields_kept k (x.Load ty d p plus) h = h

@@ -30,8 +30,8 @@ use Rattle.alloc_model.specs.Temporaries.{Temps, temp_site, temp_code}
 use Rattle.alpha_forms.specs.Straight.{Ran, After, Halted, runs}
 use Rattle.alpha_forms.proofs.Runs.{put_here, put_beside}
 use Rattle.alpha_forms.specs.Registers.{IsOfRegister, IsHeldWord, MemoryHasBytes, PutsValue, CodeAnswers, ComesToMemory}
-use Rattle.selection_code.specs.Instructions.{temp_of, insn_items, result_items}
-use Rattle.selection_code.specs.Functions.{insns_items, parameter_items, function_blocks}
+use Rattle.selection_code.specs.Instructions.{temp_of, selected_insn, result_items}
+use Rattle.selection_code.specs.Functions.{selected_insns, parameter_items, selected_blocks}
 use Rattle.selection_laws.proofs.Plain.{plain_code}
 use Rattle.selection_laws.proofs.Values.{AnswerIsHeld}
 use Rattle.selection_laws.proofs.Memories.{AnyMemoryHasBytes}
@@ -47,11 +47,11 @@ other_temp k d e = ne_eqb (temp_of k) (temp_of d) (λ same. eqb-false k d e (ome
 
 -- ---- blocks of the selected code
 
-pub block_behind : (params : ℕ) (blocks : List (List VmInsn)) (k : ℕ) → slice_get (function_blocks params blocks) (suc k) ≡ option_map insns_items (slice_get blocks (suc k))
+pub block_behind : (params : ℕ) (blocks : List (List VmInsn)) (k : ℕ) → slice_get (selected_blocks params blocks) (suc k) ≡ option_map selected_insns (slice_get blocks (suc k))
 block_behind params [] k = refl
-block_behind params (block ∷ blocks) k = slice_get-map insns_items blocks k
+block_behind params (block ∷ blocks) k = slice_get-map selected_insns blocks k
 
-pub first_block : (params : ℕ) (blocks : List (List VmInsn)) → slice_get (function_blocks params blocks) 0 ≡ option_map (λ insns. parameter_items params ++ insns_items insns) (slice_get blocks 0)
+pub first_block : (params : ℕ) (blocks : List (List VmInsn)) → slice_get (selected_blocks params blocks) 0 ≡ option_map (λ insns. parameter_items params ++ selected_insns insns) (slice_get blocks 0)
 first_block params [] = refl
 first_block params (block ∷ blocks) = refl
 
@@ -87,7 +87,7 @@ module _ (rooms : Rooms) (fs : List VmFunction) where
   pub record Here (g b at place : ℕ) (r : Registers) (s : Temps) (f : VmFunction) (left : List VmInsn) : Type 0 where
     pub number : slice_get fs g ≡ Some f
     pub placed : Placed f.blocks b at left
-    pub standing : Standing (function_blocks f.params f.blocks) b place (insns_items left)
+    pub standing : Standing (selected_blocks f.params f.blocks) b place (selected_insns left)
     pub holds : (k : ℕ) → s (Temp (temp_of k)) ≡ Plain (r k)
     pub held : (k : ℕ) → IsHeldWord (r k)
 
@@ -96,7 +96,7 @@ module _ (rooms : Rooms) (fs : List VmFunction) where
     none : Waits [] []
     more : (g b at place own : ℕ) (r : Registers) (s : Temps) (f : VmFunction) (d : Option ℕ) (h : ℕ) (arguments : List ℕ) (left : List VmInsn) (vs : List (Frame Registers)) (ts : List (Frame Temps)) →
         slice_get fs g ≡ Some f → Placed f.blocks b at (x.Call d (callee.Function h) arguments ∷ left) →
-        Standing (function_blocks f.params f.blocks) b place (i.Call h (length arguments) ∷ (result_items d ++ insns_items left)) →
+        Standing (selected_blocks f.params f.blocks) b place (i.Call h (length arguments) ∷ (result_items d ++ selected_insns left)) →
         ((k : ℕ) → s (Temp (temp_of k)) ≡ Plain (r k)) → ((k : ℕ) → IsHeldWord (r k)) → Waits vs ts →
         Waits (record { point = record { function = g; block = b; at = at }; own = own; store = r } ∷ vs) (record { point = record { function = g; block = b; at = place }; own = own; store = s } ∷ ts)
 
@@ -142,9 +142,9 @@ module _ (rooms : Rooms) (fs : List VmFunction) where
       ap (λ o. go_on (step_at Value Registers rooms (vm_code (map code_of fs)) (vm_conf g b at own r vs w) o) (exec Value Registers rooms (vm_code (map code_of fs)) n)) (vm_site g b at f y left number p)
 
   pub temp_steps : (g b place own : ℕ) (s : Temps) (f : VmFunction) (y : TempInsn) (left : List TempInsn) (ts : List (Frame Temps)) (w : World) → slice_get fs g ≡ Some f
-      → Standing (function_blocks f.params f.blocks) b place (y ∷ left) →
+      → Standing (selected_blocks f.params f.blocks) b place (y ∷ left) →
       step Content Temps rooms (temp_code (map plain_code fs)) (temp_conf g b place own s ts w)
-      ≡ step_with Content Temps rooms (temp_code (map plain_code fs)) (temp_conf g b place own s ts w) (temp_site (widest_call (function_blocks f.params f.blocks)) y) (turn_if (temps.takes_turn y) w.meter)
+      ≡ step_with Content Temps rooms (temp_code (map plain_code fs)) (temp_conf g b place own s ts w) (temp_site (widest_call (selected_blocks f.params f.blocks)) y) (turn_if (temps.takes_turn y) w.meter)
   temp_steps g b place own s f y left ts w number h =
       ap (step_at Content Temps rooms (temp_code (map plain_code fs)) (temp_conf g b place own s ts w))
       (site_there (map plain_code fs) g b (plain_code f) (temp_number g f number) place y left h)
@@ -165,7 +165,7 @@ module _ (rooms : Rooms) (fs : List VmFunction) where
           (record {
             number = number;
             placed = record { before = []; there = there; here = refl };
-            standing = record { place = record { before = []; there = block_behind f.params f.blocks b ∙ ap (option_map insns_items) there; here = refl }; flows = refl };
+            standing = record { place = record { before = []; there = block_behind f.params f.blocks b ∙ ap (option_map selected_insns) there; here = refl }; flows = refl };
             holds = holds;
             held = held;
           }) ordinary waits defined is
@@ -206,14 +206,14 @@ module _ (rooms : Rooms) (fs : List VmFunction) where
 
   -- code that puts a value into a register, past which both go on
   pub put_tail : (n : ℕ) → Simulates n → (g b at place own : ℕ) (r : Registers) (s : Temps) (f : VmFunction) (left : List VmInsn) (vs : List (Frame Registers)) (ts : List (Frame Temps)) (w : World) (e : Ending)
-      (xs : List TempInsn) (d : ℕ) (v : Value) → slice_get fs g ≡ Some f → Placed f.blocks b at left → Standing (function_blocks f.params f.blocks) b place (xs ++ insns_items left)
+      (xs : List TempInsn) (d : ℕ) (v : Value) → slice_get fs g ≡ Some f → Placed f.blocks b at left → Standing (selected_blocks f.params f.blocks) b place (xs ++ selected_insns left)
       → ((k : ℕ) → s (Temp (temp_of k)) ≡ Plain (r k)) → ((k : ℕ) → IsHeldWord (r k)) → IsOrdinary w.outer → Waits vs ts → IsDefined e
-      → PutsValue s w.outer (temp_of d) v (runs (widest_call (function_blocks f.params f.blocks)) xs own s w.outer) → IsHeldWord v
+      → PutsValue s w.outer (temp_of d) v (runs (widest_call (selected_blocks f.params f.blocks)) xs own s w.outer) → IsHeldWord v
       → exec Value Registers rooms (vm_code (map code_of fs)) n (vm_conf g b at own (set_register d v r) vs w) ≡ Over e →
       Reaches (temp_conf g b place own s ts w) e
   put_tail n ih g b at place own r s f left vs ts w e xs d v number placed standing holds held ordinary waits defined comes new is =
-      let c = subst (Came rooms (map plain_code fs) g b own ts w.meter (plain_code f) (temp_number g f number) place s w.outer (insns_items left)) comes.goes_on
-      (straight rooms (map plain_code fs) g b own ts w.meter (plain_code f) (temp_number g f number) xs (insns_items left) place s w.outer standing) in
+      let c = subst (Came rooms (map plain_code fs) g b own ts w.meter (plain_code f) (temp_number g f number) place s w.outer (selected_insns left)) comes.goes_on
+      (straight rooms (map plain_code fs) g b own ts w.meter (plain_code f) (temp_number g f number) xs (selected_insns left) place s w.outer standing) in
       comes_then rooms (map plain_code fs) (temp_conf g b place own s ts w) (temp_conf g b c.place own comes.after ts w) (Over e) c.comes
       (ih g b at c.place own (set_register d v r) comes.after f left vs ts w e
       (record {
@@ -226,7 +226,7 @@ module _ (rooms : Rooms) (fs : List VmFunction) where
 
   -- what a call left in register 0 is put into its register, if one is named
   pub result_tail : (n : ℕ) → Simulates n → (g b at place own : ℕ) (r : Registers) (s : Temps) (f : VmFunction) (left : List VmInsn) (vs : List (Frame Registers)) (ts : List (Frame Temps)) (w : World) (e : Ending)
-      (d : Option ℕ) (us : List Value) → slice_get fs g ≡ Some f → Placed f.blocks b at left → Standing (function_blocks f.params f.blocks) b place (result_items d ++ insns_items left)
+      (d : Option ℕ) (us : List Value) → slice_get fs g ≡ Some f → Placed f.blocks b at left → Standing (selected_blocks f.params f.blocks) b place (result_items d ++ selected_insns left)
       → ((k : ℕ) → s (Temp (temp_of k)) ≡ Plain (r k)) → ((k : ℕ) → IsHeldWord (r k)) → IsOrdinary w.outer → Waits vs ts → IsDefined e
       → s (Fixed 0) ≡ Plain (first_or_unset us) → IsHeldWord (first_or_unset us)
       → exec Value Registers rooms (vm_code (map code_of fs)) n (vm_conf g b at own (set_registers (named_register d) us r) vs w) ≡ Over e →
@@ -268,17 +268,17 @@ module _ (rooms : Rooms) (fs : List VmFunction) where
         ∙ ap (λ c. go_on (act_on Value Registers rooms (vm_code (map code_of fs)) (vm_conf g b at own r vs w) w.meter (insn_site y) c) (exec Value Registers rooms (vm_code (map code_of fs)) n)) act)
         ∙ is
 
-    came : (ran : Ran) → runs (widest_call (function_blocks f.params f.blocks)) (insn_items y) own s w.outer ≡ ran →
-        Came rooms (map plain_code fs) g b own ts w.meter (plain_code f) (temp_number g f h.number) place s w.outer (insns_items left) ran
+    came : (ran : Ran) → runs (widest_call (selected_blocks f.params f.blocks)) (selected_insn y) own s w.outer ≡ ran →
+        Came rooms (map plain_code fs) g b own ts w.meter (plain_code f) (temp_number g f h.number) place s w.outer (selected_insns left) ran
     came ran e2 =
-        subst (Came rooms (map plain_code fs) g b own ts w.meter (plain_code f) (temp_number g f h.number) place s w.outer (insns_items left)) e2
-        (straight rooms (map plain_code fs) g b own ts w.meter (plain_code f) (temp_number g f h.number) (insn_items y) (insns_items left) place s w.outer h.standing)
+        subst (Came rooms (map plain_code fs) g b own ts w.meter (plain_code f) (temp_number g f h.number) place s w.outer (selected_insns left)) e2
+        (straight rooms (map plain_code fs) g b own ts w.meter (plain_code f) (temp_number g f h.number) (selected_insn y) (selected_insns left) place s w.outer h.standing)
 
     pub value_step : (d : ℕ) (a : Answer) → takes_turn y ≡ false → writes_of y ≡ d ∷ [] → does y own (map r (reads_of y)) w.outer ≡ writes a w.outer →
-        CodeAnswers s w.outer (temp_of d) a (runs (widest_call (function_blocks f.params f.blocks)) (insn_items y) own s w.outer) → AnswerIsHeld a → Reaches (temp_conf g b place own s ts w) e
+        CodeAnswers s w.outer (temp_of d) a (runs (widest_call (selected_blocks f.params f.blocks)) (selected_insn y) own s w.outer) → AnswerIsHeld a → Reaches (temp_conf g b place own s ts w) e
     value_step d (Gives v) turn one act comes new =
         let registers : set_registers (writes_of y) (v ∷ []) r ≡ set_register d v r = one_register (writes_of y) d v r one in
-        put_tail n ih g b (suc at) place own r s f left vs ts w e (insn_items y) d v h.number (next_place f.blocks b at y left h.placed) h.standing h.holds h.held ordinary waits defined comes new
+        put_tail n ih g b (suc at) place own r s f left vs ts w e (selected_insn y) d v h.number (next_place f.blocks b at y left h.placed) h.standing h.holds h.held ordinary waits defined comes new
         (ap (λ rs. exec Value Registers rooms (vm_code (map code_of fs)) n (vm_conf g b (suc at) own rs vs w)) (sym registers) ∙ vm_acts (Writes (v ∷ []) w.outer) turn act)
     value_step d (TrapsWith code) turn one act comes new =
         let c = came (Halted (Traps code) w.outer) comes in
@@ -289,7 +289,7 @@ module _ (rooms : Rooms) (fs : List VmFunction) where
     -- ---- and those that change the memory
 
     pub memory_step : (q : Option Memory) → takes_turn y ≡ false → writes_of y ≡ [] → does y own (map r (reads_of y)) w.outer ≡ changes q w.outer →
-        ComesToMemory s w.outer q (runs (widest_call (function_blocks f.params f.blocks)) (insn_items y) own s w.outer) → AnyMemoryHasBytes q → Reaches (temp_conf g b place own s ts w) e
+        ComesToMemory s w.outer q (runs (widest_call (selected_blocks f.params f.blocks)) (selected_insn y) own s w.outer) → AnyMemoryHasBytes q → Reaches (temp_conf g b place own s ts w) e
     memory_step (Some m) turn none_ act comes new =
         let u : World = record { outer = outer_with_memory w.outer m; meter = w.meter } in
         let c = came (After comes.after (outer_with_memory w.outer m)) comes.goes_on in
@@ -308,47 +308,47 @@ module _ (rooms : Rooms) (fs : List VmFunction) where
 
     -- ---- instructions whose code has one that takes a turn, or is no straight one, behind straight code
 
-    before_last : (xs : List TempInsn) (z : TempInsn) (rest : List TempInsn) (t : Temps) → insns_items (y ∷ left) ≡ xs ++ z ∷ rest → runs (widest_call (function_blocks f.params f.blocks)) xs own s w.outer ≡ After t w.outer →
+    before_last : (xs : List TempInsn) (z : TempInsn) (rest : List TempInsn) (t : Temps) → selected_insns (y ∷ left) ≡ xs ++ z ∷ rest → runs (widest_call (selected_blocks f.params f.blocks)) xs own s w.outer ≡ After t w.outer →
         CameBehind rooms (map plain_code fs) g b own ts w.meter (plain_code f) (temp_number g f h.number) place s w.outer (z ∷ rest) t w.outer
     before_last xs z rest t parts ran =
         subst (Came rooms (map plain_code fs) g b own ts w.meter (plain_code f) (temp_number g f h.number) place s w.outer (z ∷ rest)) ran
         (straight rooms (map plain_code fs) g b own ts w.meter (plain_code f) (temp_number g f h.number) xs (z ∷ rest) place s w.outer
-        (subst (Standing (function_blocks f.params f.blocks) b place) parts h.standing))
+        (subst (Standing (selected_blocks f.params f.blocks) b place) parts h.standing))
 
-    pub turn_step : (xs : List TempInsn) (z : TempInsn) (rest : List TempInsn) (t : Temps) → insns_items (y ∷ left) ≡ xs ++ z ∷ rest → takes_turn y ≡ true → temps.takes_turn z ≡ true
-        → runs (widest_call (function_blocks f.params f.blocks)) xs own s w.outer ≡ After t w.outer
-        → ((m : Meter) (there : ℕ) → Standing (function_blocks f.params f.blocks) b there (z ∷ rest) →
+    pub turn_step : (xs : List TempInsn) (z : TempInsn) (rest : List TempInsn) (t : Temps) → selected_insns (y ∷ left) ≡ xs ++ z ∷ rest → takes_turn y ≡ true → temps.takes_turn z ≡ true
+        → runs (widest_call (selected_blocks f.params f.blocks)) xs own s w.outer ≡ After t w.outer
+        → ((m : Meter) (there : ℕ) → Standing (selected_blocks f.params f.blocks) b there (z ∷ rest) →
         go_on (act_on Value Registers rooms (vm_code (map code_of fs)) (vm_conf g b at own r vs w) m (insn_site y) (does y own (map r (reads_of y)) w.outer)) (exec Value Registers rooms (vm_code (map code_of fs)) n) ≡ Over e →
-        NextReaches (act_on Content Temps rooms (temp_code (map plain_code fs)) (temp_conf g b there own t ts w) m (temp_site (widest_call (function_blocks f.params f.blocks)) z)
-        (temps.does (widest_call (function_blocks f.params f.blocks)) z own (map t (holders_read z)) w.outer)) e) →
+        NextReaches (act_on Content Temps rooms (temp_code (map plain_code fs)) (temp_conf g b there own t ts w) m (temp_site (widest_call (selected_blocks f.params f.blocks)) z)
+        (temps.does (widest_call (selected_blocks f.params f.blocks)) z own (map t (holders_read z)) w.outer)) e) →
         Reaches (temp_conf g b place own s ts w) e
     turn_step xs z rest t parts turn turn2 ran go =
         let c = before_last xs z rest t parts ran in
         let l = temp_conf g b c.place own t ts w in
         let stepped = temp_steps g b c.place own t f z rest ts w h.number c.standing
-        ∙ ap (λ u. step_with Content Temps rooms (temp_code (map plain_code fs)) l (temp_site (widest_call (function_blocks f.params f.blocks)) z) (turn_if u w.meter)) turn2 in
+        ∙ ap (λ u. step_with Content Temps rooms (temp_code (map plain_code fs)) l (temp_site (widest_call (selected_blocks f.params f.blocks)) z) (turn_if u w.meter)) turn2 in
         let gone = sym (vm_steps n g b at own r f y left vs w h.number h.placed
         ∙ ap (λ u. go_on (step_with Value Registers rooms (vm_code (map code_of fs)) (vm_conf g b at own r vs w) (insn_site y) (turn_if u w.meter)) (exec Value Registers rooms (vm_code (map code_of fs)) n)) turn) ∙ is in
         comes_then rooms (map plain_code fs) (temp_conf g b place own s ts w) l (Over e) c.comes
-        (by_next l (step_with Content Temps rooms (temp_code (map plain_code fs)) l (temp_site (widest_call (function_blocks f.params f.blocks)) z) (take_turn w.meter)) e stepped
+        (by_next l (step_with Content Temps rooms (temp_code (map plain_code fs)) l (temp_site (widest_call (selected_blocks f.params f.blocks)) z) (take_turn w.meter)) e stepped
         (by_turn (take_turn w.meter) c.place c.standing gone))
       where
-        by_turn : (m : Option Meter) (there : ℕ) → Standing (function_blocks f.params f.blocks) b there (z ∷ rest) →
+        by_turn : (m : Option Meter) (there : ℕ) → Standing (selected_blocks f.params f.blocks) b there (z ∷ rest) →
             go_on (step_with Value Registers rooms (vm_code (map code_of fs)) (vm_conf g b at own r vs w) (insn_site y) m) (exec Value Registers rooms (vm_code (map code_of fs)) n) ≡ Over e →
-            NextReaches (step_with Content Temps rooms (temp_code (map plain_code fs)) (temp_conf g b there own t ts w) (temp_site (widest_call (function_blocks f.params f.blocks)) z) m) e
+            NextReaches (step_with Content Temps rooms (temp_code (map plain_code fs)) (temp_conf g b there own t ts w) (temp_site (widest_call (selected_blocks f.params f.blocks)) z) m) e
         by_turn None there st q = same_ending (More w) e q
         by_turn (Some m) there st q = go m there st q
 
-    pub last_step : (xs : List TempInsn) (z : TempInsn) (rest : List TempInsn) (t : Temps) → insns_items (y ∷ left) ≡ xs ++ z ∷ rest → temps.takes_turn z ≡ false
-        → runs (widest_call (function_blocks f.params f.blocks)) xs own s w.outer ≡ After t w.outer
-        → ((there : ℕ) → Standing (function_blocks f.params f.blocks) b there (z ∷ rest) →
-        NextReaches (act_on Content Temps rooms (temp_code (map plain_code fs)) (temp_conf g b there own t ts w) w.meter (temp_site (widest_call (function_blocks f.params f.blocks)) z)
-        (temps.does (widest_call (function_blocks f.params f.blocks)) z own (map t (holders_read z)) w.outer)) e) →
+    pub last_step : (xs : List TempInsn) (z : TempInsn) (rest : List TempInsn) (t : Temps) → selected_insns (y ∷ left) ≡ xs ++ z ∷ rest → temps.takes_turn z ≡ false
+        → runs (widest_call (selected_blocks f.params f.blocks)) xs own s w.outer ≡ After t w.outer
+        → ((there : ℕ) → Standing (selected_blocks f.params f.blocks) b there (z ∷ rest) →
+        NextReaches (act_on Content Temps rooms (temp_code (map plain_code fs)) (temp_conf g b there own t ts w) w.meter (temp_site (widest_call (selected_blocks f.params f.blocks)) z)
+        (temps.does (widest_call (selected_blocks f.params f.blocks)) z own (map t (holders_read z)) w.outer)) e) →
         Reaches (temp_conf g b place own s ts w) e
     last_step xs z rest t parts turn ran go =
         let c = before_last xs z rest t parts ran in
         let l = temp_conf g b c.place own t ts w in
         let stepped = temp_steps g b c.place own t f z rest ts w h.number c.standing
-        ∙ ap (λ u. step_with Content Temps rooms (temp_code (map plain_code fs)) l (temp_site (widest_call (function_blocks f.params f.blocks)) z) (turn_if u w.meter)) turn in
+        ∙ ap (λ u. step_with Content Temps rooms (temp_code (map plain_code fs)) l (temp_site (widest_call (selected_blocks f.params f.blocks)) z) (turn_if u w.meter)) turn in
         comes_then rooms (map plain_code fs) (temp_conf g b place own s ts w) l (Over e) c.comes
         (by_next l _ e stepped (go c.place c.standing))

@@ -31,10 +31,10 @@ use Rattle.suifvm_ir.specs.declared.insn.ShiftOp.TheVariants.{ArithmeticRight, L
 use Rattle.suifvm_ir.specs.declared.insn.CompareOp.{CompareOp}
 use Rattle.vm_meaning.specs.declared.answer.Answer.{Answer}
 use Rattle.vm_meaning.specs.declared.answer.Answer.TheVariants.{Gives, TrapsWith, Fails}
-use Rattle.vm_meaning.specs.Operations.{is_value_of, when_value, outcome_answer, value_answer, distance_answer, test_answer, on_number, on_numbers, unary_number, unary_answer, unary_pointer, conversion_answer, convert_answer, memory_integer, integer_of, binary_number, pointer_answer, binary_answer, with_sign, without_sign, shift_number, shift_by, shift_answer, comparison_answer, compare_answer, compare_number, extended_value, load_answer, load_through, loaded_answer, access_bytes}
+use Rattle.vm_meaning.specs.Operations.{is_value_of, when_value, outcome_answer, value_answer, distance_answer, test_answer, on_number, on_numbers, unary_number, unary_answer, unary_pointer, conversion_answer, convert_answer, memory_integer, integer_of, binary_number, pointer_answer, binary_answer, signed_type, without_sign, shift_number, shift_by, shift_answer, comparison_answer, compare_answer, compare_number, extended_value, load_answer, load_through, loaded_answer, access_bytes}
 use Rattle.alpha_forms.specs.Registers.{IsHeldWord}
 use Rattle.mem_model.specs.Cells.{pointer_of, first_pointer, cells_eq, bytes_of, parts_of, is_empty, value_of, value_or_fault}
-use Rattle.mem_model.specs.Memory.{read_fault, unless, row_at}
+use Rattle.mem_model.specs.Memory.{read_fault, fault_or, row_at}
 use Rattle.mem_model.specs.declared.value.Cell.{Cell}
 use Rattle.std.specs.List.{list_any}
 use Rattle.std.specs.Prelude.{option_and_then, ok_or}
@@ -156,7 +156,7 @@ binary_held m op U64 a b = numbers_held UnsignedLong a b (binary_number op) (bin
 binary_held m op P64 a b = pointer_held m op a b
 
 shift_number_held : (op : ShiftOp) (t : IntegerType) (a k : ℕ) → AnswerIsHeld (shift_number op t a k)
-shift_number_held ArithmeticRight t a k = outcome_held (with_sign t) (c.right_shift (with_sign t) UnsignedLong a k) (right_shift-word (with_sign t) UnsignedLong a k)
+shift_number_held ArithmeticRight t a k = outcome_held (signed_type t) (c.right_shift (signed_type t) UnsignedLong a k) (right_shift-word (signed_type t) UnsignedLong a k)
 shift_number_held Left t a k = outcome_held t (c.left_shift t UnsignedLong a k) (left_shift-word t UnsignedLong a k)
 shift_number_held LogicalRight t a k = outcome_held (without_sign t) (c.right_shift (without_sign t) UnsignedLong a k) (right_shift-word (without_sign t) UnsignedLong a k)
 
@@ -212,7 +212,7 @@ pointer_loaded m p v = by_fault (read_fault m p 8 8)
     by_empty true e = absurd cc
     by_empty false e = of_value (pointer_of (row_at m p 8)) refl e
 
-    by_fault : (f : Option MemFault) → unless f (value_or_fault true (row_at m p 8)) ≡ Ok v → IsHeldWord v
+    by_fault : (f : Option MemFault) → fault_or f (value_or_fault true (row_at m p 8)) ≡ Ok v → IsHeldWord v
     by_fault (Some f) e = absurd cc
     by_fault None e = by_empty (list_any is_empty (row_at m p 8)) e
 

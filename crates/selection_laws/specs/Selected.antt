@@ -5,13 +5,14 @@ use Rattle.suifvm_ir.specs.Programs.{VmFunction}
 use Rattle.suifvm_ir.specs.declared.program.VmProgram.{VmProgram}
 use Rattle.temp_ir.specs.declared.program.TempProgram.{TempProgram}
 use Rattle.alloc_model.specs.Temporaries.{TemporaryCode, code_of}
-use Rattle.value_tests.specs.Tests.{tested}
+use Rattle.value_tests.specs.Tests.{tested_block}
 use Rattle.selection_code.specs.Fields.{HasFields}
-use Rattle.selection_code.specs.Functions.{function_blocks}
+use Rattle.selection_code.specs.Functions.{selected_blocks}
 
 -- the code of a function, in which branches on what a comparison with zero found test the value
 abbrev pub selected_code : VmFunction → TemporaryCode
-selected_code f = record { sizes = map (λ o. o.size) f.objects; blocks = function_blocks f.params (map tested f.blocks) }
+selected_code f =
+    record { sizes = map (λ o. o.size) f.objects; blocks = selected_blocks f.params (map tested_block f.blocks) }
 
 pub record IsSelected (program : VmProgram) (selected : TempProgram) : Type 0 where
   pub code : map code_of selected.functions ≡ map selected_code program.functions

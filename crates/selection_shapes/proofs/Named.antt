@@ -22,8 +22,8 @@ use Rattle.temp_ir.specs.declared.insn.TempInsn.TheVariants as i
 use Rattle.temp_ir.specs.Programs.{TempFn, function_takes, names_what_is_there}
 use Rattle.alpha_forms.specs.Operations.{binary_items}
 use Rattle.selection_shapes.proofs.Lists.{both, all_nil, all_more, all_first, all_rest, all_append}
-use Rattle.selection_code.specs.Instructions.{temp_of, argument_register, pass_item, pass_items, take_item, take_items, result_items, byte_items, put_char_items, exit_items, builtin_items, call_items, return_items, insn_items}
-use Rattle.selection_code.specs.Functions.{insns_items, parameter_items, function_blocks}
+use Rattle.selection_code.specs.Instructions.{temp_of, argument_register, pass_item, pass_items, take_item, take_items, result_items, byte_items, put_char_items, exit_call_items, builtin_items, call_items, return_items, selected_insn}
+use Rattle.selection_code.specs.Functions.{selected_insns, parameter_items, selected_blocks}
 use Rattle.selection_shapes.specs.Shapes.{SelectedNamesAreThere}
 use Rattle.selection_shapes.proofs.Plain.{is_nameless, is_simple, is_plain, are_simple, constant_simple, load_simple, store_simple, parts_simple, shift_simple, compare_simple, convert_simple}
 
@@ -80,7 +80,7 @@ put_char_nameless : (d : Option ℕ) (arguments : List ℕ) → are_nameless (pu
 put_char_nameless d [] = refl
 put_char_nameless d (a ∷ arguments) = byte_nameless d a
 
-exit_nameless : (arguments : List ℕ) → are_nameless (exit_items arguments) ≡ true
+exit_nameless : (arguments : List ℕ) → are_nameless (exit_call_items arguments) ≡ true
 exit_nameless [] = refl
 exit_nameless (a ∷ arguments) = refl
 
@@ -134,41 +134,41 @@ module _ (fs : List vm.VmFunction) (ts : List TempFn) (globals : List DataObject
       (all_more There (i.Call k (length arguments)) (result_items d) (same k (length arguments) h) (nameless_there (result_items d) (result_nameless d)))
   call_there d (callee.Builtin b) arguments h = nameless_there (builtin_items d b arguments) (builtin_nameless d b arguments)
 
-  insn_there : (y : VmInsn) → vm.names_what_is_there fs globals objects y ≡ true → All There (insn_items y)
-  insn_there (x.LoadConstant ty d word) h = nameless_there (insn_items (x.LoadConstant ty d word)) (simple_nameless (insn_items (x.LoadConstant ty d word)) (constant_simple (temp_of d) word))
+  insn_there : (y : VmInsn) → vm.names_what_is_there fs globals objects y ≡ true → All There (selected_insn y)
+  insn_there (x.LoadConstant ty d word) h = nameless_there (selected_insn (x.LoadConstant ty d word)) (simple_nameless (selected_insn (x.LoadConstant ty d word)) (constant_simple (temp_of d) word))
   insn_there (x.LoadAddress d place plus) h = one_there (i.ObjectAddress (temp_of d) place plus) h
-  insn_there (x.Load ty d p plus) h = nameless_there (insn_items (x.Load ty d p plus)) (simple_nameless (insn_items (x.Load ty d p plus)) (load_simple ty (temp_of d) (temp_of p) plus))
-  insn_there (x.Store ty p plus a) h = nameless_there (insn_items (x.Store ty p plus a)) (simple_nameless (insn_items (x.Store ty p plus a)) (store_simple ty (temp_of p) plus (temp_of a)))
-  insn_there (x.Copy to from size align) h = nameless_there (insn_items (x.Copy to from size align)) (simple_nameless (insn_items (x.Copy to from size align)) (parts_simple align _ (temp_of to) (temp_of from) 0))
-  insn_there (x.Unary op ty d a) h = nameless_there (insn_items (x.Unary op ty d a)) refl
-  insn_there (x.Binary op ty d a b) h = nameless_there (insn_items (x.Binary op ty d a b)) (binary_nameless op ty (temp_of d) (temp_of a) (temp_of b))
-  insn_there (x.Shift op ty d a b) h = nameless_there (insn_items (x.Shift op ty d a b)) (simple_nameless (insn_items (x.Shift op ty d a b)) (shift_simple op ty (temp_of d) (temp_of a) (temp_of b)))
-  insn_there (x.Convert from to d a) h = nameless_there (insn_items (x.Convert from to d a)) (simple_nameless (insn_items (x.Convert from to d a)) (convert_simple from to (temp_of d) (temp_of a)))
-  insn_there (x.Compare op ty d a b) h = nameless_there (insn_items (x.Compare op ty d a b)) (simple_nameless (insn_items (x.Compare op ty d a b)) (compare_simple op ty (temp_of d) (temp_of a) (temp_of b)))
-  insn_there (x.Branch op ty a block) h = nameless_there (insn_items (x.Branch op ty a block)) refl
-  insn_there (x.Jump block) h = nameless_there (insn_items (x.Jump block)) refl
+  insn_there (x.Load ty d p plus) h = nameless_there (selected_insn (x.Load ty d p plus)) (simple_nameless (selected_insn (x.Load ty d p plus)) (load_simple ty (temp_of d) (temp_of p) plus))
+  insn_there (x.Store ty p plus a) h = nameless_there (selected_insn (x.Store ty p plus a)) (simple_nameless (selected_insn (x.Store ty p plus a)) (store_simple ty (temp_of p) plus (temp_of a)))
+  insn_there (x.Copy to from size align) h = nameless_there (selected_insn (x.Copy to from size align)) (simple_nameless (selected_insn (x.Copy to from size align)) (parts_simple align _ (temp_of to) (temp_of from) 0))
+  insn_there (x.Unary op ty d a) h = nameless_there (selected_insn (x.Unary op ty d a)) refl
+  insn_there (x.Binary op ty d a b) h = nameless_there (selected_insn (x.Binary op ty d a b)) (binary_nameless op ty (temp_of d) (temp_of a) (temp_of b))
+  insn_there (x.Shift op ty d a b) h = nameless_there (selected_insn (x.Shift op ty d a b)) (simple_nameless (selected_insn (x.Shift op ty d a b)) (shift_simple op ty (temp_of d) (temp_of a) (temp_of b)))
+  insn_there (x.Convert from to d a) h = nameless_there (selected_insn (x.Convert from to d a)) (simple_nameless (selected_insn (x.Convert from to d a)) (convert_simple from to (temp_of d) (temp_of a)))
+  insn_there (x.Compare op ty d a b) h = nameless_there (selected_insn (x.Compare op ty d a b)) (simple_nameless (selected_insn (x.Compare op ty d a b)) (compare_simple op ty (temp_of d) (temp_of a) (temp_of b)))
+  insn_there (x.Branch op ty a block) h = nameless_there (selected_insn (x.Branch op ty a block)) refl
+  insn_there (x.Jump block) h = nameless_there (selected_insn (x.Jump block)) refl
   insn_there (x.Call d c arguments) h = call_there d c arguments h
   insn_there (x.Return value) h = nameless_there (return_items value) (return_nameless value)
-  insn_there x.Mark h = nameless_there (insn_items x.Mark) refl
+  insn_there x.Mark h = nameless_there (selected_insn x.Mark) refl
   insn_there x.Nop h = all_nil There
 
-  insns_there : (insns : List VmInsn) → All (λ y. IsTrue (vm.names_what_is_there fs globals objects y)) insns → All There (insns_items insns)
+  insns_there : (insns : List VmInsn) → All (λ y. IsTrue (vm.names_what_is_there fs globals objects y)) insns → All There (selected_insns insns)
   insns_there [] h = all_nil There
   insns_there (y ∷ insns) h =
-      all_append There (insn_items y) (insns_items insns) (insn_there y (all_first (λ y. IsTrue (vm.names_what_is_there fs globals objects y)) y insns h))
+      all_append There (selected_insn y) (selected_insns insns) (insn_there y (all_first (λ y. IsTrue (vm.names_what_is_there fs globals objects y)) y insns h))
       (insns_there insns (all_rest (λ y. IsTrue (vm.names_what_is_there fs globals objects y)) y insns h))
 
-  others_there : (blocks : List (List VmInsn)) → AllInsns (λ y. IsTrue (vm.names_what_is_there fs globals objects y)) blocks → All (All There) (map insns_items blocks)
+  others_there : (blocks : List (List VmInsn)) → AllInsns (λ y. IsTrue (vm.names_what_is_there fs globals objects y)) blocks → All (All There) (map selected_insns blocks)
   others_there [] h = all_nil (All There)
   others_there (block ∷ blocks) h =
-      all_more (All There) (insns_items block) (map insns_items blocks) (insns_there block (all_first (All (λ y. IsTrue (vm.names_what_is_there fs globals objects y))) block blocks h))
+      all_more (All There) (selected_insns block) (map selected_insns blocks) (insns_there block (all_first (All (λ y. IsTrue (vm.names_what_is_there fs globals objects y))) block blocks h))
       (others_there blocks (all_rest (All (λ y. IsTrue (vm.names_what_is_there fs globals objects y))) block blocks h))
 
-  pub blocks_there : (params : ℕ) (blocks : List (List VmInsn)) → AllInsns (λ y. IsTrue (vm.names_what_is_there fs globals objects y)) blocks → AllInsns (λ z. IsTrue (names_what_is_there ts globals objects z)) (function_blocks params blocks)
+  pub blocks_there : (params : ℕ) (blocks : List (List VmInsn)) → AllInsns (λ y. IsTrue (vm.names_what_is_there fs globals objects y)) blocks → AllInsns (λ z. IsTrue (names_what_is_there ts globals objects z)) (selected_blocks params blocks)
   blocks_there params [] h = all_nil (All There)
   blocks_there params (block ∷ blocks) h =
-      all_more (All There) (parameter_items params ++ insns_items block) (map insns_items blocks)
-      (all_append There (parameter_items params) (insns_items block) (nameless_there (parameter_items params) (takes_nameless 0 params)) (insns_there block (all_first (All (λ y. IsTrue (vm.names_what_is_there fs globals objects y))) block blocks h)))
+      all_more (All There) (parameter_items params ++ selected_insns block) (map selected_insns blocks)
+      (all_append There (parameter_items params) (selected_insns block) (nameless_there (parameter_items params) (takes_nameless 0 params)) (insns_there block (all_first (All (λ y. IsTrue (vm.names_what_is_there fs globals objects y))) block blocks h)))
       (others_there blocks (all_rest (All (λ y. IsTrue (vm.names_what_is_there fs globals objects y))) block blocks h))
 
 pub names_there : SelectedNamesAreThere

@@ -5,7 +5,7 @@ use Rattle.std.specs.List.{list_all}
 use Rattle.std.specs.Int.{w16}
 use Rattle.std.proofs.lemmas.Bool.{and_from}
 use Rattle.std.proofs.lemmas.List.Folds.{list_all-append}
-use Rattle.alpha_isa.specs.Arithmetic.{fits, word_from}
+use Rattle.alpha_isa.specs.Arithmetic.{fits_signed, word_from}
 use Rattle.alpha_constants.specs.declared.recipe.Finish.{Finish}
 use Rattle.alpha_constants.specs.declared.recipe.Finish.TheVariants.{Nothing, ShiftLeft, ShiftRight, LowHalf, AddLower}
 use Rattle.alpha_constants.specs.declared.recipe.Recipe.{Recipe}
@@ -34,9 +34,9 @@ use Rattle.temp_ir.specs.Fixed.{fixed_reads_of}
 use Rattle.alpha_forms.specs.Constants.{unless_zero, near_items, lower_items, finish_items, recipe_items, constant_items}
 use Rattle.alpha_forms.specs.Accesses.{near_load, near_store, far_items, load_by, load_items, store_by, store_items}
 use Rattle.alpha_forms.specs.Operations.{binary_items, left_items, logical_right_items, shift_items, compare_items, convert_items, convert_item, is_narrow, from_unsigned_item, from_wide_item}
-use Rattle.alpha_copies.specs.Copies.{part_items, moved_items, reach, parts_items}
+use Rattle.alpha_copies.specs.Copies.{part_items, moved_items, copy_reach, parts_items}
 use Rattle.selection_shapes.proofs.Lists.{both}
-use Rattle.selection_code.specs.Instructions.{temp_of, pass_item, pass_items, take_item, take_items, result_items, byte_items, put_char_items, exit_items, builtin_items, call_items, argument_register}
+use Rattle.selection_code.specs.Instructions.{temp_of, pass_item, pass_items, take_item, take_items, result_items, byte_items, put_char_items, exit_call_items, builtin_items, call_items, argument_register}
 
 -- an instruction without targets that is followed by the next one
 abbrev pub is_plain : TempInsn → Bool
@@ -120,14 +120,14 @@ far_simple : (p : ℕ) (plus : ℤ) → are_simple (far_items p plus) ≡ true
 far_simple p plus = simple-append (constant_items 0 (word_from plus)) _ (constant_simple 0 (word_from plus)) refl
 
 pub load_simple : (ty : MemoryType) (d p : ℕ) (plus : ℤ) → are_simple (load_items ty d p plus) ≡ true
-load_simple ty d p plus = by_fit (fits w16 plus)
+load_simple ty d p plus = by_fit (fits_signed w16 plus)
   where
     by_fit : (b : Bool) → are_simple (load_by ty d p plus (if b then Some plus else None)) ≡ true
     by_fit true = near_load_simple ty d p plus
     by_fit false = simple-append (far_items p plus) (near_load ty d 0 (pos 0)) (far_simple p plus) (near_load_simple ty d 0 (pos 0))
 
 pub store_simple : (ty : MemoryType) (p : ℕ) (plus : ℤ) (a : ℕ) → are_simple (store_items ty p plus a) ≡ true
-store_simple ty p plus a = by_fit (fits w16 plus)
+store_simple ty p plus a = by_fit (fits_signed w16 plus)
   where
     by_fit : (b : Bool) → are_simple (store_by ty p plus a (if b then Some plus else None)) ≡ true
     by_fit true = refl
@@ -136,7 +136,7 @@ store_simple ty p plus a = by_fit (fits w16 plus)
 pub parts_simple : (al : Alignment) (n to from at : ℕ) → are_simple (parts_items al n to from at) ≡ true
 parts_simple al zero to from at = refl
 parts_simple al (suc n) to from at =
-    simple_one (nat_lt at reach) (part_items al to from at ++ parts_items al n to from (at + alignment_bytes al))
+    simple_one (nat_lt at copy_reach) (part_items al to from at ++ parts_items al n to from (at + alignment_bytes al))
     (moved_items to from at ++ (part_items al 1 2 0 ++ parts_items al n 1 2 (alignment_bytes al)))
     (parts_simple al n to from (at + alignment_bytes al)) (parts_simple al n 1 2 (alignment_bytes al))
 
@@ -229,7 +229,7 @@ put_char_plain : (d : Option ℕ) (arguments : List ℕ) → are_plain (put_char
 put_char_plain d [] = refl
 put_char_plain d (a ∷ arguments) = byte_plain d a
 
-exit_plain : (arguments : List ℕ) → are_plain (exit_items arguments) ≡ true
+exit_plain : (arguments : List ℕ) → are_plain (exit_call_items arguments) ≡ true
 exit_plain [] = refl
 exit_plain (a ∷ arguments) = refl
 

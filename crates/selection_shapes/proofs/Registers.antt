@@ -2,7 +2,7 @@
 use Rattle.std.proofs.Common.{◌≡◌, ℕ, zero, suc, ◌+◌, ◌-◌, ◌<◌, ◌≤◌, List, [], ◌∷◌, ◌++◌, length, map, Bool, true, false, ℤ, pos, Option, Some, None, All, refl, sym, subst, arith}
 use Rattle.std.specs.Prelude.{◌==◌, nat_lt, if◌then◌else◌}
 use Rattle.std.specs.Int.{w16}
-use Rattle.alpha_isa.specs.Arithmetic.{fits, word_from}
+use Rattle.alpha_isa.specs.Arithmetic.{fits_signed, word_from}
 use Rattle.alpha_constants.specs.declared.recipe.Finish.{Finish}
 use Rattle.alpha_constants.specs.declared.recipe.Finish.TheVariants.{Nothing, ShiftLeft, ShiftRight, LowHalf, AddLower}
 use Rattle.alpha_constants.specs.Recipes.{low_part, high_part, is_zero, recipe_of}
@@ -36,9 +36,9 @@ use Rattle.temp_ir.specs.Insns.{reads_of, writes_of}
 use Rattle.alpha_forms.specs.Constants.{unless_zero, near_items, lower_items, finish_items, recipe_items, constant_items}
 use Rattle.alpha_forms.specs.Accesses.{near_load, near_store, far_items, load_by, load_items, store_by, store_items}
 use Rattle.alpha_forms.specs.Operations.{binary_items, division_items, left_items, logical_right_items, shift_items, compare_items, convert_item, is_narrow, from_unsigned_item, from_wide_item}
-use Rattle.alpha_copies.specs.Copies.{part_items, moved_items, reach, parts_items}
-use Rattle.selection_code.specs.Instructions.{temp_of, pass_item, pass_items, take_item, take_items, result_items, byte_items, put_char_items, exit_items, call_items, return_items, insn_items, argument_register}
-use Rattle.selection_code.specs.Functions.{insns_items, parameter_items, function_blocks}
+use Rattle.alpha_copies.specs.Copies.{part_items, moved_items, copy_reach, parts_items}
+use Rattle.selection_code.specs.Instructions.{temp_of, pass_item, pass_items, take_item, take_items, result_items, byte_items, put_char_items, exit_call_items, call_items, return_items, selected_insn, argument_register}
+use Rattle.selection_code.specs.Functions.{selected_insns, parameter_items, selected_blocks}
 use Rattle.selection_shapes.specs.Shapes.{RegistersAreUsed}
 use Rattle.selection_shapes.proofs.Lists.{all_nil, all_more, all_first, all_rest, all_append}
 
@@ -136,14 +136,14 @@ module _ (n : ℕ) (some : 4 ≤ n) where
       (use_one (i.Operate Addq 0 (source.Temp p) (operand.Temp 0)) (two p 0 g zero_below, one 0 zero_below))
 
   load_uses : (ty : MemoryType) (d p : ℕ) (plus : ℤ) → d < n → p < n → AllUse n (load_items ty d p plus)
-  load_uses ty d p plus f g = by_fit (fits w16 plus)
+  load_uses ty d p plus f g = by_fit (fits_signed w16 plus)
     where
       by_fit : (b : Bool) → AllUse n (load_by ty d p plus (if b then Some plus else None))
       by_fit true = near_load_uses ty d p plus f g
       by_fit false = use_both (far_items p plus) (near_load ty d 0 (pos 0)) (far_uses p plus g) (near_load_uses ty d 0 (pos 0) f zero_below)
 
   store_uses : (ty : MemoryType) (p : ℕ) (plus : ℤ) (a : ℕ) → p < n → a < n → AllUse n (store_items ty p plus a)
-  store_uses ty p plus a g f = by_fit (fits w16 plus)
+  store_uses ty p plus a g f = by_fit (fits_signed w16 plus)
     where
       by_fit : (b : Bool) → AllUse n (store_by ty p plus a (if b then Some plus else None))
       by_fit true = use_one _ (two a p f g, none)
@@ -155,7 +155,7 @@ module _ (n : ℕ) (some : 4 ≤ n) where
   parts_uses : (al : Alignment) (count to from at : ℕ) → to < n → from < n → AllUse n (parts_items al count to from at)
   parts_uses al zero to from at f g = use_nil
   parts_uses al (suc count) to from at f g =
-      use_if (nat_lt at reach) (part_items al to from at ++ parts_items al count to from (at + alignment_bytes al))
+      use_if (nat_lt at copy_reach) (part_items al to from at ++ parts_items al count to from (at + alignment_bytes al))
       (moved_items to from at ++ (part_items al 1 2 0 ++ parts_items al count 1 2 (alignment_bytes al)))
       (use_both (part_items al to from at) (parts_items al count to from (at + alignment_bytes al)) (part_uses al to from at f g) (parts_uses al count to from (at + alignment_bytes al) f g))
       (use_more _ _ (one to f, one 1 one_below) (use_more _ _ (one from g, one 2 two_below)
@@ -277,7 +277,7 @@ module _ (count : ℕ) where
       let f = all_first (λ r. r < count) a arguments h in
       use_more (count + 4) some _ _ (one (count + 4) some (temp_of a) (room a f), none (count + 4) some) (no_temps _ _ refl refl (no_temps _ _ refl refl (byte_use d a f g)))
 
-  exit_use : (arguments : List ℕ) → All (λ r. r < count) arguments → AllUse (count + 4) (exit_items arguments)
+  exit_use : (arguments : List ℕ) → All (λ r. r < count) arguments → AllUse (count + 4) (exit_call_items arguments)
   exit_use [] h = use_nil (count + 4) some
   exit_use (a ∷ arguments) h =
       use_more (count + 4) some _ _ (one (count + 4) some (temp_of a) (room a (all_first (λ r. r < count) a arguments h)), none (count + 4) some)
@@ -296,7 +296,7 @@ module _ (count : ℕ) where
   return_use (Some value) h =
       use_more (count + 4) some _ _ (one (count + 4) some (temp_of value.register) (only value.register h), none (count + 4) some) (no_temps (i.Return true) [] refl refl (use_nil (count + 4) some))
 
-  insn_use : (y : VmInsn) → UsesRegisters vm.reads_of vm.writes_of count y → AllUse (count + 4) (insn_items y)
+  insn_use : (y : VmInsn) → UsesRegisters vm.reads_of vm.writes_of count y → AllUse (count + 4) (selected_insn y)
   insn_use (x.LoadConstant ty d word) h = constant_uses (count + 4) some (temp_of d) word (only d h.1)
   insn_use (x.LoadAddress d place plus) h = use_one (count + 4) some _ (none (count + 4) some, one (count + 4) some (temp_of d) (only d h.1))
   insn_use (x.Load ty d p plus) h = load_uses (count + 4) some ty (temp_of d) (temp_of p) plus (only d h.1) (only p h.0)
@@ -314,25 +314,25 @@ module _ (count : ℕ) where
   insn_use x.Mark h = no_temps i.Mark [] refl refl (use_nil (count + 4) some)
   insn_use x.Nop h = use_nil (count + 4) some
 
-  pub insns_use : (insns : List VmInsn) → All (UsesRegisters vm.reads_of vm.writes_of count) insns → AllUse (count + 4) (insns_items insns)
+  pub insns_use : (insns : List VmInsn) → All (UsesRegisters vm.reads_of vm.writes_of count) insns → AllUse (count + 4) (selected_insns insns)
   insns_use [] h = use_nil (count + 4) some
   insns_use (y ∷ insns) h =
-      use_both (count + 4) some (insn_items y) (insns_items insns) (insn_use y (all_first (UsesRegisters vm.reads_of vm.writes_of count) y insns h))
+      use_both (count + 4) some (selected_insn y) (selected_insns insns) (insn_use y (all_first (UsesRegisters vm.reads_of vm.writes_of count) y insns h))
       (insns_use insns (all_rest (UsesRegisters vm.reads_of vm.writes_of count) y insns h))
 
 -- ---- a function
 
-others_use : (count : ℕ) (blocks : List (List VmInsn)) → AllInsns (UsesRegisters vm.reads_of vm.writes_of count) blocks → All (AllUse (count + 4)) (map insns_items blocks)
+others_use : (count : ℕ) (blocks : List (List VmInsn)) → AllInsns (UsesRegisters vm.reads_of vm.writes_of count) blocks → All (AllUse (count + 4)) (map selected_insns blocks)
 others_use count [] h = all_nil (AllUse (count + 4))
 others_use count (block ∷ blocks) h =
-    all_more (AllUse (count + 4)) (insns_items block) (map insns_items blocks) (insns_use count block (all_first (All (UsesRegisters vm.reads_of vm.writes_of count)) block blocks h))
+    all_more (AllUse (count + 4)) (selected_insns block) (map selected_insns blocks) (insns_use count block (all_first (All (UsesRegisters vm.reads_of vm.writes_of count)) block blocks h))
     (others_use count blocks (all_rest (All (UsesRegisters vm.reads_of vm.writes_of count)) block blocks h))
 
-blocks_use : (count params : ℕ) (blocks : List (List VmInsn)) → params ≤ count → AllInsns (UsesRegisters vm.reads_of vm.writes_of count) blocks → All (AllUse (count + 4)) (function_blocks params blocks)
+blocks_use : (count params : ℕ) (blocks : List (List VmInsn)) → params ≤ count → AllInsns (UsesRegisters vm.reads_of vm.writes_of count) blocks → All (AllUse (count + 4)) (selected_blocks params blocks)
 blocks_use count params [] le h = all_nil (AllUse (count + 4))
 blocks_use count params (block ∷ blocks) le h =
-    all_more (AllUse (count + 4)) (parameter_items params ++ insns_items block) (map insns_items blocks)
-    (use_both (count + 4) (some count) (parameter_items params) (insns_items block) (takes_use count 0 params (omega (arith, le))) (insns_use count block (all_first (All (UsesRegisters vm.reads_of vm.writes_of count)) block blocks h)))
+    all_more (AllUse (count + 4)) (parameter_items params ++ selected_insns block) (map selected_insns blocks)
+    (use_both (count + 4) (some count) (parameter_items params) (selected_insns block) (takes_use count 0 params (omega (arith, le))) (insns_use count block (all_first (All (UsesRegisters vm.reads_of vm.writes_of count)) block blocks h)))
     (others_use count blocks (all_rest (All (UsesRegisters vm.reads_of vm.writes_of count)) block blocks h))
 
 pub registers_used : RegistersAreUsed

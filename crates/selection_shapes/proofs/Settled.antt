@@ -19,8 +19,8 @@ use Rattle.temp_ir.specs.declared.insn.TempInsn.TheVariants as i
 use Rattle.temp_ir.specs.Fixed.{argument_registers, fixed_reads_of, has_number, written_behind, is_settled_block, is_settled}
 use Rattle.alpha_forms.specs.Operations.{quotient_routine, remainder_routine, division_items, binary_items}
 use Rattle.selection_shapes.proofs.Lists.{both}
-use Rattle.selection_code.specs.Instructions.{temp_of, argument_register, pass_items, take_items, result_items, put_char_items, exit_items, call_items, return_items, insn_items}
-use Rattle.selection_code.specs.Functions.{insns_items, parameter_items, function_blocks}
+use Rattle.selection_code.specs.Instructions.{temp_of, argument_register, pass_items, take_items, result_items, put_char_items, exit_call_items, call_items, return_items, selected_insn}
+use Rattle.selection_code.specs.Functions.{selected_insns, parameter_items, selected_blocks}
 use Rattle.selection_shapes.specs.Shapes.{FunctionsAreSettled}
 use Rattle.selection_shapes.proofs.Plain.{is_simple, are_simple, constant_simple, load_simple, store_simple, parts_simple, shift_simple, compare_simple, convert_simple}
 
@@ -106,7 +106,7 @@ get_char_settles : (d : Option ℕ) (arguments : List ℕ) → Settles (call_ite
 get_char_settles None arguments written ys h = h _
 get_char_settles (Some d) arguments written ys h = h _
 
-exit_settles : (arguments : List ℕ) → Settles (exit_items arguments)
+exit_settles : (arguments : List ℕ) → Settles (exit_call_items arguments)
 exit_settles [] written ys h = h written
 exit_settles (a ∷ arguments) written ys h = h _
 
@@ -123,17 +123,17 @@ return_settles (Some value) written ys h = h _
 
 -- ---- instructions and blocks
 
-insn_settles : (y : VmInsn) → Settles (insn_items y)
-insn_settles (x.LoadConstant ty d word) = simple_settles (insn_items (x.LoadConstant ty d word)) (constant_simple (temp_of d) word)
+insn_settles : (y : VmInsn) → Settles (selected_insn y)
+insn_settles (x.LoadConstant ty d word) = simple_settles (selected_insn (x.LoadConstant ty d word)) (constant_simple (temp_of d) word)
 insn_settles (x.LoadAddress d place plus) = λ written ys h. h _
-insn_settles (x.Load ty d p plus) = simple_settles (insn_items (x.Load ty d p plus)) (load_simple ty (temp_of d) (temp_of p) plus)
-insn_settles (x.Store ty p plus a) = simple_settles (insn_items (x.Store ty p plus a)) (store_simple ty (temp_of p) plus (temp_of a))
-insn_settles (x.Copy to from size align) = simple_settles (insn_items (x.Copy to from size align)) (parts_simple align _ (temp_of to) (temp_of from) 0)
+insn_settles (x.Load ty d p plus) = simple_settles (selected_insn (x.Load ty d p plus)) (load_simple ty (temp_of d) (temp_of p) plus)
+insn_settles (x.Store ty p plus a) = simple_settles (selected_insn (x.Store ty p plus a)) (store_simple ty (temp_of p) plus (temp_of a))
+insn_settles (x.Copy to from size align) = simple_settles (selected_insn (x.Copy to from size align)) (parts_simple align _ (temp_of to) (temp_of from) 0)
 insn_settles (x.Unary op ty d a) = λ written ys h. h _
 insn_settles (x.Binary op ty d a b) = binary_settles op ty (temp_of d) (temp_of a) (temp_of b)
-insn_settles (x.Shift op ty d a b) = simple_settles (insn_items (x.Shift op ty d a b)) (shift_simple op ty (temp_of d) (temp_of a) (temp_of b))
-insn_settles (x.Convert from to d a) = simple_settles (insn_items (x.Convert from to d a)) (convert_simple from to (temp_of d) (temp_of a))
-insn_settles (x.Compare op ty d a b) = simple_settles (insn_items (x.Compare op ty d a b)) (compare_simple op ty (temp_of d) (temp_of a) (temp_of b))
+insn_settles (x.Shift op ty d a b) = simple_settles (selected_insn (x.Shift op ty d a b)) (shift_simple op ty (temp_of d) (temp_of a) (temp_of b))
+insn_settles (x.Convert from to d a) = simple_settles (selected_insn (x.Convert from to d a)) (convert_simple from to (temp_of d) (temp_of a))
+insn_settles (x.Compare op ty d a b) = simple_settles (selected_insn (x.Compare op ty d a b)) (compare_simple op ty (temp_of d) (temp_of a) (temp_of b))
 insn_settles (x.Branch op ty a block) = λ written ys h. h _
 insn_settles (x.Jump block) = λ written ys h. h _
 insn_settles (x.Call d c arguments) = call_settles d c arguments
@@ -141,9 +141,9 @@ insn_settles (x.Return value) = return_settles value
 insn_settles x.Mark = λ written ys h. h _
 insn_settles x.Nop = settles_nil
 
-block_settled : (insns : List VmInsn) (written : List ℕ) → is_settled_block written (insns_items insns) ≡ true
+block_settled : (insns : List VmInsn) (written : List ℕ) → is_settled_block written (selected_insns insns) ≡ true
 block_settled [] written = refl
-block_settled (y ∷ insns) written = insn_settles y written (insns_items insns) (λ w. block_settled insns w)
+block_settled (y ∷ insns) written = insn_settles y written (selected_insns insns) (λ w. block_settled insns w)
 
 -- ---- parameters
 
@@ -166,15 +166,15 @@ parameters_settled (suc (suc (suc (suc (suc (suc n)))))) ys h =
     ap (λ j. is_settled_block (take j (16 ∷ 17 ∷ 18 ∷ 19 ∷ 20 ∷ 21 ∷ [])) (parameter_items (suc (suc (suc (suc (suc (suc n)))))) ++ ys)) all
     ∙ past_six 6 n (omega arith) _ ys h
 
-others_settled : (blocks : List (List VmInsn)) → list_all (is_settled_block []) (map insns_items blocks) ≡ true
+others_settled : (blocks : List (List VmInsn)) → list_all (is_settled_block []) (map selected_insns blocks) ≡ true
 others_settled [] = refl
-others_settled (block ∷ blocks) = and_from (is_settled_block [] (insns_items block)) (list_all (is_settled_block []) (map insns_items blocks)) (block_settled block []) (others_settled blocks)
+others_settled (block ∷ blocks) = and_from (is_settled_block [] (selected_insns block)) (list_all (is_settled_block []) (map selected_insns blocks)) (block_settled block []) (others_settled blocks)
 
-function_settled : (params : ℕ) (blocks : List (List VmInsn)) → is_settled params (function_blocks params blocks) ≡ true
+function_settled : (params : ℕ) (blocks : List (List VmInsn)) → is_settled params (selected_blocks params blocks) ≡ true
 function_settled params [] = refl
 function_settled params (block ∷ blocks) =
-    and_from (is_settled_block (argument_registers params) (parameter_items params ++ insns_items block)) (list_all (is_settled_block []) (map insns_items blocks))
-    (parameters_settled params (insns_items block) (λ w. block_settled block w)) (others_settled blocks)
+    and_from (is_settled_block (argument_registers params) (parameter_items params ++ selected_insns block)) (list_all (is_settled_block []) (map selected_insns blocks))
+    (parameters_settled params (selected_insns block) (λ w. block_settled block w)) (others_settled blocks)
 
 pub functions_settled : FunctionsAreSettled
 functions_settled f = function_settled f.params f.blocks

@@ -11,8 +11,8 @@ use Rattle.suifvm_ir.specs.Functions.{last_of, front_of, AllInsns, GoesToBlocks,
 use Rattle.temp_ir.specs.declared.insn.TempInsn.{TempInsn}
 use Rattle.temp_ir.specs.declared.insn.TempInsn.TheVariants as i
 use Rattle.temp_ir.specs.Insns.{targets_of, flows_on_of}
-use Rattle.selection_code.specs.Instructions.{temp_of, insn_items}
-use Rattle.selection_code.specs.Functions.{insns_items, parameter_items, function_blocks}
+use Rattle.selection_code.specs.Instructions.{temp_of, selected_insn}
+use Rattle.selection_code.specs.Functions.{selected_insns, parameter_items, selected_blocks}
 use Rattle.selection_shapes.specs.Shapes.{BlocksAreShaped}
 use Rattle.selection_shapes.proofs.Lists.{both, all_nil, all_more, all_first, all_rest, all_append}
 use Rattle.selection_shapes.proofs.Plain.{is_plain, are_plain, simple_plain, constant_simple, load_simple, store_simple, parts_simple, binary_plain, shift_simple, compare_simple, convert_simple, call_plain, takes_plain}
@@ -36,17 +36,17 @@ last_push (x ∷ y ∷ xs) z = last_more x y (xs ++ z ∷ []) ∙ last_push (y �
 
 -- ---- one instruction
 
-pub straight_plain : (y : VmInsn) → IsStraight vm.targets_of vm.flows_on_of y → are_plain (insn_items y) ≡ true
-straight_plain (x.LoadConstant ty d word) s = simple_plain (insn_items (x.LoadConstant ty d word)) (constant_simple (temp_of d) word)
+pub straight_plain : (y : VmInsn) → IsStraight vm.targets_of vm.flows_on_of y → are_plain (selected_insn y) ≡ true
+straight_plain (x.LoadConstant ty d word) s = simple_plain (selected_insn (x.LoadConstant ty d word)) (constant_simple (temp_of d) word)
 straight_plain (x.LoadAddress d place plus) s = refl
-straight_plain (x.Load ty d p plus) s = simple_plain (insn_items (x.Load ty d p plus)) (load_simple ty (temp_of d) (temp_of p) plus)
-straight_plain (x.Store ty p plus a) s = simple_plain (insn_items (x.Store ty p plus a)) (store_simple ty (temp_of p) plus (temp_of a))
-straight_plain (x.Copy to from size align) s = simple_plain (insn_items (x.Copy to from size align)) (parts_simple align _ (temp_of to) (temp_of from) 0)
+straight_plain (x.Load ty d p plus) s = simple_plain (selected_insn (x.Load ty d p plus)) (load_simple ty (temp_of d) (temp_of p) plus)
+straight_plain (x.Store ty p plus a) s = simple_plain (selected_insn (x.Store ty p plus a)) (store_simple ty (temp_of p) plus (temp_of a))
+straight_plain (x.Copy to from size align) s = simple_plain (selected_insn (x.Copy to from size align)) (parts_simple align _ (temp_of to) (temp_of from) 0)
 straight_plain (x.Unary op ty d a) s = refl
 straight_plain (x.Binary op ty d a b) s = binary_plain op ty (temp_of d) (temp_of a) (temp_of b)
-straight_plain (x.Shift op ty d a b) s = simple_plain (insn_items (x.Shift op ty d a b)) (shift_simple op ty (temp_of d) (temp_of a) (temp_of b))
-straight_plain (x.Convert from to d a) s = simple_plain (insn_items (x.Convert from to d a)) (convert_simple from to (temp_of d) (temp_of a))
-straight_plain (x.Compare op ty d a b) s = simple_plain (insn_items (x.Compare op ty d a b)) (compare_simple op ty (temp_of d) (temp_of a) (temp_of b))
+straight_plain (x.Shift op ty d a b) s = simple_plain (selected_insn (x.Shift op ty d a b)) (shift_simple op ty (temp_of d) (temp_of a) (temp_of b))
+straight_plain (x.Convert from to d a) s = simple_plain (selected_insn (x.Convert from to d a)) (convert_simple from to (temp_of d) (temp_of a))
+straight_plain (x.Compare op ty d a b) s = simple_plain (selected_insn (x.Compare op ty d a b)) (compare_simple op ty (temp_of d) (temp_of a) (temp_of b))
 straight_plain (x.Branch op ty a block) s = absurd (omega (arith, s.0))
 straight_plain (x.Jump block) s = absurd (omega (arith, s.0))
 straight_plain (x.Call d c arguments) s = call_plain d c arguments
@@ -86,10 +86,10 @@ ends_late (z ∷ y ∷ zs) e =
     subst (All (IsStraight targets_of flows_on_of)) (sym (front_more z y zs))
     (all_more (IsStraight targets_of flows_on_of) z (front_of (y ∷ zs)) (plain_is z p.0) (ends_late (y ∷ zs) p.1))
 
-by_straight : (y : VmInsn) → IsStraight vm.targets_of vm.flows_on_of y → late (insn_items y) ≡ true
-by_straight y s = plain_late (insn_items y) (straight_plain y s)
+by_straight : (y : VmInsn) → IsStraight vm.targets_of vm.flows_on_of y → late (selected_insn y) ≡ true
+by_straight y s = plain_late (selected_insn y) (straight_plain y s)
 
-insn_late : (y : VmInsn) → late (insn_items y) ≡ true
+insn_late : (y : VmInsn) → late (selected_insn y) ≡ true
 unfolding late
 insn_late (x.LoadConstant ty d word) = by_straight (x.LoadConstant ty d word) (refl, refl)
 insn_late (x.LoadAddress d place plus) = refl
@@ -109,13 +109,13 @@ insn_late (x.Return (Some value)) = refl
 insn_late x.Mark = refl
 insn_late x.Nop = refl
 
-block_late : (insns : List VmInsn) → EndsLate vm.targets_of vm.flows_on_of insns → late (insns_items insns) ≡ true
+block_late : (insns : List VmInsn) → EndsLate vm.targets_of vm.flows_on_of insns → late (selected_insns insns) ≡ true
 unfolding late
 block_late [] h = refl
-block_late (y ∷ []) h = subst (λ l. late l ≡ true) (sym (append_nil (insn_items y))) (insn_late y)
+block_late (y ∷ []) h = subst (λ l. late l ≡ true) (sym (append_nil (selected_insn y))) (insn_late y)
 block_late (y ∷ z ∷ insns) h =
     let g : All (IsStraight vm.targets_of vm.flows_on_of) (y ∷ front_of (z ∷ insns)) = subst (All (IsStraight vm.targets_of vm.flows_on_of)) (front_more y z insns) h in
-    late_behind (insn_items y) (insns_items (z ∷ insns)) (straight_plain y (all_first (IsStraight vm.targets_of vm.flows_on_of) y (front_of (z ∷ insns)) g))
+    late_behind (selected_insn y) (selected_insns (z ∷ insns)) (straight_plain y (all_first (IsStraight vm.targets_of vm.flows_on_of) y (front_of (z ∷ insns)) g))
     (block_late (z ∷ insns) (all_rest (IsStraight vm.targets_of vm.flows_on_of) y (front_of (z ∷ insns)) g))
 
 -- ---- targets
@@ -134,10 +134,10 @@ module _ (n : ℕ) where
   one_goes : (z : TempInsn) → GoesToBlocks targets_of n z → All (GoesToBlocks targets_of n) (z ∷ [])
   one_goes z h = all_more (GoesToBlocks targets_of n) z [] h (all_nil (GoesToBlocks targets_of n))
 
-  straight_goes : (y : VmInsn) → IsStraight vm.targets_of vm.flows_on_of y → All (GoesToBlocks targets_of n) (insn_items y)
-  straight_goes y s = plain_goes (insn_items y) (straight_plain y s)
+  straight_goes : (y : VmInsn) → IsStraight vm.targets_of vm.flows_on_of y → All (GoesToBlocks targets_of n) (selected_insn y)
+  straight_goes y s = plain_goes (selected_insn y) (straight_plain y s)
 
-  insn_goes : (y : VmInsn) → GoesToBlocks vm.targets_of n y → All (GoesToBlocks targets_of n) (insn_items y)
+  insn_goes : (y : VmInsn) → GoesToBlocks vm.targets_of n y → All (GoesToBlocks targets_of n) (selected_insn y)
   insn_goes (x.LoadConstant ty d word) h = straight_goes (x.LoadConstant ty d word) (refl, refl)
   insn_goes (x.LoadAddress d place plus) h = straight_goes (x.LoadAddress d place plus) (refl, refl)
   insn_goes (x.Load ty d p plus) h = straight_goes (x.Load ty d p plus) (refl, refl)
@@ -156,29 +156,29 @@ module _ (n : ℕ) where
   insn_goes x.Mark h = straight_goes x.Mark (refl, refl)
   insn_goes x.Nop h = straight_goes x.Nop (refl, refl)
 
-  insns_go : (insns : List VmInsn) → All (GoesToBlocks vm.targets_of n) insns → All (GoesToBlocks targets_of n) (insns_items insns)
+  insns_go : (insns : List VmInsn) → All (GoesToBlocks vm.targets_of n) insns → All (GoesToBlocks targets_of n) (selected_insns insns)
   insns_go [] h = all_nil (GoesToBlocks targets_of n)
   insns_go (y ∷ insns) h =
-      all_append (GoesToBlocks targets_of n) (insn_items y) (insns_items insns) (insn_goes y (all_first (GoesToBlocks vm.targets_of n) y insns h))
+      all_append (GoesToBlocks targets_of n) (selected_insn y) (selected_insns insns) (insn_goes y (all_first (GoesToBlocks vm.targets_of n) y insns h))
       (insns_go insns (all_rest (GoesToBlocks vm.targets_of n) y insns h))
 
 -- ---- all blocks
 
 -- what the code of each block has, and keeps behind plain code, the blocks of the function have
-all_blocks : (P : List TempInsn → Type 0) (Q : List VmInsn → Type 0) → ((insns : List VmInsn) → Q insns → P (insns_items insns)) → ((xs ys : List TempInsn) → are_plain xs ≡ true → P ys → P (xs ++ ys)) →
-    (params : ℕ) (blocks : List (List VmInsn)) → All Q blocks → All P (function_blocks params blocks)
+all_blocks : (P : List TempInsn → Type 0) (Q : List VmInsn → Type 0) → ((insns : List VmInsn) → Q insns → P (selected_insns insns)) → ((xs ys : List TempInsn) → are_plain xs ≡ true → P ys → P (xs ++ ys)) →
+    (params : ℕ) (blocks : List (List VmInsn)) → All Q blocks → All P (selected_blocks params blocks)
 all_blocks P Q code behind params [] h = all_nil P
 all_blocks P Q code behind params (block ∷ blocks) h =
-    all_more P (parameter_items params ++ insns_items block) (map insns_items blocks) (behind (parameter_items params) (insns_items block) (takes_plain 0 params) (code block (all_first Q block blocks h)))
+    all_more P (parameter_items params ++ selected_insns block) (map selected_insns blocks) (behind (parameter_items params) (selected_insns block) (takes_plain 0 params) (code block (all_first Q block blocks h)))
     (others blocks (all_rest Q block blocks h))
   where
-    others : (bs : List (List VmInsn)) → All Q bs → All P (map insns_items bs)
+    others : (bs : List (List VmInsn)) → All Q bs → All P (map selected_insns bs)
     others [] g = all_nil P
-    others (b ∷ bs) g = all_more P (insns_items b) (map insns_items bs) (code b (all_first Q b bs g)) (others bs (all_rest Q b bs g))
+    others (b ∷ bs) g = all_more P (selected_insns b) (map selected_insns bs) (code b (all_first Q b bs g)) (others bs (all_rest Q b bs g))
 
 -- ---- the end
 
-stops_insn : (y : VmInsn) (before : List TempInsn) → vm.flows_on_of y ≡ false → insn_stops flows_on_of (last_of (before ++ insn_items y)) ≡ true
+stops_insn : (y : VmInsn) (before : List TempInsn) → vm.flows_on_of y ≡ false → insn_stops flows_on_of (last_of (before ++ selected_insn y)) ≡ true
 stops_insn (x.Jump block) before e = ap (insn_stops flows_on_of) (last_push before (i.Jump block))
 stops_insn (x.Return None) before e = ap (insn_stops flows_on_of) (last_push before (i.Return false))
 stops_insn (x.Return (Some value)) before e =
@@ -198,53 +198,53 @@ stops_insn (x.Call d c arguments) before e = absurd (cc)
 stops_insn x.Mark before e = absurd (cc)
 stops_insn x.Nop before e = absurd (cc)
 
-stops_block : (insns : List VmInsn) (y : VmInsn) (before : List TempInsn) → last_of insns ≡ Some y → vm.flows_on_of y ≡ false → insn_stops flows_on_of (last_of (before ++ insns_items insns)) ≡ true
+stops_block : (insns : List VmInsn) (y : VmInsn) (before : List TempInsn) → last_of insns ≡ Some y → vm.flows_on_of y ≡ false → insn_stops flows_on_of (last_of (before ++ selected_insns insns)) ≡ true
 stops_block [] y before e f = absurd (none-some y e)
 stops_block (z ∷ []) y before e f =
-    ap (λ l. insn_stops flows_on_of (last_of (before ++ l))) (append_nil (insn_items z)) ∙ stops_insn z before (ap vm.flows_on_of (same_Some z y e) ∙ f)
+    ap (λ l. insn_stops flows_on_of (last_of (before ++ l))) (append_nil (selected_insn z)) ∙ stops_insn z before (ap vm.flows_on_of (same_Some z y e) ∙ f)
 stops_block (z ∷ u ∷ insns) y before e f =
-    ap (λ l. insn_stops flows_on_of (last_of l)) (sym (append_assoc before (insn_items z) (insns_items (u ∷ insns))))
-    ∙ stops_block (u ∷ insns) y (before ++ insn_items z) (sym (last_more z u insns) ∙ e) f
+    ap (λ l. insn_stops flows_on_of (last_of l)) (sym (append_assoc before (selected_insn z) (selected_insns (u ∷ insns))))
+    ∙ stops_block (u ∷ insns) y (before ++ selected_insn z) (sym (last_more z u insns) ∙ e) f
 
 -- a block that ends with what does not go on
-block_ends : (insns : List VmInsn) (before : List TempInsn) → block_stops vm.flows_on_of (Some insns) ≡ true → block_stops flows_on_of (Some (before ++ insns_items insns)) ≡ true
+block_ends : (insns : List VmInsn) (before : List TempInsn) → block_stops vm.flows_on_of (Some insns) ≡ true → block_stops flows_on_of (Some (before ++ selected_insns insns)) ≡ true
 block_ends insns before = by_last (last_of insns) refl
   where
     by_flow : (y : VmInsn) (c : Bool) → vm.flows_on_of y ≡ c → (if c then false else true) ≡ true → vm.flows_on_of y ≡ false
     by_flow y true e f = absurd (cc)
     by_flow y false e f = e
 
-    by_last : (o : Option VmInsn) → last_of insns ≡ o → insn_stops vm.flows_on_of o ≡ true → insn_stops flows_on_of (last_of (before ++ insns_items insns)) ≡ true
+    by_last : (o : Option VmInsn) → last_of insns ≡ o → insn_stops vm.flows_on_of o ≡ true → insn_stops flows_on_of (last_of (before ++ selected_insns insns)) ≡ true
     by_last None e f = absurd (cc)
     by_last (Some y) e f = stops_block insns y before e (by_flow y (vm.flows_on_of y) refl f)
 
-blocks_end : (blocks : List (List VmInsn)) → stops vm.flows_on_of blocks ≡ true → block_stops flows_on_of (last_of (map insns_items blocks)) ≡ true
+blocks_end : (blocks : List (List VmInsn)) → stops vm.flows_on_of blocks ≡ true → block_stops flows_on_of (last_of (map selected_insns blocks)) ≡ true
 blocks_end [] e = absurd (cc)
 blocks_end (block ∷ []) e = block_ends block [] e
 blocks_end (block ∷ b ∷ blocks) e =
-    ap (block_stops flows_on_of) (last_more (insns_items block) (insns_items b) (map insns_items blocks))
+    ap (block_stops flows_on_of) (last_more (selected_insns block) (selected_insns b) (map selected_insns blocks))
     ∙ blocks_end (b ∷ blocks) (sym (ap (block_stops vm.flows_on_of) (last_more block b blocks)) ∙ e)
 
-function_ends : (params : ℕ) (blocks : List (List VmInsn)) → stops vm.flows_on_of blocks ≡ true → stops flows_on_of (function_blocks params blocks) ≡ true
+function_ends : (params : ℕ) (blocks : List (List VmInsn)) → stops vm.flows_on_of blocks ≡ true → stops flows_on_of (selected_blocks params blocks) ≡ true
 function_ends params [] e = absurd (cc)
 function_ends params (block ∷ []) e = block_ends block (parameter_items params) e
 function_ends params (block ∷ b ∷ blocks) e =
-    ap (block_stops flows_on_of) (last_more (parameter_items params ++ insns_items block) (insns_items b) (map insns_items blocks))
+    ap (block_stops flows_on_of) (last_more (parameter_items params ++ selected_insns block) (selected_insns b) (map selected_insns blocks))
     ∙ blocks_end (b ∷ blocks) (sym (ap (block_stops vm.flows_on_of) (last_more block b blocks)) ∙ e)
 
 -- ---- the law
 
-length-function : (params : ℕ) (blocks : List (List VmInsn)) → length (function_blocks params blocks) ≡ length blocks
+length-function : (params : ℕ) (blocks : List (List VmInsn)) → length (selected_blocks params blocks) ≡ length blocks
 length-function params [] = refl
-length-function params (block ∷ blocks) = ap suc (length-map blocks insns_items)
+length-function params (block ∷ blocks) = ap suc (length-map blocks selected_insns)
 
 pub blocks_shaped : BlocksAreShaped
 blocks_shaped f =
     let n = length f.blocks in
     record {
-      targets = subst (λ k. AllInsns (GoesToBlocks targets_of k) (function_blocks f.params f.blocks)) (sym (length-function f.params f.blocks))
+      targets = subst (λ k. AllInsns (GoesToBlocks targets_of k) (selected_blocks f.params f.blocks)) (sym (length-function f.params f.blocks))
           (all_blocks (All (GoesToBlocks targets_of n)) (All (GoesToBlocks vm.targets_of n)) (insns_go n) (λ xs ys p h. all_append (GoesToBlocks targets_of n) xs ys (plain_goes n xs p) h) f.params f.blocks f.targets);
-      straight = λ k d lt. ends_late (slice_index_or (function_blocks f.params f.blocks) k d)
+      straight = λ k d lt. ends_late (slice_index_or (selected_blocks f.params f.blocks) k d)
           (all_blocks (λ zs. late zs ≡ true) (EndsLate vm.targets_of vm.flows_on_of) block_late late_behind f.params f.blocks f.straight k d lt);
       stops = function_ends f.params f.blocks f.stops;
     }

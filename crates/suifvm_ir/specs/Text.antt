@@ -37,16 +37,16 @@ type_word v.S64 = codes "s64"
 type_word v.U64 = codes "u64"
 type_word v.P64 = codes "p64"
 
-abbrev pub memory_word : MemoryType → List ℕ
-memory_word m.S8 = codes "s8"
-memory_word m.U8 = codes "u8"
-memory_word m.S16 = codes "s16"
-memory_word m.U16 = codes "u16"
-memory_word m.S32 = codes "s32"
-memory_word m.U32 = codes "u32"
-memory_word m.S64 = codes "s64"
-memory_word m.U64 = codes "u64"
-memory_word m.P64 = codes "p64"
+abbrev pub memory_type_word : MemoryType → List ℕ
+memory_type_word m.S8 = codes "s8"
+memory_type_word m.U8 = codes "u8"
+memory_type_word m.S16 = codes "s16"
+memory_type_word m.U16 = codes "u16"
+memory_type_word m.S32 = codes "s32"
+memory_type_word m.U32 = codes "u32"
+memory_type_word m.S64 = codes "s64"
+memory_type_word m.U64 = codes "u64"
+memory_type_word m.P64 = codes "p64"
 
 abbrev pub unary_word : VmUnaryOp → List ℕ
 unary_word Move = codes "mov"
@@ -139,9 +139,10 @@ insn_text functions (LoadConstant ty destination word) =
 insn_text functions (LoadAddress destination place plus) =
     codes "lda " ++ register_text destination ++ codes ", " ++ place_name place ++ codes "+" ++ decimal plus
 insn_text functions (Load ty destination pointer plus) =
-    typed_text (codes "lod") (memory_word ty) (two_registers destination pointer ++ codes ", " ++ signed_decimal plus)
+    typed_text (codes "lod") (memory_type_word ty)
+    (two_registers destination pointer ++ codes ", " ++ signed_decimal plus)
 insn_text functions (Store ty pointer plus value) =
-    typed_text (codes "str") (memory_word ty)
+    typed_text (codes "str") (memory_type_word ty)
     (register_text pointer ++ codes ", " ++ signed_decimal plus ++ codes ", " ++ register_text value)
 insn_text functions (Copy to from size align) =
     codes "mcpy " ++ two_registers to from ++ codes ", " ++ decimal size ++ codes ", "
@@ -153,7 +154,7 @@ insn_text functions (Binary op ty destination left right) =
 insn_text functions (Shift op ty destination source count) =
     typed_text (shift_word op) (type_word ty) (three_registers destination source count)
 insn_text functions (Convert from to destination source) =
-    typed_text (codes "cvt") (memory_word from ++ codes "." ++ type_word to) (two_registers destination source)
+    typed_text (codes "cvt") (memory_type_word from ++ codes "." ++ type_word to) (two_registers destination source)
 insn_text functions (Compare op ty destination left right) =
     typed_text (compare_word op) (type_word ty) (three_registers destination left right)
 insn_text functions (Branch op ty source block) =

@@ -22,7 +22,7 @@ pub fn type_word(ty: VmType) -> &'static str
 
 /// The word of a type of memory.
 pub fn memory_word(ty: MemoryType) -> &'static str
-    ensures { result.now ≡ text.memory_word ty }
+    ensures { result.now ≡ text.memory_type_word ty }
 {
     match ty {
         MemoryType::S8 => "s8",

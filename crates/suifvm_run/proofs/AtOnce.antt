@@ -12,7 +12,7 @@ use Rattle.suifvm_ir.specs.declared.insn.VmBranchOp.{VmBranchOp}
 use Rattle.suifvm_ir.specs.Insns.{writes_of, targets_of}
 use Rattle.vm_meaning.specs.declared.answer.Answer.{Answer}
 use Rattle.vm_meaning.specs.declared.answer.Answer.TheVariants.{Gives}
-use Rattle.vm_meaning.specs.Effect.{takes_turn, writes, is_taken, branches}
+use Rattle.vm_meaning.specs.Effect.{takes_turn, writes, is_branch_taken, branches}
 use Rattle.suifvm_run.specs.declared.machine.Machine.{Machine}
 use Rattle.suifvm_run.specs.declared.machine.Turn.TheVariants as turn
 use Rattle.suifvm_run.specs.model.Config.{IsSound, TurnIs, Wrote, act_there, step_there, at_block, config_of, world_in}
@@ -58,7 +58,7 @@ module _ (m new : Machine) (done : Bool) where
   abbrev pub Jumped : (block : ℕ) → Type 0
   Jumped block = TurnIs m new turn.Goes (λ rooms h. Goes (at_block block (config_of m h)))
 
-  pub branched_there : (op : VmBranchOp) (b : Bool) (block : ℕ) → is_taken op b ≡ true → OnTrue done (Jumped block) → OnTrue done (Branched op (Some b) block)
+  pub branched_there : (op : VmBranchOp) (b : Bool) (block : ℕ) → is_branch_taken op b ≡ true → OnTrue done (Jumped block) → OnTrue done (Branched op (Some b) block)
   branched_there op b block taken t =
       where_done done (Jumped block) (Branched op (Some b) block) (λ t i target none. branch_taken m new turn.Goes i op (Some b) b block refl taken target none t) t
 

@@ -8,7 +8,7 @@ use Rattle.mem_model.specs.declared.value.Value.TheVariants.{Word, Address, Unse
 use Rattle.mem_model.specs.declared.value.Ptr.{Ptr}
 use Rattle.mem_model.specs.World.{Outer, World, Meter, Rooms, turn_from, put_byte, take_byte, next_byte}
 use Rattle.machine_model.specs.Code.{Act, Writes, Jumps, Calls, Returns, Stops, Site, Code}
-use Rattle.machine_model.specs.Machine.{Config, Next, Goes, world_of, turn_if, jump_to, act_on, step_at, step_with}
+use Rattle.machine_model.specs.Machine.{Config, Next, Goes, whole_world, turn_if, jump_to, act_on, step_at, step_with}
 use Rattle.suifvm_ir.specs.declared.insn.VmInsn.{VmInsn}
 use Rattle.suifvm_ir.specs.declared.insn.TypedRegister.{TypedRegister}
 use Rattle.suifvm_ir.specs.declared.insn.VmBranchOp.{VmBranchOp}
@@ -17,7 +17,7 @@ use Rattle.suifvm_ir.specs.declared.insn.VmBuiltin.TheVariants.{PutChar, GetChar
 use Rattle.suifvm_ir.specs.declared.insn.VmCallee.{VmCallee}
 use Rattle.suifvm_ir.specs.declared.insn.VmCallee.TheVariants as c
 use Rattle.suifvm_ir.specs.Insns.{reads_of, writes_of, targets_of, named_register, returned_register}
-use Rattle.vm_meaning.specs.Effect.{input_word, does, takes_turn, fails, first, puts_char, exits, builtin_act, callee_act, call_act, return_act, is_taken, branches}
+use Rattle.vm_meaning.specs.Effect.{input_word, does, takes_turn, fails, first_source, puts_char, exits_with, builtin_act, callee_act, call_act, return_act, is_branch_taken, branches}
 use Rattle.vm_meaning.specs.Operations.{is_set, is_value_of}
 use Rattle.vm_meaning.specs.Behave.{Registers, registers_of, set_registers, insn_site, site_or_next, vm_code}
 use Rattle.suifvm_run.specs.declared.machine.Machine.{Machine}
@@ -66,7 +66,7 @@ module _ (rooms : Rooms) (code : Code Value Registers) where
   -- what an instruction does hangs on the meter that it is given, and not on the world before
   act_same : (k : Config Registers) (w : World) (meter : Meter) (s : Site Value Registers) (a : Act Value) → act_on Value Registers rooms code (record k { world = w }) meter s a ≡ act_on Value Registers rooms code k meter s a
   act_same k w meter s (Writes vs o) = refl
-  act_same k w meter s (Jumps target o) = jump_same k w (world_of o meter) s (slice_get s.targets target)
+  act_same k w meter s (Jumps target o) = jump_same k w (whole_world o meter) s (slice_get s.targets target)
   act_same k w meter s (Calls function vs o) = refl
   act_same k w meter s (Returns vs o) = refl
   act_same k w meter s (Stops e o) = refl
@@ -144,24 +144,24 @@ put_address m r p value i is sound failed = as_act m m r i (puts_char (Address p
 pub put_unset : (m : Machine) (r : Turn) (value : Value) (i : VmInsn) → value ≡ Unset → IsSound m → r ≡ turn.Over (stop.Undefined (m.here.row.now.first + m.here.at)) → TurnIs m m r (λ rooms h. act_there rooms m h i (puts_char value (world_in m h).outer))
 put_unset m r value i is sound failed = as_act m m r i (puts_char Unset) (puts_char value) (λ o. ap (λ v. puts_char v o) (sym is)) (fails_turn m r i sound failed)
 
-pub exit_word : (m : Machine) (n status : ℕ) (value : Value) (i : VmInsn) → value ≡ Word n → status ≡ n % 256 → TurnIs m m (turn.Over (stop.Exits status)) (λ rooms h. act_there rooms m h i (exits value (world_in m h).outer))
+pub exit_word : (m : Machine) (n status : ℕ) (value : Value) (i : VmInsn) → value ≡ Word n → status ≡ n % 256 → TurnIs m m (turn.Over (stop.Exits status)) (λ rooms h. act_there rooms m h i (exits_with value (world_in m h).outer))
 exit_word m n status value i is status_is =
-    subst (λ k. TurnIs m m (turn.Over (stop.Exits k)) (acts m i (exits value))) (sym status_is)
-    (as_act m m (turn.Over (stop.Exits (n % 256))) i (exits (Word n)) (exits value) (λ o. ap (λ v. exits v o) (sym is)) (exits_turn m (n % 256) i))
+    subst (λ k. TurnIs m m (turn.Over (stop.Exits k)) (acts m i (exits_with value))) (sym status_is)
+    (as_act m m (turn.Over (stop.Exits (n % 256))) i (exits_with (Word n)) (exits_with value) (λ o. ap (λ v. exits_with v o) (sym is)) (exits_turn m (n % 256) i))
 
-pub exit_address : (m : Machine) (r : Turn) (p : Ptr) (value : Value) (i : VmInsn) → value ≡ Address p → IsSound m → r ≡ turn.Over (stop.Undefined (m.here.row.now.first + m.here.at)) → TurnIs m m r (λ rooms h. act_there rooms m h i (exits value (world_in m h).outer))
-exit_address m r p value i is sound failed = as_act m m r i (exits (Address p)) (exits value) (λ o. ap (λ v. exits v o) (sym is)) (fails_turn m r i sound failed)
+pub exit_address : (m : Machine) (r : Turn) (p : Ptr) (value : Value) (i : VmInsn) → value ≡ Address p → IsSound m → r ≡ turn.Over (stop.Undefined (m.here.row.now.first + m.here.at)) → TurnIs m m r (λ rooms h. act_there rooms m h i (exits_with value (world_in m h).outer))
+exit_address m r p value i is sound failed = as_act m m r i (exits_with (Address p)) (exits_with value) (λ o. ap (λ v. exits_with v o) (sym is)) (fails_turn m r i sound failed)
 
-pub exit_unset : (m : Machine) (r : Turn) (value : Value) (i : VmInsn) → value ≡ Unset → IsSound m → r ≡ turn.Over (stop.Undefined (m.here.row.now.first + m.here.at)) → TurnIs m m r (λ rooms h. act_there rooms m h i (exits value (world_in m h).outer))
-exit_unset m r value i is sound failed = as_act m m r i (exits Unset) (exits value) (λ o. ap (λ v. exits v o) (sym is)) (fails_turn m r i sound failed)
+pub exit_unset : (m : Machine) (r : Turn) (value : Value) (i : VmInsn) → value ≡ Unset → IsSound m → r ≡ turn.Over (stop.Undefined (m.here.row.now.first + m.here.at)) → TurnIs m m r (λ rooms h. act_there rooms m h i (exits_with value (world_in m h).outer))
+exit_unset m r value i is sound failed = as_act m m r i (exits_with Unset) (exits_with value) (λ o. ap (λ v. exits_with v o) (sym is)) (fails_turn m r i sound failed)
 
 -- ---- calls of built-in functions
 
-pub builtin_put : (m new : Machine) (r : Turn) (i : VmInsn) (builtin : VmBuiltin) (vs : List Value) (value : Value) → builtin ≡ PutChar → value ≡ first vs → TurnIs m new r (λ rooms h. act_there rooms m h i (puts_char value (world_in m h).outer)) → TurnIs m new r (λ rooms h. act_there rooms m h i (builtin_act builtin vs (world_in m h).outer))
+pub builtin_put : (m new : Machine) (r : Turn) (i : VmInsn) (builtin : VmBuiltin) (vs : List Value) (value : Value) → builtin ≡ PutChar → value ≡ first_source vs → TurnIs m new r (λ rooms h. act_there rooms m h i (puts_char value (world_in m h).outer)) → TurnIs m new r (λ rooms h. act_there rooms m h i (builtin_act builtin vs (world_in m h).outer))
 builtin_put m new r i builtin vs value is value_is t = as_act m new r i (puts_char value) (builtin_act builtin vs) (λ o. ap (λ v. puts_char v o) value_is ∙ ap (λ b. builtin_act b vs o) (sym is)) t
 
-pub builtin_exit : (m new : Machine) (r : Turn) (i : VmInsn) (builtin : VmBuiltin) (vs : List Value) (value : Value) → builtin ≡ Exit → value ≡ first vs → TurnIs m new r (λ rooms h. act_there rooms m h i (exits value (world_in m h).outer)) → TurnIs m new r (λ rooms h. act_there rooms m h i (builtin_act builtin vs (world_in m h).outer))
-builtin_exit m new r i builtin vs value is value_is t = as_act m new r i (exits value) (builtin_act builtin vs) (λ o. ap (λ v. exits v o) value_is ∙ ap (λ b. builtin_act b vs o) (sym is)) t
+pub builtin_exit : (m new : Machine) (r : Turn) (i : VmInsn) (builtin : VmBuiltin) (vs : List Value) (value : Value) → builtin ≡ Exit → value ≡ first_source vs → TurnIs m new r (λ rooms h. act_there rooms m h i (exits_with value (world_in m h).outer)) → TurnIs m new r (λ rooms h. act_there rooms m h i (builtin_act builtin vs (world_in m h).outer))
+builtin_exit m new r i builtin vs value is value_is t = as_act m new r i (exits_with value) (builtin_act builtin vs) (λ o. ap (λ v. exits_with v o) value_is ∙ ap (λ b. builtin_act b vs o) (sym is)) t
 
 pub builtin_get : (m : Machine) (d : Option ℕ) (i : VmInsn) (builtin : VmBuiltin) (vs : List Value) → builtin ≡ GetChar → IsSound m → m.here.at < length m.here.row.now.insns.items → writes_of i ≡ named_register d → TurnIs m m (turn.Takes d) (λ rooms h. act_there rooms m h i (builtin_act builtin vs (world_in m h).outer))
 builtin_get m d i builtin vs is sound place written = as_act m m (turn.Takes d) i (builtin_act GetChar vs) (builtin_act builtin vs) (λ o. ap (λ b. builtin_act b vs o) (sym is)) (takes_turn_to m d i sound place written)
@@ -235,10 +235,10 @@ jumped m new r i block target none t = turn_as m new r (λ rooms h. Goes (at_blo
       world = world_in m h;
     })
 
-pub branch_taken : (m new : Machine) (r : Turn) (i : VmInsn) (op : VmBranchOp) (test : Option Bool) (b : Bool) (block : ℕ) → test ≡ Some b → is_taken op b ≡ true → targets_of i ≡ block ∷ [] → writes_of i ≡ [] → TurnIs m new r (λ rooms h. Goes (at_block block (config_of m h))) → TurnIs m new r (λ rooms h. act_there rooms m h i (branches op test (world_in m h).outer))
+pub branch_taken : (m new : Machine) (r : Turn) (i : VmInsn) (op : VmBranchOp) (test : Option Bool) (b : Bool) (block : ℕ) → test ≡ Some b → is_branch_taken op b ≡ true → targets_of i ≡ block ∷ [] → writes_of i ≡ [] → TurnIs m new r (λ rooms h. Goes (at_block block (config_of m h))) → TurnIs m new r (λ rooms h. act_there rooms m h i (branches op test (world_in m h).outer))
 branch_taken m new r i op test b block is taken target none t = as_act m new r i (Jumps 0) (branches op test) (λ o. ap (λ x. branch_if x o) (sym taken) ∙ ap (λ x. branches op x o) (sym is)) (jumped m new r i block target none t)
 
-pub branch_passed : (m new : Machine) (i : VmInsn) (op : VmBranchOp) (test : Option Bool) (b : Bool) → test ≡ Some b → is_taken op b ≡ false → IsSound m → m.here.at < length m.here.row.now.insns.items → new ≡ record m { here = record m.here { at = m.here.at + 1 } } → writes_of i ≡ [] → TurnIs m new turn.Goes (λ rooms h. act_there rooms m h i (branches op test (world_in m h).outer))
+pub branch_passed : (m new : Machine) (i : VmInsn) (op : VmBranchOp) (test : Option Bool) (b : Bool) → test ≡ Some b → is_branch_taken op b ≡ false → IsSound m → m.here.at < length m.here.row.now.insns.items → new ≡ record m { here = record m.here { at = m.here.at + 1 } } → writes_of i ≡ [] → TurnIs m new turn.Goes (λ rooms h. act_there rooms m h i (branches op test (world_in m h).outer))
 branch_passed m new i op test b is passed sound place new_is none = as_act m new turn.Goes i (Writes []) (branches op test) (λ o. ap (λ x. branch_if x o) (sym passed) ∙ ap (λ x. branches op x o) (sym is)) (advanced m new i sound place new_is none)
 
 -- ---- an instruction

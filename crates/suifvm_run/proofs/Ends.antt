@@ -4,7 +4,7 @@ use Rattle.std.specs.Prelude.{slice_get, slice_index_or, All, IsTrue}
 use Rattle.std.proofs.lemmas.Option.{slice_get_within}
 use Rattle.mem_model.specs.declared.value.Value.{Value}
 use Rattle.mem_model.specs.declared.value.Value.TheVariants.{Word}
-use Rattle.machine_model.specs.Machine.{Config, Goes, start}
+use Rattle.machine_model.specs.Machine.{Config, Goes, start_config}
 use Rattle.suifvm_ir.specs.declared.insn.VmInsn.{VmInsn}
 use Rattle.suifvm_ir.specs.declared.program.VmProgram.{VmProgram}
 use Rattle.suifvm_ir.specs.Insns.{named_register}
@@ -69,7 +69,7 @@ table_marked functions program is = subst AreMarked (sym is) (lawful_marked prog
 -- every run of a program ends
 pub programs_end : ProgramsEnd
 programs_end rooms program input turns =
-    let ended = run_ends rooms (map code_of program.functions) (lawful_marked program) (start Value Registers rooms (vm_code (map code_of program.functions)) (main_of program.functions) (start_world program.globals input turns)) in
+    let ended = run_ends rooms (map code_of program.functions) (lawful_marked program) (start_config Value Registers rooms (vm_code (map code_of program.functions)) (main_of program.functions) (start_world program.globals input turns)) in
     (ended.1, record { steps = ended.0; over = ended.2 })
 
 -- ---- turns of a machine

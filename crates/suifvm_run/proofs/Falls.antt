@@ -11,7 +11,7 @@ use Rattle.mem_model.specs.Memory.{Memory}
 use Rattle.mem_model.specs.World.{Outer, Meter, World, Rooms, take_turn}
 use Rattle.mem_model.specs.Ending.{Ending}
 use Rattle.machine_model.specs.Code.{Act, Writes, Jumps, Calls, Returns, Stops, Site, Point}
-use Rattle.machine_model.specs.Machine.{Frame, Config, Next, Goes, Over, step, step_at, step_with, act_on, jump_to, return_to, resume, turn_if, world_of, go_on, exec}
+use Rattle.machine_model.specs.Machine.{Frame, Config, Next, Goes, Over, step, step_at, step_with, act_on, jump_to, return_to, resume, turn_if, whole_world, go_on, exec}
 use Rattle.suifvm_ir.specs.declared.insn.VmBranchOp.{VmBranchOp}
 use Rattle.suifvm_ir.specs.declared.insn.TypedRegister.{TypedRegister}
 use Rattle.suifvm_ir.specs.declared.insn.VmInsn.{VmInsn}
@@ -21,7 +21,7 @@ use Rattle.suifvm_ir.specs.Programs.{begins_with_mark, first_is_mark, alignment_
 use Rattle.vm_meaning.specs.declared.answer.Answer.{Answer}
 use Rattle.vm_meaning.specs.declared.answer.Answer.TheVariants.{Gives, TrapsWith, Fails}
 use Rattle.vm_meaning.specs.Operations.{is_value_of, when_value, unary_answer, convert_answer, binary_answer, shift_answer, compare_answer, value_holds, loaded_answer, stored_memory, copied_memory}
-use Rattle.vm_meaning.specs.Effect.{first, second, writes, changes, is_taken, branches, return_act, does, takes_turn}
+use Rattle.vm_meaning.specs.Effect.{first_source, second_source, writes, changes, is_branch_taken, branches, return_act, does, takes_turn}
 use Rattle.vm_meaning.specs.Behave.{FunctionCode, Registers, blocks_in, insn_site, next_site, site_or_next, site_in_function, site_in_block, vm_code}
 use Rattle.suifvm_run.specs.model.Falls.{places, most_places, left_in, places_left, calls_left, insn_in, insn_at, unless_mark, steps_left, AreMarked}
 
@@ -157,26 +157,26 @@ if_calm false x y h k = k
 
 branches_calm : (op : VmBranchOp) (test : Option Bool) (o : Outer) → NoCall (branches op test o)
 branches_calm op None o = tt
-branches_calm op (Some test) o = if_calm (is_taken op test) (Jumps 0 o) (Writes [] o) tt tt
+branches_calm op (Some test) o = if_calm (is_branch_taken op test) (Jumps 0 o) (Writes [] o) tt tt
 
 returns_calm : (value : Option TypedRegister) (vs : List Value) (o : Outer) → NoCall (return_act value vs o)
 returns_calm None vs o = tt
-returns_calm (Some value) vs o = if_calm (is_value_of value.ty (first vs)) (Returns (first vs ∷ []) o) _ tt tt
+returns_calm (Some value) vs o = if_calm (is_value_of value.ty (first_source vs)) (Returns (first_source vs ∷ []) o) _ tt tt
 
 call_turns : (i : VmInsn) (own : ℕ) (vs : List Value) (o : Outer) → ((takes_turn i ≡ true) × (unless_mark (Some i) ≡ 1)) ⊎ NoCall (does i own vs o)
 call_turns (Call d c args) own vs o = inl (refl, refl)
 call_turns Mark own vs o = inr tt
 call_turns (LoadConstant ty d w) own vs o = inr (writes_calm (when_value ty (Word w)) o)
 call_turns (LoadAddress d p n) own vs o = inr tt
-call_turns (Load ty d p n) own vs o = inr (writes_calm (loaded_answer o.memory ty (first vs) n) o)
-call_turns (Store ty p n v) own vs o = inr (changes_calm (stored_memory o.memory ty (first vs) n (second vs)) o)
-call_turns (Copy to from size align) own vs o = inr (changes_calm (copied_memory o.memory (first vs) (second vs) size (alignment_bytes align)) o)
-call_turns (Unary op ty d s) own vs o = inr (writes_calm (unary_answer op ty (first vs)) o)
-call_turns (Binary op ty d a b) own vs o = inr (writes_calm (binary_answer o.memory op ty (first vs) (second vs)) o)
-call_turns (Shift op ty d a b) own vs o = inr (writes_calm (shift_answer op ty (first vs) (second vs)) o)
-call_turns (Convert from to d s) own vs o = inr (writes_calm (convert_answer from to (first vs)) o)
-call_turns (Compare op ty d a b) own vs o = inr (writes_calm (compare_answer o.memory op ty (first vs) (second vs)) o)
-call_turns (Branch op ty s b) own vs o = inr (branches_calm op (value_holds o.memory ty (first vs)) o)
+call_turns (Load ty d p n) own vs o = inr (writes_calm (loaded_answer o.memory ty (first_source vs) n) o)
+call_turns (Store ty p n v) own vs o = inr (changes_calm (stored_memory o.memory ty (first_source vs) n (second_source vs)) o)
+call_turns (Copy to from size align) own vs o = inr (changes_calm (copied_memory o.memory (first_source vs) (second_source vs) size (alignment_bytes align)) o)
+call_turns (Unary op ty d s) own vs o = inr (writes_calm (unary_answer op ty (first_source vs)) o)
+call_turns (Binary op ty d a b) own vs o = inr (writes_calm (binary_answer o.memory op ty (first_source vs) (second_source vs)) o)
+call_turns (Shift op ty d a b) own vs o = inr (writes_calm (shift_answer op ty (first_source vs) (second_source vs)) o)
+call_turns (Convert from to d s) own vs o = inr (writes_calm (convert_answer from to (first_source vs)) o)
+call_turns (Compare op ty d a b) own vs o = inr (writes_calm (compare_answer o.memory op ty (first_source vs) (second_source vs)) o)
+call_turns (Branch op ty s b) own vs o = inr (branches_calm op (value_holds o.memory ty (first_source vs)) o)
 call_turns (Jump b) own vs o = inr tt
 call_turns (Return v) own vs o = inr (returns_calm v vs o)
 call_turns Nop own vs o = inr tt
@@ -348,7 +348,7 @@ module _ (rooms : Rooms) (fs : List FunctionCode) (marked : AreMarked fs) (k : C
 
       acted : (a : Act Value) (next : Config Registers) → ((takes_turn i ≡ true) × (unless_mark (Some i) ≡ 1)) ⊎ NoCall a → act_on Value Registers rooms (vm_code fs) k m (insn_site i) a ≡ Goes next → Falls next
       acted (Writes vs o) next c is = subst Falls (goes_is _ next is) (wrote (record { function = p.function; block = p.block; at = suc p.at }) refl)
-      acted (Jumps t o) next c is = jumped (world_of o m) refl t (slice_get (targets_of i) t) next refl is
+      acted (Jumps t o) next c is = jumped (whole_world o m) refl t (slice_get (targets_of i) t) next refl is
       acted (Calls function vs o) next (inl h) is = subst Falls (goes_is _ next is) (entered (record { function = function; block = 0; at = 0 }) h)
       acted (Calls function vs o) next (inr none) is = absurd none
       acted (Returns vs o) next c is = returned _ vs _ refl k.callers next refl is

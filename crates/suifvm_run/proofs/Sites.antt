@@ -6,7 +6,7 @@ use Rattle.std.proofs.lemmas.Option.{slice_get-map}
 use Rattle.std.proofs.lemmas.List.Sums.{sum_by-cons}
 use Rattle.suifvm_ir.specs.declared.insn.VmInsn.{VmInsn}
 use Rattle.suifvm_ir.specs.Functions.{count_of}
-use Rattle.vm_meaning.specs.Behave.{FunctionCode, site_in_function, site_in_block, site_or_next, blocks_in, sizes_in, number_of, vm_code}
+use Rattle.vm_meaning.specs.Behave.{FunctionCode, site_in_function, site_in_block, site_or_next, blocks_in, sizes_in, point_number, vm_code}
 use Rattle.suifvm_run.specs.declared.tables.BlockTable.{BlockTable}
 use Rattle.suifvm_run.specs.declared.tables.FunctionTable.{FunctionTable}
 use Rattle.suifvm_run.specs.declared.tables.ProgramTable.{ProgramTable}
@@ -125,25 +125,25 @@ module _ (p : ProgramTable) where
     pub site_past : (b at : ℕ) → slice_get t.blocks.items b ≡ None → (vm_code (functions_of p)).site (record { function = f; block = b; at = at }) ≡ None
     site_past b at is = row_at b at None is
 
-    number_in : (b at : ℕ) → number_of (functions_of p) (record { function = f; block = b; at = at }) ≡ counted f p.functions.items + count_of (take b (blocks_of t.blocks.items)) + at
+    number_in : (b at : ℕ) → point_number (functions_of p) (record { function = f; block = b; at = at }) ≡ counted f p.functions.items + count_of (take b (blocks_of t.blocks.items)) + at
     number_in b at = ap (λ bs. counted f p.functions.items + count_of (take b bs) + at) blocks_are
 
     module _ (numbers : AreNumbered 0 p.functions.items p.end) where
       first : IsNumbered (counted f p.functions.items) t.blocks.items t.end
       first = subst (λ k. IsNumbered k t.blocks.items t.end) (zero-add (counted f p.functions.items)) (function_first 0 p.end p.functions.items f t numbers there)
 
-      pub number_there : (b at : ℕ) (row : BlockTable) → slice_get t.blocks.items b ≡ Some row → number_of (functions_of p) (record { function = f; block = b; at = at }) ≡ row.first + at
+      pub number_there : (b at : ℕ) (row : BlockTable) → slice_get t.blocks.items b ≡ Some row → point_number (functions_of p) (record { function = f; block = b; at = at }) ≡ row.first + at
       number_there b at row is =
           let is_first : row.first ≡ counted f p.functions.items + count_of (take b (blocks_of t.blocks.items)) = block_first (counted f p.functions.items) t.end t.blocks.items b row first is in
           number_in b at ∙ ap (λ n. n + at) (sym is_first)
 
-      pub number_past : (b : ℕ) → slice_get t.blocks.items b ≡ None → number_of (functions_of p) (record { function = f; block = b; at = 0 }) ≡ t.end
+      pub number_past : (b : ℕ) → slice_get t.blocks.items b ≡ None → point_number (functions_of p) (record { function = f; block = b; at = 0 }) ≡ t.end
       number_past b is =
           let last : t.end ≡ counted f p.functions.items + count_of (take b (blocks_of t.blocks.items)) = blocks_end (counted f p.functions.items) t.end t.blocks.items b first is in
           let none : counted f p.functions.items + count_of (take b (blocks_of t.blocks.items)) + 0 ≡ counted f p.functions.items + count_of (take b (blocks_of t.blocks.items)) = omega arith in
           number_in b 0 ∙ none ∙ sym last
 
-  pub number_missing : (f : ℕ) → slice_get p.functions.items f ≡ None → AreNumbered 0 p.functions.items p.end → number_of (functions_of p) (record { function = f; block = 0; at = 0 }) ≡ p.end
+  pub number_missing : (f : ℕ) → slice_get p.functions.items f ≡ None → AreNumbered 0 p.functions.items p.end → point_number (functions_of p) (record { function = f; block = 0; at = 0 }) ≡ p.end
   number_missing f is numbers =
       let none : counted f p.functions.items + 0 + 0 ≡ counted f p.functions.items = omega arith in
       none ∙ sym (functions_end 0 p.end p.functions.items f numbers is ∙ zero-add (counted f p.functions.items))

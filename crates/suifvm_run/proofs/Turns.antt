@@ -14,7 +14,7 @@ use Rattle.suifvm_ir.specs.Insns.{writes_of}
 use Rattle.vm_meaning.specs.Effect.{writes, changes}
 use Rattle.vm_meaning.specs.declared.answer.Answer.{Answer}
 use Rattle.vm_meaning.specs.declared.answer.Answer.TheVariants.{Gives, TrapsWith, Fails}
-use Rattle.vm_meaning.specs.Behave.{Registers, registers_of, set_register, set_registers, number_of, vm_code}
+use Rattle.vm_meaning.specs.Behave.{Registers, registers_of, set_register, set_registers, point_number, vm_code}
 use Rattle.suifvm_run.specs.declared.machine.Machine.{Machine}
 use Rattle.suifvm_run.specs.declared.machine.Stop.TheVariants as stop
 use Rattle.suifvm_run.specs.declared.machine.Turn.{Turn}
@@ -121,7 +121,7 @@ pub exits_turn : (m : Machine) (status : ℕ) (i : VmInsn) → TurnIs m m (turn.
 exits_turn m status i = stops_there m (stop.Exits status) _ (λ rooms h. refl)
 
 -- the number of the instruction where a machine stands
-pub number_here : (m : Machine) → IsSound m → number_of (program_of m) (point_of m.here) ≡ m.here.row.now.first + m.here.at
+pub number_here : (m : Machine) → IsSound m → point_number (program_of m) (point_of m.here) ≡ m.here.row.now.first + m.here.at
 number_here m sound = number_there m.program.now m.here.function m.here.table.now sound.here.table sound.numbers m.here.block m.here.at m.here.row.now sound.here.row
 
 pub fails_turn : (m : Machine) (r : Turn) (i : VmInsn) → IsSound m → r ≡ turn.Over (stop.Undefined (m.here.row.now.first + m.here.at)) → TurnIs m m r (λ rooms h. act_there rooms m h i (Stops HasNoMeaning (world_in m h).outer))

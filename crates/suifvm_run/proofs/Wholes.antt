@@ -5,7 +5,7 @@ use Rattle.bk_memory.specs.Shortage.{MemoryIsShort}
 use Rattle.mem_model.specs.declared.value.Value.{Value}
 use Rattle.mem_model.specs.Memory.{Memory}
 use Rattle.mem_model.specs.World.{World, Rooms, meter_of}
-use Rattle.machine_model.specs.Machine.{Config, Goes, start}
+use Rattle.machine_model.specs.Machine.{Config, Goes, start_config}
 use Rattle.data_object.specs.Start.{start_memory}
 use Rattle.suifvm_ir.specs.declared.program.VmProgram.{VmProgram}
 use Rattle.vm_meaning.specs.Behave.{Registers, code_of, main_of, vm_code, vm_run, start_world}
@@ -15,7 +15,7 @@ use Rattle.suifvm_run.specs.declared.machine.Machine.{Machine}
 use Rattle.suifvm_run.specs.declared.machine.Stop.{Stop}
 use Rattle.suifvm_run.specs.declared.machine.NoStart.TheVariants as no_start
 use Rattle.suifvm_run.specs.declared.tables.ProgramTable.{ProgramTable}
-use Rattle.suifvm_run.specs.Run.{Steps, VmBehaves, Stops, run_of}
+use Rattle.suifvm_run.specs.Run.{Steps, VmBehaves, Stops, program_run}
 use Rattle.bk_io.specs.Outside.{Traffic, count_plus}
 use Rattle.suifvm_run.specs.model.Begin.{start_at, first_hidden, Begins, HasNoStart, IsOverAtOnce}
 use Rattle.suifvm_run.specs.model.Progress.{run_from, StandsAt, stop_ending}
@@ -81,7 +81,7 @@ world_with memory input turns = record {
   meter = meter_of turns;
 }
 
-stops_of : (rooms : Rooms) (program : VmProgram) (input : List ℕ) (turns : ℕ) (ending : VmEnding) (last : World) → StopsAs (run_of rooms program input turns) turns ending last → Stops rooms program input turns ending last
+stops_of : (rooms : Rooms) (program : VmProgram) (input : List ℕ) (turns : ℕ) (ending : VmEnding) (last : World) → StopsAs (program_run rooms program input turns) turns ending last → Stops rooms program input turns ending last
 stops_of rooms program input turns (e.Ended status) last s = record { steps = s.steps; over = s.over }
 stops_of rooms program input turns (e.Trapped code) last s = record { steps = s.steps; over = s.over }
 stops_of rooms program input turns (e.Undefined pc) last s = record { steps = s.steps; over = s.over }
@@ -90,7 +90,7 @@ stops_of rooms program input turns e.InputFault last s = s
 stops_of rooms program input turns e.WriteFault last s = s
 stops_of rooms program input turns e.NoMemory last s = s
 
-behaves : (rooms : Rooms) (program : VmProgram) (input : List ℕ) (turns : ℕ) (ending : VmEnding) (told after : Traffic) → IsRun (run_of rooms program input turns) turns ending told after → VmBehaves rooms program input turns ending told after
+behaves : (rooms : Rooms) (program : VmProgram) (input : List ℕ) (turns : ℕ) (ending : VmEnding) (told after : Traffic) → IsRun (program_run rooms program input turns) turns ending told after → VmBehaves rooms program input turns ending told after
 behaves rooms program input turns ending told after r = record {
   last = r.last;
   stops = stops_of rooms program input turns ending r.last r.stops;
@@ -118,4 +118,4 @@ not_begun program rooms input turns told short left = record {
 }
   where
     first_of : VmProgram → Config Registers
-    first_of q = start Value Registers rooms (vm_code (map code_of q.functions)) (main_of q.functions) (start_world q.globals input turns)
+    first_of q = start_config Value Registers rooms (vm_code (map code_of q.functions)) (main_of q.functions) (start_world q.globals input turns)

@@ -38,8 +38,8 @@ pub record PutsNext (run : Steps) (last : World) : Type 0 where
   pub puts : (next_world (run (suc before.steps))).outer.output ≡ last.outer.output ++ byte ∷ []
 
 -- the run of a program on an input with so many turns, from its start
-abbrev pub run_of : Rooms → VmProgram → (input : List ℕ) → (turns : ℕ) → Steps
-run_of rooms program input turns =
+abbrev pub program_run : Rooms → VmProgram → (input : List ℕ) → (turns : ℕ) → Steps
+program_run rooms program input turns =
     vm_run rooms (map code_of program.functions) (main_of program.functions)
     (start_world program.globals input turns)
 
@@ -50,9 +50,9 @@ Stops rooms program input turns (e.Ended status) last = behave_vm rooms program 
 Stops rooms program input turns (e.Trapped code) last = behave_vm rooms program input turns (Trap last code)
 Stops rooms program input turns (e.Undefined pc) last = behave_vm rooms program input turns (Undefined last pc)
 Stops rooms program input turns (e.Budget n) last = (n ≡ turns) × behave_vm rooms program input turns (More last)
-Stops rooms program input turns e.InputFault last = TakesNext (run_of rooms program input turns) last
-Stops rooms program input turns e.WriteFault last = PutsNext (run_of rooms program input turns) last
-Stops rooms program input turns e.NoMemory last = GoesOn (run_of rooms program input turns) last × MemoryIsShort
+Stops rooms program input turns e.InputFault last = TakesNext (program_run rooms program input turns) last
+Stops rooms program input turns e.WriteFault last = PutsNext (program_run rooms program input turns) last
+Stops rooms program input turns e.NoMemory last = GoesOn (program_run rooms program input turns) last × MemoryIsShort
 
 -- the run of a program on an input with so many turns that stopped: how, and what it did to the input and the output
 pub record VmBehaves (rooms : Rooms) (program : VmProgram) (input : List ℕ) (turns : ℕ) (ending : VmEnding)

@@ -110,7 +110,7 @@ fn begin_call<'c, 'p>(
 /// The value of the first of the registers.
 fn first(stack: &[Value], base: usize, registers: &[u32]) -> Value
     requires { base ≤ length stack.now }
-    ensures { result ≡ effect.first (map (registers_of (drop base stack.now)) registers.now) }
+    ensures { result ≡ effect.first_source (map (registers_of (drop base stack.now)) registers.now) }
 {
     match registers.first() {
         None => Value::Unset,
@@ -280,7 +280,7 @@ impl<'c, 'p> Machine<'c, 'p> {
         requires sound { config.IsSound self.now }
         requires within { self.now.here.at < length self.now.here.row.now.insns.items }
         ensures { (i : Insn) → config.TurnIs self.now self.now result (λ rooms h. config.act_there rooms self.now h i
-            (effect.exits value (config.world_in self.now h).outer)) }
+            (effect.exits_with value (config.world_in self.now h).outer)) }
     {
         match value {
             Value::Word(word) => Turn::Over(Stop::Exits((word % 256) as u8)),

@@ -23,7 +23,7 @@ use vm_operations::objects::{copy, store};
 
 /// Whether a branch is taken where its test gives this.
 pub(crate) fn is_taken(op: VmBranchOp, test: bool) -> bool
-    ensures { result ≡ effect.is_taken op test }
+    ensures { result ≡ effect.is_branch_taken op test }
 {
     match op {
         VmBranchOp::IfTrue => test,

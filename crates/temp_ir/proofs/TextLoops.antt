@@ -6,16 +6,16 @@ use Rattle.bk_ilist.specs.Listing.{items}
 use Rattle.temp_ir.specs.declared.insn.TempInsn.{TempInsn}
 use Rattle.suifvm_ir.specs.Functions.{count_of}
 use Rattle.temp_ir.specs.Programs.{TempFn}
-use Rattle.temp_ir.specs.Text.{register_text, registers_text, line_text, insns_text, block_text, blocks_text, function_text, functions_text}
+use Rattle.temp_ir.specs.Text.{register_name, registers_text, line_text, insns_text, block_text, blocks_text, function_text, functions_text}
 
 -- what stands behind two pieces
 two_pieces : (out a b rest : List ℕ) → (out ++ a ++ b) ++ rest ≡ out ++ (a ++ b ++ rest)
 two_pieces out a b rest = append_assoc (out ++ a) b rest ∙ append_assoc out a (b ++ rest) ∙ ap (λ x. out ++ x) (sym (append_assoc a b rest))
 
-pub registers_next : (out registers : List ℕ) (i r : ℕ) → r ≡ get_or registers i r → i < length registers → (out ++ 44 ∷ 32 ∷ [] ++ register_text r) ++ registers_text (drop (i + 1) registers) ≡ out ++ registers_text (drop i registers)
+pub registers_next : (out registers : List ℕ) (i r : ℕ) → r ≡ get_or registers i r → i < length registers → (out ++ 44 ∷ 32 ∷ [] ++ register_name r) ++ registers_text (drop (i + 1) registers) ≡ out ++ registers_text (drop i registers)
 registers_next out registers i r is within =
-    two_pieces out (44 ∷ 32 ∷ []) (register_text r) (registers_text (drop (i + 1) registers))
-    ∙ ap (λ x. out ++ (44 ∷ 32 ∷ [] ++ register_text x ++ registers_text (drop (i + 1) registers))) is
+    two_pieces out (44 ∷ 32 ∷ []) (register_name r) (registers_text (drop (i + 1) registers))
+    ∙ ap (λ x. out ++ (44 ∷ 32 ∷ [] ++ register_name x ++ registers_text (drop (i + 1) registers))) is
     ∙ ap (λ x. out ++ x) (sym (at_drop_more registers_text registers i r within))
 
 pub registers_end : (out registers : List ℕ) (i : ℕ) → length registers ≤ i → out ++ registers_text (drop i registers) ≡ out

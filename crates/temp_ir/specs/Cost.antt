@@ -8,13 +8,13 @@ use Rattle.temp_ir.specs.Insns.{targets_of, flows_on_of}
 use Rattle.temp_ir.specs.Programs.{TempFn}
 
 -- an instruction calls a function or a division routine
-abbrev pub is_call : TempInsn → Bool
-is_call (Call function arguments) = true
-is_call (Divide routine) = true
-is_call i = false
+abbrev pub makes_call : TempInsn → Bool
+makes_call (Call function arguments) = true
+makes_call (Divide routine) = true
+makes_call i = false
 
 abbrev pub call_count : List (List TempInsn) → ℕ
-call_count blocks = sum_by (λ block. count_by is_call block) blocks
+call_count blocks = sum_by (λ block. count_by makes_call block) blocks
 
 -- the words of a function whose edges are split, with all that is moved
 abbrev pub bulk : TempFn → ℕ

@@ -24,8 +24,8 @@ use Rattle.temp_ir.specs.Programs.{TempFn}
 abbrev pub temp_text : (mark : List ℕ) → (t : ℕ) → List ℕ
 temp_text mark t = mark ++ decimal t
 
-abbrev pub register_text : ℕ → List ℕ
-register_text r = codes "$" ++ decimal r
+abbrev pub register_name : ℕ → List ℕ
+register_name r = codes "$" ++ decimal r
 
 abbrev pub source_text : (mark : List ℕ) → FirstOperand → List ℕ
 source_text mark source.Zero = codes "$31"
@@ -38,7 +38,7 @@ operand_text mark (operand.Literal n) = decimal n
 -- each with a comma before it
 abbrev pub registers_text : List ℕ → List ℕ
 registers_text [] = []
-registers_text (r ∷ registers) = codes ", " ++ register_text r ++ registers_text registers
+registers_text (r ∷ registers) = codes ", " ++ register_name r ++ registers_text registers
 
 abbrev pub routine_word : DivisionRoutine → List ℕ
 routine_word Divq = codes "__divq"
@@ -86,11 +86,11 @@ insn_text mark (Extend op destination source) =
     mnemonic.operate_word (extend_op op) ++ codes " " ++ operand_text mark source ++ codes ", "
     ++ temp_text mark destination
 insn_text mark (ToFixed register source) =
-    codes "bis $31, " ++ temp_text mark source ++ codes ", " ++ register_text (register_number register)
+    codes "bis $31, " ++ temp_text mark source ++ codes ", " ++ register_name (register_number register)
 insn_text mark (FromFixed destination register) =
-    codes "bis $31, " ++ register_text (register_number register) ++ codes ", " ++ temp_text mark destination
+    codes "bis $31, " ++ register_name (register_number register) ++ codes ", " ++ temp_text mark destination
 insn_text mark (SetFixed register number) =
-    codes "lda " ++ register_text (register_number register) ++ codes ", " ++ signed_decimal number ++ codes "($31)"
+    codes "lda " ++ register_name (register_number register) ++ codes ", " ++ signed_decimal number ++ codes "($31)"
 insn_text mark (WriteArgument number source) =
     codes "stq " ++ temp_text mark source ++ codes ", out" ++ decimal number
 insn_text mark (ReadArgument destination number) =

@@ -56,7 +56,7 @@ fn put_temp(out: &mut Vec<u8>, mark: &str, temp: u32) -> Result<(), AllocError>
 
 /// Puts a register by its number.
 fn put_register(out: &mut Vec<u8>, register: u8) -> Result<(), AllocError>
-    ensures { OnOk result (out.new.items ≡ out.old.items ++ text.register_text register) }
+    ensures { OnOk result (out.new.items ≡ out.old.items ++ text.register_name register) }
 {
     put(out, "$")?;
     put_number(out, u64::from(register))
@@ -209,7 +209,7 @@ fn put_to_fixed(
 ) -> Result<(), AllocError>
     ensures { OnOk result (out.new.items ≡ out.old.items
         ++ (codes "bis $31, " ++ text.temp_text mark.now source ++ codes ", "
-        ++ text.register_text (register_number register))) }
+        ++ text.register_name (register_number register))) }
 {
     put(out, "bis $31, ")?;
     put_temp(out, mark, source)?;
@@ -225,7 +225,7 @@ fn put_from_fixed(
     register: FixedRegister,
 ) -> Result<(), AllocError>
     ensures { OnOk result (out.new.items ≡ out.old.items
-        ++ (codes "bis $31, " ++ text.register_text (register_number register) ++ codes ", "
+        ++ (codes "bis $31, " ++ text.register_name (register_number register) ++ codes ", "
         ++ text.temp_text mark.now destination)) }
 {
     put(out, "bis $31, ")?;
@@ -237,7 +237,7 @@ fn put_from_fixed(
 /// Puts a number that a fixed register gets.
 fn put_set_fixed(out: &mut Vec<u8>, register: FixedRegister, number: i16) -> Result<(), AllocError>
     ensures { OnOk result (out.new.items ≡ out.old.items
-        ++ (codes "lda " ++ text.register_text (register_number register) ++ codes ", " ++ signed_decimal number
+        ++ (codes "lda " ++ text.register_name (register_number register) ++ codes ", " ++ signed_decimal number
         ++ codes "($31)")) }
 {
     put(out, "lda ")?;

@@ -15,9 +15,9 @@ use Rattle.cfg.specs.Walks.{block_at, SameWalks}
 use Rattle.cfg.proofs.Kept.{successor_within, target_goes}
 use Rattle.std.specs.List.{Contains}
 use Rattle.std.proofs.lemmas.List.Elements.{Contains-append_right}
-use Rattle.alloc_model.specs.Contents.{Content, unset}
+use Rattle.alloc_model.specs.Contents.{Content, unset_content}
 use Rattle.alloc_model.specs.Stores.{put_all, without}
-use Rattle.alloc_model.specs.Effect.{Holder, Temp, Fixed, Incoming, Outgoing, holder_eq, holders_written, is_emptied, is_call, widest_call}
+use Rattle.alloc_model.specs.Effect.{Holder, Temp, Fixed, Incoming, Outgoing, holder_eq, holders_written, is_emptied, calls_function, widest_call}
 use Rattle.alloc_model.specs.Temporaries.{Temps, TemporaryCode, temp_site, next_site, next_if, goes_on, is_left_at, site_or_next, site_in, blocks_in, temp_code}
 use Rattle.temp_walk_laws.specs.SameRuns.{AreWithin}
 use Rattle.temp_walk_laws.proofs.Walking.{Silent, Here, ByJump, ByFall, Alike}
@@ -175,16 +175,16 @@ abbrev pub put_after : TempInsn → List Content → Temps → Temps
 put_after i cs s = put_all holder_eq (holders_written i) cs (without (is_emptied i) s)
 
 -- an instruction that is no call loses nothing
-kept_at : (i : TempInsn) (s : Temps) → is_call i ≡ false → (h : Holder) → without (is_emptied i) s h ≡ s h
-kept_at i s calm h = ap (λ b. if b then unset else s h) (never_emptied i h calm)
+kept_at : (i : TempInsn) (s : Temps) → calls_function i ≡ false → (h : Holder) → without (is_emptied i) s h ≡ s h
+kept_at i s calm h = ap (λ b. if b then unset_content else s h) (never_emptied i h calm)
   where
-    never_emptied : (i : TempInsn) (h : Holder) → is_call i ≡ false → is_emptied i h ≡ false
+    never_emptied : (i : TempInsn) (h : Holder) → calls_function i ≡ false → is_emptied i h ≡ false
     never_emptied i (Temp k) calm = refl
     never_emptied i (Fixed k) calm = refl
     never_emptied i (Incoming k) calm = refl
     never_emptied i (Outgoing k) calm = calm
 
-pub kept : (i : TempInsn) (s : Temps) → is_call i ≡ false → without (is_emptied i) s ≡ s
+pub kept : (i : TempInsn) (s : Temps) → calls_function i ≡ false → without (is_emptied i) s ≡ s
 kept i s calm = fun_ext (kept_at i s calm)
 
 -- steps that only go elsewhere in a function

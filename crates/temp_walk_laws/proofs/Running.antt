@@ -3,7 +3,7 @@ use Rattle.std.proofs.Common.{◌≡◌, ℕ, zero, suc, ◌+◌, ◌<◌, Bool,
 use Rattle.mem_model.specs.World.{Outer, Meter, World, Rooms, enter_call, leave_call}
 use Rattle.mem_model.specs.Ending.{Ending, Done, Trap, Undefined, More, SameEnding}
 use Rattle.machine_model.specs.Code.{Stop, Exits, Traps, HasNoMeaning, Act, Writes, Jumps, Calls, Returns, Stops, Code}
-use Rattle.machine_model.specs.Machine.{Frame, Config, Next, Goes, Over, world_of, begin_locals, end_locals, turn_if, stop_ending, jump_to, resume, status_ending, return_to, act_on, step_with, step_at, step, go_on, exec, start}
+use Rattle.machine_model.specs.Machine.{Frame, Config, Next, Goes, Over, whole_world, begin_locals, end_locals, turn_if, stop_ending, jump_to, resume, status_ending, return_to, act_on, step_with, step_at, step, go_on, exec, start_config}
 use Rattle.machine_model.proofs.Runs.{steps_add_up}
 use Rattle.temp_ir.specs.declared.operation.TempBranchOp.{TempBranchOp}
 use Rattle.temp_ir.specs.declared.insn.TempInsn.{TempInsn}
@@ -11,10 +11,10 @@ use Rattle.temp_ir.specs.declared.insn.TempInsn.TheVariants.{Branch, Jump}
 use Rattle.temp_ir.specs.Insns.{targets_of, flows_on_of}
 use Rattle.cfg.specs.Walks.{block_at}
 use Rattle.cfg.proofs.Kept.{none_stop}
-use Rattle.alloc_model.specs.Contents.{Content, test_of}
+use Rattle.alloc_model.specs.Contents.{Content, branch_test}
 use Rattle.alloc_model.specs.Stores.{put_all, empty, without}
-use Rattle.alloc_model.specs.Effect.{holder_eq, entry_holders, holders_read, is_call, is_emptied, does, takes_turn, branches, widest_call, content_at}
-use Rattle.alloc_model.specs.Temporaries.{Temps, TemporaryCode, sizes_in, temp_code, status_of}
+use Rattle.alloc_model.specs.Effect.{holder_eq, entry_holders, holders_read, calls_function, is_emptied, does, takes_turn, branches, widest_call, content_at}
+use Rattle.alloc_model.specs.Temporaries.{Temps, TemporaryCode, sizes_in, temp_code, result_status}
 use Rattle.temp_walk_laws.specs.SameRuns.{WritesWithin, AreWithin}
 use Rattle.temp_walk_laws.proofs.Within.{within_at}
 use Rattle.temp_walk_laws.proofs.Flows.{writes_flow, calls_flow, does_same}
@@ -75,7 +75,7 @@ module _ (rooms : Rooms) (fs gs : List TemporaryCode) (same : (n : ℕ) → Same
   status_same at to w (Some status) = BothEnd (Done w status) (Done w status) refl
 
   return_same : (at to : ℕ) (vs : List Content) (w : World) (us ws : List (Frame Temps)) → Waiting us ws → SameNext (return_to Content Temps rooms first_code at vs w us) (return_to Content Temps rooms other_code to vs w ws)
-  return_same at to vs w _ _ NoCaller = status_same at to w (status_of vs)
+  return_same at to vs w _ _ NoCaller = status_same at to w (result_status vs)
   return_same at to vs w _ _ (Caller {us = us} {ws = ws} n own rs f g b p c q i is there valid before after here site stands waiting) =
       subst (λ o. SameNext (resume Content Temps rooms first_code (frame n own rs b p) us w vs o) (resume Content Temps rooms other_code (frame n own rs c q) ws w vs (site_in_function c q (slice_get gs n)))) (sym here)
       (subst (λ o. SameNext (resume Content Temps rooms first_code (frame n own rs b p) us w vs (Some (insn_site f i))) (resume Content Temps rooms other_code (frame n own rs c q) ws w vs o)) (sym site)
@@ -96,17 +96,17 @@ module _ (rooms : Rooms) (fs gs : List TemporaryCode) (same : (n : ℕ) → Same
     -- an instruction without targets
     act_same : (i : TempInsn) (m : Meter) (a : Act Content) → targets_of i ≡ [] → site_in_function b at (slice_get fs n) ≡ Some (insn_site f i) → site_in_function c to (slice_get gs n) ≡ Some (insn_site g i) → ((vs : List Content) (o : Outer) → a ≡ Writes vs o → flows_on_of i ≡ true) → ((function : ℕ) (vs : List Content) (o : Outer) → a ≡ Calls function vs o → flows_on_of i ≡ true) → (flows_on_of i ≡ true → Stands f.blocks g.blocks b (suc at) c (suc to)) → SameNext (act_on Content Temps rooms first_code k m (insn_site f i) a) (act_on Content Temps rooms other_code l m (insn_site g i) a)
     act_same i m (Writes vs o) none here site writes calls next =
-        BothGo _ _ (Same _ _ us ws (world_of o m) (Inside n own (put_after i vs rs) f g b (suc at) c (suc to) is there valid before after (next (writes vs o refl))) waiting)
+        BothGo _ _ (Same _ _ us ws (whole_world o m) (Inside n own (put_after i vs rs) f g b (suc at) c (suc to) is there valid before after (next (writes vs o refl))) waiting)
     act_same i m (Jumps target o) none here site writes calls next =
-        subst (λ ts. SameNext (jump_to Content Temps rooms first_code k (world_of o m) (insn_site f i) (slice_get ts target)) (jump_to Content Temps rooms other_code l (world_of o m) (insn_site g i) (slice_get ts target))) (sym none)
+        subst (λ ts. SameNext (jump_to Content Temps rooms first_code k (whole_world o m) (insn_site f i) (slice_get ts target)) (jump_to Content Temps rooms other_code l (whole_world o m) (insn_site g i) (slice_get ts target))) (sym none)
         (BothEnd _ _ (_, refl))
     act_same i m (Calls function vs o) none here site writes calls next =
-        subst (λ sizes. SameNext (act_on Content Temps rooms first_code k m (insn_site f i) (Calls function vs o)) (Goes (record { here = frame function (length o.memory) (entry_store vs) 0 0; callers = l.here ∷ ws; world = world_of (begin_locals o sizes) (enter_call rooms function m) }))) (locals_same function)
+        subst (λ sizes. SameNext (act_on Content Temps rooms first_code k m (insn_site f i) (Calls function vs o)) (Goes (record { here = frame function (length o.memory) (entry_store vs) 0 0; callers = l.here ∷ ws; world = whole_world (begin_locals o sizes) (enter_call rooms function m) }))) (locals_same function)
         (BothGo _ _ (Same _ _ (k.here ∷ us) (l.here ∷ ws) _ (entry_same function (length o.memory) (entry_store vs)) (Caller n own rs f g b at c to i is there valid before after here site (next (calls function vs o refl)) waiting)))
     act_same i m (Returns vs o) none here site writes calls next =
-        subst (λ sizes. SameNext (act_on Content Temps rooms first_code k m (insn_site f i) (Returns vs o)) (return_to Content Temps rooms other_code (other_code.number l.here.point) vs (world_of (end_locals o own (length sizes)) (leave_call rooms n m)) ws)) (locals_same n)
-        (return_same (first_code.number k.here.point) (other_code.number l.here.point) vs (world_of (end_locals o own (length (sizes_in (slice_get fs n)))) (leave_call rooms n m)) us ws waiting)
-    act_same i m (Stops e o) none here site writes calls next = stop_same e (first_code.number k.here.point) (other_code.number l.here.point) (world_of o m)
+        subst (λ sizes. SameNext (act_on Content Temps rooms first_code k m (insn_site f i) (Returns vs o)) (return_to Content Temps rooms other_code (other_code.number l.here.point) vs (whole_world (end_locals o own (length sizes)) (leave_call rooms n m)) ws)) (locals_same n)
+        (return_same (first_code.number k.here.point) (other_code.number l.here.point) vs (whole_world (end_locals o own (length (sizes_in (slice_get fs n)))) (leave_call rooms n m)) us ws waiting)
+    act_same i m (Stops e o) none here site writes calls next = stop_same e (first_code.number k.here.point) (other_code.number l.here.point) (whole_world o m)
 
     plain_with : (i : TempInsn) (turn : Option Meter) → WritesWithin (widest_call f.blocks) i → WritesWithin (widest_call g.blocks) i → targets_of i ≡ [] → site_in_function b at (slice_get fs n) ≡ Some (insn_site f i) → site_in_function c to (slice_get gs n) ≡ Some (insn_site g i) → (flows_on_of i ≡ true → Stands f.blocks g.blocks b (suc at) c (suc to)) → SameNext (step_with Content Temps rooms first_code k (insn_site f i) turn) (step_with Content Temps rooms other_code l (insn_site g i) turn)
     plain_with i None first other none here site next = BothEnd (More w) (More w) refl
@@ -126,13 +126,13 @@ module _ (rooms : Rooms) (fs gs : List TemporaryCode) (same : (n : ℕ) → Same
         (plain_with i (turn_if (takes_turn i) w.meter) first other none here site next))
 
     -- a branch
-    both_kept : (x y : TempInsn) (t u p q : ℕ) → is_call x ≡ false → is_call y ≡ false → SameNext (Goes (config n own rs t p us w)) (Goes (config n own rs u q ws w)) → SameNext (Goes (config n own (without (is_emptied x) rs) t p us w)) (Goes (config n own (without (is_emptied y) rs) u q ws w))
+    both_kept : (x y : TempInsn) (t u p q : ℕ) → calls_function x ≡ false → calls_function y ≡ false → SameNext (Goes (config n own rs t p us w)) (Goes (config n own rs u q ws w)) → SameNext (Goes (config n own (without (is_emptied x) rs) t p us w)) (Goes (config n own (without (is_emptied y) rs) u q ws w))
     both_kept x y t u p q calm still h =
         subst (λ z. SameNext (Goes (config n own z t p us w)) (Goes (config n own (without (is_emptied y) rs) u q ws w))) (sym (kept x rs calm))
         (subst (λ z. SameNext (Goes (config n own rs t p us w)) (Goes (config n own z u q ws w))) (sym (kept y rs still)) h)
 
     branch_same : (op : TempBranchOp) (s t u : ℕ) (test : Option Bool) → Stands f.blocks g.blocks b (suc at) c (suc to) → Stands f.blocks g.blocks t 0 u 0 → SameNext (act_on Content Temps rooms first_code k w.meter (insn_site f (Branch op s t)) (branches test w.outer)) (act_on Content Temps rooms other_code l w.meter (insn_site g (Branch op s u)) (branches test w.outer))
-    branch_same op s t u None next goes = stop_same HasNoMeaning (first_code.number k.here.point) (other_code.number l.here.point) (world_of w.outer w.meter)
+    branch_same op s t u None next goes = stop_same HasNoMeaning (first_code.number k.here.point) (other_code.number l.here.point) (whole_world w.outer w.meter)
     branch_same op s t u (Some true) next goes = both_kept (Branch op s t) (Branch op s u) t u 0 0 refl refl (BothGo _ _ (Same _ _ us ws w (Inside n own rs f g t 0 u 0 is there valid before after goes) waiting))
     branch_same op s t u (Some false) next goes = both_kept (Branch op s t) (Branch op s u) b c (suc at) (suc to) refl refl (BothGo _ _ (Same _ _ us ws w (Inside n own rs f g b (suc at) c (suc to) is there valid before after next) waiting))
 
@@ -140,7 +140,7 @@ module _ (rooms : Rooms) (fs gs : List TemporaryCode) (same : (n : ℕ) → Same
     branch_step op s t u here site next goes =
         subst (λ o. SameNext (step_at Content Temps rooms first_code k o) (step Content Temps rooms other_code l)) (sym here)
         (subst (λ o. SameNext (step_at Content Temps rooms first_code k (Some (insn_site f (Branch op s t)))) (step_at Content Temps rooms other_code l o)) (sym site)
-        (branch_same op s t u (test_of op w.outer.memory (content_at (map rs (holders_read (Branch op s t))) 0)) next goes))
+        (branch_same op s t u (branch_test op w.outer.memory (content_at (map rs (holders_read (Branch op s t))) 0)) next goes))
 
   -- where the other run is after some steps, when the first did one
   record After (x : Next Temps) (l : Config Temps) : Type 0 where
@@ -263,10 +263,10 @@ module _ (rooms : Rooms) (fs gs : List TemporaryCode) (same : (n : ℕ) → Same
       let after = one_step k l alike in
       go n l e (step Content Temps rooms first_code k) after.next after.steps (λ i j pair ends. comes n i j e pair ends) after.runs after.alike is
 
-  start_same : (main : ℕ) (w : World) → SameConfig (start Content Temps rooms first_code main w) (start Content Temps rooms other_code main w)
+  start_same : (main : ℕ) (w : World) → SameConfig (start_config Content Temps rooms first_code main w) (start_config Content Temps rooms other_code main w)
   start_same main w =
-      subst (λ sizes. SameConfig (start Content Temps rooms first_code main w) (record { here = frame main (length w.outer.memory) (entry_store []) 0 0; callers = []; world = world_of (begin_locals w.outer sizes) (enter_call rooms main w.meter) })) (locals_same main)
+      subst (λ sizes. SameConfig (start_config Content Temps rooms first_code main w) (record { here = frame main (length w.outer.memory) (entry_store []) 0 0; callers = []; world = whole_world (begin_locals w.outer sizes) (enter_call rooms main w.meter) })) (locals_same main)
       (Same _ _ [] [] _ (entry_same main (length w.outer.memory) (entry_store [])) NoCaller)
 
-  pub ends_alike : (n main : ℕ) (w : World) (e : Ending) → exec Content Temps rooms first_code n (start Content Temps rooms first_code main w) ≡ Over e → Comes (start Content Temps rooms other_code main w) e
-  ends_alike n main w e is = comes n (start Content Temps rooms first_code main w) (start Content Temps rooms other_code main w) e (start_same main w) is
+  pub ends_alike : (n main : ℕ) (w : World) (e : Ending) → exec Content Temps rooms first_code n (start_config Content Temps rooms first_code main w) ≡ Over e → Comes (start_config Content Temps rooms other_code main w) e
+  ends_alike n main w e is = comes n (start_config Content Temps rooms first_code main w) (start_config Content Temps rooms other_code main w) e (start_same main w) is

@@ -6,13 +6,13 @@ use Rattle.temp_ir.specs.declared.operation.TempBranchOp.{TempBranchOp}
 use Rattle.temp_ir.specs.declared.insn.TempInsn.{TempInsn}
 use Rattle.temp_ir.specs.declared.insn.TempInsn.TheVariants.{Address, ObjectAddress, Load, Store, Operate, Extend, ToFixed, FromFixed, SetFixed, WriteArgument, ReadArgument, Call, Divide, Serve, Return, Branch, Jump, Mark}
 use Rattle.temp_ir.specs.Insns.{targets_of, with_block, flows_on_of}
-use Rattle.cfg.specs.Walks.{bare, block_at, Step, Done, Taken, NotTaken, Walk, Stops, Goes, Returns, Passes, Takes, Jumps, Falls}
+use Rattle.cfg.specs.Walks.{zero_targets, block_at, Step, Done, Taken, NotTaken, Walk, Stops, Goes, Returns, Passes, Takes, Jumps, Falls}
 
 abbrev pub W : List (List TempInsn) → ℕ → List TempInsn → List (Step TempInsn) → Type 0
 W f b is steps = Walk targets_of with_block flows_on_of f b is steps
 
 abbrev pub strip : TempInsn → TempInsn
-strip i = bare targets_of with_block i
+strip i = zero_targets targets_of with_block i
 
 -- the instructions with a target, and all others
 pub data Sort : TempInsn → Type 0 where

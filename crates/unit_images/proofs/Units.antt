@@ -13,7 +13,7 @@ use Rattle.same_runs.specs.Programs.{ProgramsBehave, plans_of}
 use Rattle.same_runs.specs.Same.{IsSame, RunsAreSame}
 use Rattle.c_typed_tree.specs.declared.units.TypedUnit.{TypedUnit}
 use Rattle.c_typed_tree.specs.Lawful.{IsTypedUnit}
-use Rattle.c_semantics.specs.Behaves.{run}
+use Rattle.c_semantics.specs.Behaves.{run_main}
 use Rattle.lowering_theorem.specs.Laws.{VmRunsTo, ProgramsKeepMeaning}
 use Rattle.unit_images.specs.Laws.{IsMadeOf, InputIsGood, UnitsAreSame}
 
@@ -114,18 +114,18 @@ bytes_all [] h = All-nil (λ byte. byte < 256)
 bytes_all (b ∷ bs) h = All-cons (λ byte. byte < 256) b bs h.0 (bytes_all bs h.1)
 
 module _ (behave : ProgramsBehave) (keep : ProgramsKeepMeaning) (are_same : RunsAreSame) (u : TypedUnit) (rooms : Rooms) (p : Program) (typed : IsTypedUnit u) (made : IsMadeOf u rooms p) (stack : ℕ) (is_stack : IsStack stack) (input : List ℕ) (bytes : AreBytes input) (good : InputIsGood u rooms stack input) where
-  at : (turns : ℕ) → VmRunsTo rooms made.code input turns (run u rooms input turns)
+  at : (turns : ℕ) → VmRunsTo rooms made.code input turns (run_main u rooms input turns)
   at n = keep u made.code typed made.is_code rooms input n (bytes_all input bytes) (good.defined n)
 
   defined : (n : ℕ) → IsDefined (at n).ending
-  defined n = defined_too (at n).ending (run u rooms input n) (good.defined n) (at n).same
+  defined n = defined_too (at n).ending (run_main u rooms input n) (good.defined n) (at n).same
 
   room : (n : ℕ) → ending_peak (at n).ending ≤ stack
-  room n = subst (λ z. z ≤ stack) (sym (alike (at n).ending (run u rooms input n) (good.defined n) (at n).same).1) (good.room n)
+  room n = subst (λ z. z ≤ stack) (sym (alike (at n).ending (run_main u rooms input n) (good.defined n) (at n).same).1) (good.room n)
 
-  unit_is_same : IsSame p stack input (λ turns. run u rooms input turns)
+  unit_is_same : IsSame p stack input (λ turns. run_main u rooms input turns)
   unit_is_same =
-      through p stack input (λ n. (at n).ending) (λ n. run u rooms input n) (λ n. (at n).same) good.defined
+      through p stack input (λ n. (at n).ending) (λ n. run_main u rooms input n) (λ n. (at n).same) good.defined
       (are_same p (plans_of made.allocations) stack input (λ n. (at n).ending)
       (λ n.
       behave made.assembly p made.lawful made.whole made.words made.selected made.allocations rooms made.placing made.allocated made.items stack is_stack input bytes n (at n).ending

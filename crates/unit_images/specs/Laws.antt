@@ -15,7 +15,7 @@ use Rattle.same_runs.specs.Programs.{IsAllocated, HasItemsOf, Placing, plans_of}
 use Rattle.same_runs.specs.Same.{IsSame}
 use Rattle.c_typed_tree.specs.declared.units.TypedUnit.{TypedUnit}
 use Rattle.c_typed_tree.specs.Lawful.{IsTypedUnit}
-use Rattle.c_semantics.specs.Behaves.{run}
+use Rattle.c_semantics.specs.Behaves.{run_main}
 use Rattle.lowering_theorem.specs.Laws.{IsCodeOf}
 
 -- what stands between a unit and an image: its program over virtual registers, the one over temporaries that does as
@@ -36,11 +36,11 @@ pub record IsMadeOf (u : TypedUnit) (rooms : Rooms) (image : Program) : Type 0 w
 
 -- no run on the input is undefined, and each has room on the stack
 pub record InputIsGood (u : TypedUnit) (rooms : Rooms) (stack : ℕ) (input : List ℕ) : Type 0 where
-  pub defined : (turns : ℕ) → IsDefined (run u rooms input turns)
-  pub room : (turns : ℕ) → ending_peak (run u rooms input turns) ≤ stack
+  pub defined : (turns : ℕ) → IsDefined (run_main u rooms input turns)
+  pub room : (turns : ℕ) → ending_peak (run_main u rooms input turns) ≤ stack
 
 abbrev pub UnitsAreSame : Type 0
 UnitsAreSame =
     (u : TypedUnit) (rooms : Rooms) (image : Program) → IsTypedUnit u → IsMadeOf u rooms image →
     (stack : ℕ) → IsStack stack → (input : List ℕ) → AreBytes input → InputIsGood u rooms stack input →
-    IsSame image stack input (λ turns. run u rooms input turns)
+    IsSame image stack input (λ turns. run_main u rooms input turns)

@@ -9,7 +9,7 @@ use Rattle.temp_ir.specs.declared.program.TempProgram.{TempProgram}
 use Rattle.alloc_model.specs.declared.allocation.Allocation.{Allocation}
 use Rattle.plain_programs.specs.Allocations.{AreAllocationsOf}
 use Rattle.prepared_laws.specs.Fit.{ArePreparedOf}
-use Rattle.program_words.specs.Assemblies.{gathered}
+use Rattle.program_words.specs.Assemblies.{whole_assembly}
 use Rattle.program_words.specs.Layouts.{FunctionsAreLaidOut}
 use Rattle.program_words.specs.Words.{AreLight}
 
@@ -25,11 +25,11 @@ UnitTextsAreWithinWeight =
     (unit : TypedUnit) (program : TempProgram) (allocations : List Allocation) (finals : List FinalFn) →
     ArePreparedOf unit program → AreAllocationsOf program.functions allocations →
     FunctionsAreLaidOut program.globals allocations finals → (far : List Bool) →
-    text_words (gathered finals program.globals).items far ≤ 2048 * unit_weight unit
+    text_words (whole_assembly finals program.globals).items far ≤ 2048 * unit_weight unit
 
 -- and it fits an image where the unit is no heavier than a unit may be
 abbrev pub UnitTextsFitImages : Type 0
 UnitTextsFitImages =
     (unit : TypedUnit) (program : TempProgram) (allocations : List Allocation) (finals : List FinalFn) →
     unit_weight unit ≤ 131072 → ArePreparedOf unit program → AreAllocationsOf program.functions allocations →
-    FunctionsAreLaidOut program.globals allocations finals → HasFewWords (gathered finals program.globals)
+    FunctionsAreLaidOut program.globals allocations finals → HasFewWords (whole_assembly finals program.globals)

@@ -15,7 +15,7 @@ use Rattle.suifvm_ir.specs.Cost.{insn_cost, cost}
 use Rattle.suifvm_ir.specs.Programs.{VmFunction, weight_of, function_size}
 use Rattle.value_tests.specs.declared.known.Known.{Known}
 use Rattle.value_tests.specs.declared.known.Known.TheVariants.{Nothing, Zero, Tests}
-use Rattle.value_tests.specs.Tests.{after, tested_type, tested_register, seen, tested_from, tested}
+use Rattle.value_tests.specs.Tests.{facts_after, tested_type, tested_register, tested_insn, tested_from, tested_block}
 use Rattle.value_tests.specs.model.Registers.{KnownIsBelow}
 use Rattle.value_tests.proofs.Lockstep.{known_from, tested_get}
 
@@ -41,7 +41,7 @@ all_mapped f P Q kept (x ∷ xs) h = all_more Q (f x) (map f xs) (kept x (all_fi
 
 -- ---- one instruction
 
-flows_same : (k : Known) (i : VmInsn) → flows_on_of (seen k i) ≡ flows_on_of i
+flows_same : (k : Known) (i : VmInsn) → flows_on_of (tested_insn k i) ≡ flows_on_of i
 flows_same k (x.Branch op ty a block) = refl
 flows_same k (x.LoadConstant ty d word) = refl
 flows_same k (x.LoadAddress d place plus) = refl
@@ -61,7 +61,7 @@ flows_same k x.Nop = refl
 
 -- all that does not look at a branch beyond its block stays
 module _ {A : Type 0} (m : VmInsn → A) (branches : (op : _) (ty : _) (a b block : ℕ) (to : VmType) → m (x.Branch op to b block) ≡ m (x.Branch op ty a block)) where
-  pub same : (k : Known) (i : VmInsn) → m (seen k i) ≡ m i
+  pub same : (k : Known) (i : VmInsn) → m (tested_insn k i) ≡ m i
   same k (x.Branch op ty a block) = branches op ty a (tested_register k ty a) block (tested_type k ty a)
   same k (x.LoadConstant ty d word) = refl
   same k (x.LoadAddress d place plus) = refl
@@ -79,16 +79,16 @@ module _ {A : Type 0} (m : VmInsn → A) (branches : (op : _) (ty : _) (a b bloc
   same k x.Mark = refl
   same k x.Nop = refl
 
-pub targets_same : (k : Known) (i : VmInsn) → targets_of (seen k i) ≡ targets_of i
+pub targets_same : (k : Known) (i : VmInsn) → targets_of (tested_insn k i) ≡ targets_of i
 targets_same = same targets_of (λ op ty a b block to. refl)
 
-pub writes_same : (k : Known) (i : VmInsn) → writes_of (seen k i) ≡ writes_of i
+pub writes_same : (k : Known) (i : VmInsn) → writes_of (tested_insn k i) ≡ writes_of i
 writes_same = same writes_of (λ op ty a b block to. refl)
 
-weight_same : (k : Known) (i : VmInsn) → weight_of (seen k i) ≡ weight_of i
+weight_same : (k : Known) (i : VmInsn) → weight_of (tested_insn k i) ≡ weight_of i
 weight_same = same weight_of (λ op ty a b block to. refl)
 
-cost_same : (k : Known) (i : VmInsn) → insn_cost (seen k i) ≡ insn_cost i
+cost_same : (k : Known) (i : VmInsn) → insn_cost (tested_insn k i) ≡ insn_cost i
 cost_same = same insn_cost (λ op ty a b block to. refl)
 
 -- ---- registers
@@ -107,7 +107,7 @@ register_below temps (Tests t d a) v.U64 register h lt = lt
 register_below temps (Tests t d a) v.P64 register h lt = lt
 
 -- what is known behind an instruction that uses these registers
-pub after_below : (temps : ℕ) (k : Known) (i : VmInsn) → UsesRegisters reads_of writes_of temps i → KnownIsBelow temps (after k i)
+pub after_below : (temps : ℕ) (k : Known) (i : VmInsn) → UsesRegisters reads_of writes_of temps i → KnownIsBelow temps (facts_after k i)
 after_below temps k (x.LoadConstant ty d word) h = by_zero (word == 0)
   where
     by_zero : (b : Bool) → KnownIsBelow temps (if b then Zero d else Nothing)
@@ -139,7 +139,7 @@ after_below temps k x.Mark h = tt
 after_below temps k x.Nop h = tt
 
 -- an instruction as it is seen reads registers that are there
-reads_below : (temps : ℕ) (k : Known) (i : VmInsn) → KnownIsBelow temps k → All (λ register. register < temps) (reads_of i) → All (λ register. register < temps) (reads_of (seen k i))
+reads_below : (temps : ℕ) (k : Known) (i : VmInsn) → KnownIsBelow temps k → All (λ register. register < temps) (reads_of i) → All (λ register. register < temps) (reads_of (tested_insn k i))
 reads_below temps k (x.Branch op ty a block) known h = all_more (λ register. register < temps) (tested_register k ty a) [] (register_below temps k ty a known (h 0 a (omega arith))) (all_nil (λ register. register < temps))
 reads_below temps k (x.LoadConstant ty d word) known h = h
 reads_below temps k (x.LoadAddress d place plus) known h = h
@@ -161,96 +161,96 @@ pub uses_below : (temps : ℕ) (k : Known) (insns : List VmInsn) → KnownIsBelo
 uses_below temps k [] known h = all_nil (UsesRegisters reads_of writes_of temps)
 uses_below temps k (i ∷ insns) known h =
     let here = all_first (UsesRegisters reads_of writes_of temps) i insns h in
-    all_more (UsesRegisters reads_of writes_of temps) (seen k i) (tested_from (after k i) insns)
+    all_more (UsesRegisters reads_of writes_of temps) (tested_insn k i) (tested_from (facts_after k i) insns)
     (reads_below temps k i known here.0, subst (All (λ register. register < temps)) (sym (writes_same k i)) here.1)
-    (uses_below temps (after k i) insns (after_below temps k i here) (all_rest (UsesRegisters reads_of writes_of temps) i insns h))
+    (uses_below temps (facts_after k i) insns (after_below temps k i here) (all_rest (UsesRegisters reads_of writes_of temps) i insns h))
 
 -- ---- the instructions of a block
 
 pub length_same : (k : Known) (insns : List VmInsn) → length (tested_from k insns) ≡ length insns
 length_same k [] = refl
-length_same k (i ∷ insns) = ap suc (length_same (after k i) insns)
+length_same k (i ∷ insns) = ap suc (length_same (facts_after k i) insns)
 
 -- what holds of each instruction as it is seen
-pub all_seen : (P Q : VmInsn → Type 0) → ((k : Known) (i : VmInsn) → P i → Q (seen k i)) → (k : Known) (insns : List VmInsn) → All P insns → All Q (tested_from k insns)
+pub all_seen : (P Q : VmInsn → Type 0) → ((k : Known) (i : VmInsn) → P i → Q (tested_insn k i)) → (k : Known) (insns : List VmInsn) → All P insns → All Q (tested_from k insns)
 all_seen P Q kept k [] h = all_nil Q
 all_seen P Q kept k (i ∷ insns) h =
-    all_more Q (seen k i) (tested_from (after k i) insns) (kept k i (all_first P i insns h)) (all_seen P Q kept (after k i) insns (all_rest P i insns h))
+    all_more Q (tested_insn k i) (tested_from (facts_after k i) insns) (kept k i (all_first P i insns h)) (all_seen P Q kept (facts_after k i) insns (all_rest P i insns h))
 
-pub sum_same : (m : VmInsn → ℕ) → ((k : Known) (i : VmInsn) → m (seen k i) ≡ m i) → (k : Known) (insns : List VmInsn) → sum_by m (tested_from k insns) ≡ sum_by m insns
+pub sum_same : (m : VmInsn → ℕ) → ((k : Known) (i : VmInsn) → m (tested_insn k i) ≡ m i) → (k : Known) (insns : List VmInsn) → sum_by m (tested_from k insns) ≡ sum_by m insns
 sum_same m kept k [] = refl
 sum_same m kept k (i ∷ insns) =
-    omega (arith, kept k i, sum_same m kept (after k i) insns, sum_by-cons m (seen k i) (tested_from (after k i) insns), sum_by-cons m i insns)
+    omega (arith, kept k i, sum_same m kept (facts_after k i) insns, sum_by-cons m (tested_insn k i) (tested_from (facts_after k i) insns), sum_by-cons m i insns)
 
 take_same : (n : ℕ) (k : Known) (insns : List VmInsn) → take n (tested_from k insns) ≡ tested_from k (take n insns)
 take_same zero k [] = refl
 take_same zero k (i ∷ insns) = refl
 take_same (suc n) k [] = refl
-take_same (suc n) k (i ∷ insns) = ap (λ l. seen k i ∷ l) (take_same n (after k i) insns)
+take_same (suc n) k (i ∷ insns) = ap (λ l. tested_insn k i ∷ l) (take_same n (facts_after k i) insns)
 
-front_same : (insns : List VmInsn) → front_of (tested insns) ≡ tested (front_of insns)
-front_same insns = ap (λ n. take (n - 1) (tested insns)) (length_same Nothing insns) ∙ take_same (length insns - 1) Nothing insns
+front_same : (insns : List VmInsn) → front_of (tested_block insns) ≡ tested_block (front_of insns)
+front_same insns = ap (λ n. take (n - 1) (tested_block insns)) (length_same Nothing insns) ∙ take_same (length insns - 1) Nothing insns
 
-last_same : (insns : List VmInsn) → last_of (tested insns) ≡ option_map (seen (known_from Nothing insns (length insns - 1))) (last_of insns)
-last_same insns = ap (λ n. slice_get (tested insns) (n - 1)) (length_same Nothing insns) ∙ tested_get Nothing insns (length insns - 1)
+last_same : (insns : List VmInsn) → last_of (tested_block insns) ≡ option_map (tested_insn (known_from Nothing insns (length insns - 1))) (last_of insns)
+last_same insns = ap (λ n. slice_get (tested_block insns) (n - 1)) (length_same Nothing insns) ∙ tested_get Nothing insns (length insns - 1)
 
-straight_kept : (k : Known) (i : VmInsn) → IsStraight targets_of flows_on_of i → IsStraight targets_of flows_on_of (seen k i)
+straight_kept : (k : Known) (i : VmInsn) → IsStraight targets_of flows_on_of i → IsStraight targets_of flows_on_of (tested_insn k i)
 straight_kept k i h = (ap length (targets_same k i) ∙ h.0, flows_same k i ∙ h.1)
 
-pub late_kept : (insns : List VmInsn) → EndsLate targets_of flows_on_of insns → EndsLate targets_of flows_on_of (tested insns)
+pub late_kept : (insns : List VmInsn) → EndsLate targets_of flows_on_of insns → EndsLate targets_of flows_on_of (tested_block insns)
 late_kept insns h = subst (All (IsStraight targets_of flows_on_of)) (sym (front_same insns)) (all_seen (IsStraight targets_of flows_on_of) (IsStraight targets_of flows_on_of) straight_kept Nothing (front_of insns) h)
 
 -- ---- the blocks of a function
 
-blocks_same : (m : VmInsn → ℕ) → ((k : Known) (i : VmInsn) → m (seen k i) ≡ m i) → (blocks : List (List VmInsn)) → sum_by (λ block. sum_by m block) (map tested blocks) ≡ sum_by (λ block. sum_by m block) blocks
+blocks_same : (m : VmInsn → ℕ) → ((k : Known) (i : VmInsn) → m (tested_insn k i) ≡ m i) → (blocks : List (List VmInsn)) → sum_by (λ block. sum_by m block) (map tested_block blocks) ≡ sum_by (λ block. sum_by m block) blocks
 blocks_same m kept [] = refl
 blocks_same m kept (block ∷ blocks) =
-    omega (arith, sum_same m kept Nothing block, blocks_same m kept blocks, sum_by-cons (λ b. sum_by m b) (tested block) (map tested blocks), sum_by-cons (λ b. sum_by m b) block blocks)
+    omega (arith, sum_same m kept Nothing block, blocks_same m kept blocks, sum_by-cons (λ b. sum_by m b) (tested_block block) (map tested_block blocks), sum_by-cons (λ b. sum_by m b) block blocks)
 
-pub count_same : (blocks : List (List VmInsn)) → count_of (map tested blocks) ≡ count_of blocks
+pub count_same : (blocks : List (List VmInsn)) → count_of (map tested_block blocks) ≡ count_of blocks
 count_same [] = refl
 count_same (block ∷ blocks) =
-    omega (arith, length_same Nothing block, count_same blocks, sum_by-cons (λ (b : List VmInsn). length b) (tested block) (map tested blocks), sum_by-cons (λ (b : List VmInsn). length b) block blocks)
+    omega (arith, length_same Nothing block, count_same blocks, sum_by-cons (λ (b : List VmInsn). length b) (tested_block block) (map tested_block blocks), sum_by-cons (λ (b : List VmInsn). length b) block blocks)
 
-pub blocks_length : (blocks : List (List VmInsn)) → length (map tested blocks) ≡ length blocks
-blocks_length blocks = length-map blocks tested
+pub blocks_length : (blocks : List (List VmInsn)) → length (map tested_block blocks) ≡ length blocks
+blocks_length blocks = length-map blocks tested_block
 
-edges_after : (k : Known) (o : Option VmInsn) → length (successors_after targets_of flows_on_of 0 (option_map (seen k) o)) ≡ length (successors_after targets_of flows_on_of 0 o)
+edges_after : (k : Known) (o : Option VmInsn) → length (successors_after targets_of flows_on_of 0 (option_map (tested_insn k) o)) ≡ length (successors_after targets_of flows_on_of 0 o)
 edges_after k None = refl
 edges_after k (Some i) = same (λ j. length (successors_after targets_of flows_on_of 0 (Some j))) (λ op ty a b block to. refl) k i
 
-edges_same : (blocks : List (List VmInsn)) → edge_count targets_of flows_on_of (map tested blocks) ≡ edge_count targets_of flows_on_of blocks
+edges_same : (blocks : List (List VmInsn)) → edge_count targets_of flows_on_of (map tested_block blocks) ≡ edge_count targets_of flows_on_of blocks
 edges_same [] = refl
 edges_same (block ∷ blocks) =
-    let here : length (successors_of targets_of flows_on_of 0 (tested block)) ≡ length (successors_of targets_of flows_on_of 0 block) =
+    let here : length (successors_of targets_of flows_on_of 0 (tested_block block)) ≡ length (successors_of targets_of flows_on_of 0 block) =
     ap (λ o. length (successors_after targets_of flows_on_of 0 o)) (last_same block) ∙ edges_after (known_from Nothing block (length block - 1)) (last_of block) in
     omega (
       arith,
       here,
       edges_same blocks,
-      sum_by-cons (λ (b : List VmInsn). length (successors_of targets_of flows_on_of 0 b)) (tested block) (map tested blocks),
+      sum_by-cons (λ (b : List VmInsn). length (successors_of targets_of flows_on_of 0 b)) (tested_block block) (map tested_block blocks),
       sum_by-cons (λ (b : List VmInsn). length (successors_of targets_of flows_on_of 0 b)) block blocks,
     )
 
-insn_stops_same : (k : Known) (o : Option VmInsn) → insn_stops flows_on_of (option_map (seen k) o) ≡ insn_stops flows_on_of o
+insn_stops_same : (k : Known) (o : Option VmInsn) → insn_stops flows_on_of (option_map (tested_insn k) o) ≡ insn_stops flows_on_of o
 insn_stops_same k None = refl
 insn_stops_same k (Some i) = ap (λ b. if b then false else true) (flows_same k i)
 
-block_stops_same : (o : Option (List VmInsn)) → block_stops flows_on_of (option_map tested o) ≡ block_stops flows_on_of o
+block_stops_same : (o : Option (List VmInsn)) → block_stops flows_on_of (option_map tested_block o) ≡ block_stops flows_on_of o
 block_stops_same None = refl
 block_stops_same (Some insns) = ap (insn_stops flows_on_of) (last_same insns) ∙ insn_stops_same (known_from Nothing insns (length insns - 1)) (last_of insns)
 
-pub stops_same : (blocks : List (List VmInsn)) → stops flows_on_of (map tested blocks) ≡ stops flows_on_of blocks
+pub stops_same : (blocks : List (List VmInsn)) → stops flows_on_of (map tested_block blocks) ≡ stops flows_on_of blocks
 stops_same blocks =
-    ap (λ n. block_stops flows_on_of (slice_get (map tested blocks) (n - 1))) (blocks_length blocks)
-    ∙ ap (block_stops flows_on_of) (slice_get-map tested blocks (length blocks - 1)) ∙ block_stops_same (last_of blocks)
+    ap (λ n. block_stops flows_on_of (slice_get (map tested_block blocks) (n - 1))) (blocks_length blocks)
+    ∙ ap (block_stops flows_on_of) (slice_get-map tested_block blocks (length blocks - 1)) ∙ block_stops_same (last_of blocks)
 
-pub insns_kept : (P Q : VmInsn → Type 0) → ((k : Known) (i : VmInsn) → P i → Q (seen k i)) → (blocks : List (List VmInsn)) → AllInsns P blocks → AllInsns Q (map tested blocks)
-insns_kept P Q kept blocks h = all_mapped tested (All P) (All Q) (all_seen P Q kept Nothing) blocks h
+pub insns_kept : (P Q : VmInsn → Type 0) → ((k : Known) (i : VmInsn) → P i → Q (tested_insn k i)) → (blocks : List (List VmInsn)) → AllInsns P blocks → AllInsns Q (map tested_block blocks)
+insns_kept P Q kept blocks h = all_mapped tested_block (All P) (All Q) (all_seen P Q kept Nothing) blocks h
 
-pub goes_kept : (blocks : List (List VmInsn)) → AllInsns (GoesToBlocks targets_of (length blocks)) blocks → AllInsns (GoesToBlocks targets_of (length (map tested blocks))) (map tested blocks)
+pub goes_kept : (blocks : List (List VmInsn)) → AllInsns (GoesToBlocks targets_of (length blocks)) blocks → AllInsns (GoesToBlocks targets_of (length (map tested_block blocks))) (map tested_block blocks)
 goes_kept blocks h =
-    subst (λ n. AllInsns (GoesToBlocks targets_of n) (map tested blocks)) (sym (blocks_length blocks))
+    subst (λ n. AllInsns (GoesToBlocks targets_of n) (map tested_block blocks)) (sym (blocks_length blocks))
     (insns_kept (GoesToBlocks targets_of (length blocks)) (GoesToBlocks targets_of (length blocks)) (λ k i. subst (All (λ target. (0 < target) × (target < length blocks))) (sym (targets_same k i))) blocks h)
 
 -- ---- functions
@@ -261,13 +261,13 @@ tested_function f = record {
   params = f.params;
   temps = f.temps;
   objects = f.objects;
-  blocks = map tested f.blocks;
+  blocks = map tested_block f.blocks;
   targets = goes_kept f.blocks f.targets;
-  straight = all_mapped tested (EndsLate targets_of flows_on_of) (EndsLate targets_of flows_on_of) late_kept f.blocks f.straight;
+  straight = all_mapped tested_block (EndsLate targets_of flows_on_of) (EndsLate targets_of flows_on_of) late_kept f.blocks f.straight;
   stops = subst IsTrue (sym (stops_same f.blocks)) f.stops;
   few_blocks = omega (arith, blocks_length f.blocks, f.few_blocks);
   few_insns = omega (arith, count_same f.blocks, f.few_insns);
-  registers = all_mapped tested (All (UsesRegisters reads_of writes_of f.temps)) (All (UsesRegisters reads_of writes_of f.temps)) (λ insns. uses_below f.temps Nothing insns tt) f.blocks f.registers;
+  registers = all_mapped tested_block (All (UsesRegisters reads_of writes_of f.temps)) (All (UsesRegisters reads_of writes_of f.temps)) (λ insns. uses_below f.temps Nothing insns tt) f.blocks f.registers;
 }
 
 pub cost_kept : (f : VmFunction) → cost (tested_function f) ≡ cost f

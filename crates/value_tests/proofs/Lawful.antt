@@ -16,39 +16,39 @@ use Rattle.suifvm_ir.specs.Programs.{VmFunction, function_takes, callee_takes, n
 use Rattle.value_tests.specs.declared.known.Known.{Known}
 use Rattle.value_tests.specs.declared.known.Known.TheVariants.{Nothing}
 use Rattle.vm_meaning.specs.Behave.{code_of}
-use Rattle.value_tests.specs.Tests.{seen, tested, tested_code}
+use Rattle.value_tests.specs.Tests.{tested_insn, tested_block, tested_code}
 use Rattle.value_tests.proofs.Functions.{targets_same, same, insns_kept, all_seen, all_mapped, tested_function, blocks_length}
 
 -- ---- marks
 
-first_mark_same : (i : VmInsn) → first_is_mark (Some (seen Nothing i)) ≡ first_is_mark (Some i)
+first_mark_same : (i : VmInsn) → first_is_mark (Some (tested_insn Nothing i)) ≡ first_is_mark (Some i)
 first_mark_same i = same (λ j. first_is_mark (Some j)) (λ op ty a b block to. refl) Nothing i
 
-block_mark_same : (insns : List VmInsn) → first_is_mark (slice_get (tested insns) 0) ≡ first_is_mark (slice_get insns 0)
+block_mark_same : (insns : List VmInsn) → first_is_mark (slice_get (tested_block insns) 0) ≡ first_is_mark (slice_get insns 0)
 block_mark_same [] = refl
 block_mark_same (i ∷ insns) = first_mark_same i
 
-begins_same : (o : Option (List VmInsn)) → begins_with_mark (option_map tested o) ≡ begins_with_mark o
+begins_same : (o : Option (List VmInsn)) → begins_with_mark (option_map tested_block o) ≡ begins_with_mark o
 begins_same None = refl
 begins_same (Some insns) = block_mark_same insns
 
 module _ (blocks : List (List VmInsn)) (block : ℕ) where
-  target_same : (target : ℕ) → (nat_lt block target || begins_with_mark (slice_get (map tested blocks) target)) ≡ (nat_lt block target || begins_with_mark (slice_get blocks target))
-  target_same target = ap (λ b. nat_lt block target || b) (ap begins_with_mark (slice_get-map tested blocks target) ∙ begins_same (slice_get blocks target))
+  target_same : (target : ℕ) → (nat_lt block target || begins_with_mark (slice_get (map tested_block blocks) target)) ≡ (nat_lt block target || begins_with_mark (slice_get blocks target))
+  target_same target = ap (λ b. nat_lt block target || b) (ap begins_with_mark (slice_get-map tested_block blocks target) ∙ begins_same (slice_get blocks target))
 
-  targets_all : (ts : List ℕ) → list_all (λ target. nat_lt block target || begins_with_mark (slice_get (map tested blocks) target)) ts ≡ list_all (λ target. nat_lt block target || begins_with_mark (slice_get blocks target)) ts
+  targets_all : (ts : List ℕ) → list_all (λ target. nat_lt block target || begins_with_mark (slice_get (map tested_block blocks) target)) ts ≡ list_all (λ target. nat_lt block target || begins_with_mark (slice_get blocks target)) ts
   targets_all [] = refl
   targets_all (t ∷ ts) =
-      ap (λ b. b && list_all (λ target. nat_lt block target || begins_with_mark (slice_get (map tested blocks) target)) ts) (target_same t)
+      ap (λ b. b && list_all (λ target. nat_lt block target || begins_with_mark (slice_get (map tested_block blocks) target)) ts) (target_same t)
       ∙ ap (λ b. (nat_lt block t || begins_with_mark (slice_get blocks t)) && b) (targets_all ts)
 
-  marks_same : (k : Known) (i : VmInsn) → goes_back_to_marks (map tested blocks) block (seen k i) ≡ goes_back_to_marks blocks block i
+  marks_same : (k : Known) (i : VmInsn) → goes_back_to_marks (map tested_block blocks) block (tested_insn k i) ≡ goes_back_to_marks blocks block i
   marks_same k i =
-      ap (list_all (λ target. nat_lt block target || begins_with_mark (slice_get (map tested blocks) target))) (targets_same k i) ∙ targets_all (targets_of i)
+      ap (list_all (λ target. nat_lt block target || begins_with_mark (slice_get (map tested_block blocks) target))) (targets_same k i) ∙ targets_all (targets_of i)
 
-  marks_of : (insns : List VmInsn) → All (λ i. IsTrue (goes_back_to_marks blocks block i)) insns → All (λ i. IsTrue (goes_back_to_marks (map tested blocks) block i)) (tested insns)
+  marks_of : (insns : List VmInsn) → All (λ i. IsTrue (goes_back_to_marks blocks block i)) insns → All (λ i. IsTrue (goes_back_to_marks (map tested_block blocks) block i)) (tested_block insns)
   marks_of insns h =
-      all_seen (λ i. IsTrue (goes_back_to_marks blocks block i)) (λ i. IsTrue (goes_back_to_marks (map tested blocks) block i)) (λ k i. subst IsTrue (sym (marks_same k i))) Nothing insns h
+      all_seen (λ i. IsTrue (goes_back_to_marks blocks block i)) (λ i. IsTrue (goes_back_to_marks (map tested_block blocks) block i)) (λ k i. subst IsTrue (sym (marks_same k i))) Nothing insns h
 
 -- ---- names
 
@@ -83,7 +83,7 @@ module _ (fs : List VmFunction) where
     functions_same objects x.Mark = refl
     functions_same objects x.Nop = refl
 
-    names_same : (objects : List MemoryLocal) (k : Known) (i : VmInsn) → names_what_is_there gs globals objects (seen k i) ≡ names_what_is_there fs globals objects i
+    names_same : (objects : List MemoryLocal) (k : Known) (i : VmInsn) → names_what_is_there gs globals objects (tested_insn k i) ≡ names_what_is_there fs globals objects i
     names_same objects k i = same (names_what_is_there gs globals objects) (λ op ty a b block to. refl) k i ∙ functions_same objects i
 
     pub lawful : (f : VmFunction) → IsLawfulFunction fs globals f → IsLawfulFunction gs globals (tested_function f)
@@ -94,7 +94,7 @@ module _ (fs : List VmFunction) where
           insns_kept (λ i. IsTrue (names_what_is_there fs globals f.objects i)) (λ i. IsTrue (names_what_is_there gs globals f.objects i))
           (λ k i. subst IsTrue (sym (names_same f.objects k i))) f.blocks law.names;
       marks = λ b lt.
-          subst (All (λ i. IsTrue (goes_back_to_marks (map tested f.blocks) b i))) (sym (get_or-map tested f.blocks b []))
+          subst (All (λ i. IsTrue (goes_back_to_marks (map tested_block f.blocks) b i))) (sym (get_or-map tested_block f.blocks b []))
           (marks_of f.blocks b (slice_index_or f.blocks b []) (law.marks b (omega (arith, lt, blocks_length f.blocks))));
     }
 

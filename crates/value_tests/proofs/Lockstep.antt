@@ -10,7 +10,7 @@ use Rattle.mem_model.specs.Pointers.{is_null}
 use Rattle.mem_model.specs.World.{Outer, Meter, World, Rooms, enter_call, leave_call}
 use Rattle.mem_model.specs.Ending.{Ending, Done, Undefined}
 use Rattle.machine_model.specs.Code.{Exits, Traps, HasNoMeaning, Act, Writes, Jumps, Calls, Returns, Stops, Point, next_point, block_point}
-use Rattle.machine_model.specs.Machine.{Frame, Config, Next, Over, world_of, begin_locals, end_locals, turn_if, act_on, step_with, step_at, go_on, exec, return_to, resume, jump_to, status_ending}
+use Rattle.machine_model.specs.Machine.{Frame, Config, Next, Over, whole_world, begin_locals, end_locals, turn_if, act_on, step_with, step_at, go_on, exec, return_to, resume, jump_to, status_ending}
 use Rattle.c_arithmetic.specs.declared.integer_type.IntegerType.{IntegerType}
 use Rattle.c_arithmetic.specs.declared.integer_type.IntegerType.TheVariants.{Int, UnsignedInt, Long, UnsignedLong}
 use Rattle.c_arithmetic.specs.Words.{extension, is_word}
@@ -27,29 +27,29 @@ use Rattle.vm_meaning.specs.declared.answer.Answer.{Answer}
 use Rattle.vm_meaning.specs.declared.answer.Answer.TheVariants.{Gives, TrapsWith, Fails}
 use Rattle.vm_meaning.specs.Operations.{is_value_of, compare_answer, test_answer, value_holds, when_value}
 use Rattle.vm_meaning.specs.Effect.{does, takes_turn, writes, branches}
-use Rattle.vm_meaning.specs.Behave.{Registers, FunctionCode, insn_site, next_site, registers_of, vm_run, site_or_next, site_in_block, site_in_function, sizes_in, set_register, set_registers, status_of, first_or_unset, vm_code}
+use Rattle.vm_meaning.specs.Behave.{Registers, FunctionCode, insn_site, next_site, registers_of, vm_run, site_or_next, site_in_block, site_in_function, sizes_in, set_register, set_registers, result_status, first_or_unset, vm_code}
 use Rattle.value_tests.specs.declared.known.Known.{Known}
 use Rattle.value_tests.specs.declared.known.Known.TheVariants.{Nothing, Zero, Tests}
-use Rattle.value_tests.specs.Tests.{after, seen, tested_from, tested, tested_code, HasMeaning, TestsKeepRuns}
+use Rattle.value_tests.specs.Tests.{facts_after, tested_insn, tested_from, tested_block, tested_code, HasMeaning, TestsKeepRuns}
 
 -- ---- what is known at a place of a block
 
 pub known_from : Known → List VmInsn → ℕ → Known
 known_from k insns zero = k
 known_from k [] (suc n) = Nothing
-known_from k (i ∷ insns) (suc n) = known_from (after k i) insns n
+known_from k (i ∷ insns) (suc n) = known_from (facts_after k i) insns n
 
-pub tested_get : (k : Known) (insns : List VmInsn) (at : ℕ) → slice_get (tested_from k insns) at ≡ option_map (seen (known_from k insns at)) (slice_get insns at)
+pub tested_get : (k : Known) (insns : List VmInsn) (at : ℕ) → slice_get (tested_from k insns) at ≡ option_map (tested_insn (known_from k insns at)) (slice_get insns at)
 unfolding known_from
 tested_get k [] at = refl
 tested_get k (i ∷ insns) zero = refl
-tested_get k (i ∷ insns) (suc at) = tested_get (after k i) insns at
+tested_get k (i ∷ insns) (suc at) = tested_get (facts_after k i) insns at
 
-known_next : (k : Known) (insns : List VmInsn) (at : ℕ) (i : VmInsn) → slice_get insns at ≡ Some i → known_from k insns (suc at) ≡ after (known_from k insns at) i
+known_next : (k : Known) (insns : List VmInsn) (at : ℕ) (i : VmInsn) → slice_get insns at ≡ Some i → known_from k insns (suc at) ≡ facts_after (known_from k insns at) i
 unfolding known_from
 known_next k [] at i e = absurd (cc)
-known_next k (j ∷ insns) zero i e = let same : j ≡ i = cc in ap (after k) same
-known_next k (j ∷ insns) (suc at) i e = known_next (after k j) insns at i e
+known_next k (j ∷ insns) zero i e = let same : j ≡ i = cc in ap (facts_after k) same
+known_next k (j ∷ insns) (suc at) i e = known_next (facts_after k j) insns at i e
 
 -- ---- what it says of registers
 
@@ -106,7 +106,7 @@ record IsSame (i j : VmInsn) : Type 0 where
 same_insn : (i : VmInsn) → IsSame i i
 same_insn i = record { writes = refl; targets = refl; turn = refl }
 
-seen_is : (k : Known) (i : VmInsn) → IsSame i (seen k i)
+seen_is : (k : Known) (i : VmInsn) → IsSame i (tested_insn k i)
 seen_is k (x.Branch op ty source block) = record { writes = refl; targets = refl; turn = refl }
 seen_is k (x.LoadConstant ty2 d2 word) = same_insn (x.LoadConstant ty2 d2 word)
 seen_is k (x.LoadAddress d2 place plus) = same_insn (x.LoadAddress d2 place plus)
@@ -135,7 +135,7 @@ module _ (own : ℕ) (r : Registers) (o : Outer) where
   same_test op ty d a source block h false e = refl
 
   -- it does the same
-  seen_acts : (k : Known) (i : VmInsn) → Holds k r o.memory → acts (seen k i) ≡ acts i
+  seen_acts : (k : Known) (i : VmInsn) → Holds k r o.memory → acts (tested_insn k i) ≡ acts i
   unfolding Holds
   seen_acts Nothing (x.Branch op ty source block) h = refl
   seen_acts (Zero z) (x.Branch op ty source block) h = refl
@@ -219,7 +219,7 @@ module _ (own : ℕ) (r : Registers) (w : Outer) where
           ∙ sym (ap (value_holds o.memory ty) (beside d a (first_or_unset us) r apart))
 
   -- what is known behind what wrote
-  holds_after : (k : Known) (i : VmInsn) (us : List Value) (o : Outer) → Holds k r w.memory → does i own (map r (reads_of i)) w ≡ Writes us o → Holds (after k i) (set_registers (writes_of i) us r) o.memory
+  holds_after : (k : Known) (i : VmInsn) (us : List Value) (o : Outer) → Holds k r w.memory → does i own (map r (reads_of i)) w ≡ Writes us o → Holds (facts_after k i) (set_registers (writes_of i) us r) o.memory
   unfolding Holds
   holds_after k (x.LoadConstant ty d word) us o h e = constant_known ty d word us o e
   holds_after (Zero z) (x.Compare NotEqual ty d a b) us o h e = compare_known z ty d a b us o h e
@@ -249,7 +249,7 @@ never_calls (Gives u) w o g us e = cc
 never_calls (TrapsWith code) w o g us e = cc
 never_calls Fails w o g us e = cc
 
-calls_known : (own : ℕ) (r : Registers) (w o : Outer) (k : Known) (i : VmInsn) (g : ℕ) (us : List Value) → does i own (map r (reads_of i)) w ≡ Calls g us o → after k i ≡ Nothing
+calls_known : (own : ℕ) (r : Registers) (w o : Outer) (k : Known) (i : VmInsn) (g : ℕ) (us : List Value) → does i own (map r (reads_of i)) w ≡ Calls g us o → facts_after k i ≡ Nothing
 calls_known own r w o k (x.LoadConstant ty d word) g us e = absurd (never_calls (when_value ty (Word word)) w o g us e)
 calls_known own r w o Nothing (x.Compare op ty d a b) g us e = refl
 calls_known own r w o (Tests ty2 d2 a2) (x.Compare op ty d a b) g us e = refl
@@ -325,7 +325,7 @@ module _ (rooms : Rooms) (fs : List FunctionCode) where
   data Stands (p : Point) : Type 0 where
     Missing : (vm_code fs).site p ≡ None → Stands p
     Behind : (vm_code fs).site p ≡ Some (next_site p.block) → (vm_code gs).site p ≡ Some (next_site p.block) → Stands p
-    Insn : (i : VmInsn) → (vm_code fs).site p ≡ Some (insn_site i) → (vm_code gs).site p ≡ Some (insn_site (seen (known_at p) i)) → known_at (next_point p) ≡ after (known_at p) i → Stands p
+    Insn : (i : VmInsn) → (vm_code fs).site p ≡ Some (insn_site i) → (vm_code gs).site p ≡ Some (insn_site (tested_insn (known_at p) i)) → known_at (next_point p) ≡ facts_after (known_at p) i → Stands p
 
   stands : (p : Point) → Stands p
   unfolding known_at known_in blocks_of
@@ -335,10 +335,10 @@ module _ (rooms : Rooms) (fs : List FunctionCode) where
       by_function None there = Missing (ap (site_in_function p.block p.at) there)
       by_function (Some f) there = by_block (slice_get f.blocks p.block) refl
         where
-          after_function : (vm_code gs).site p ≡ site_in_block p.block p.at (option_map tested (slice_get f.blocks p.block))
+          after_function : (vm_code gs).site p ≡ site_in_block p.block p.at (option_map tested_block (slice_get f.blocks p.block))
           after_function =
               ap (site_in_function p.block p.at) (slice_get-map tested_code fs p.function ∙ ap (option_map tested_code) there)
-              ∙ ap (site_in_block p.block p.at) (slice_get-map tested f.blocks p.block)
+              ∙ ap (site_in_block p.block p.at) (slice_get-map tested_block f.blocks p.block)
 
           by_block : (q : Option (List VmInsn)) → slice_get f.blocks p.block ≡ q → Stands p
           by_block None stood = Missing (ap (site_in_function p.block p.at) there ∙ ap (site_in_block p.block p.at) stood)
@@ -347,10 +347,10 @@ module _ (rooms : Rooms) (fs : List FunctionCode) where
               before_site : (u : Option VmInsn) → slice_get insns p.at ≡ u → (vm_code fs).site p ≡ Some (site_or_next p.block u)
               before_site u at = ap (site_in_function p.block p.at) there ∙ ap (site_in_block p.block p.at) stood ∙ ap (λ z. Some (site_or_next p.block z)) at
 
-              after_site : (u : Option VmInsn) → slice_get insns p.at ≡ u → (vm_code gs).site p ≡ Some (site_or_next p.block (option_map (seen (known_from Nothing insns p.at)) u))
+              after_site : (u : Option VmInsn) → slice_get insns p.at ≡ u → (vm_code gs).site p ≡ Some (site_or_next p.block (option_map (tested_insn (known_from Nothing insns p.at)) u))
               after_site u at =
-                  after_function ∙ ap (λ z. site_in_block p.block p.at (option_map tested z)) stood
-                  ∙ ap (λ z. Some (site_or_next p.block z)) (tested_get Nothing insns p.at ∙ ap (option_map (seen (known_from Nothing insns p.at))) at)
+                  after_function ∙ ap (λ z. site_in_block p.block p.at (option_map tested_block z)) stood
+                  ∙ ap (λ z. Some (site_or_next p.block z)) (tested_get Nothing insns p.at ∙ ap (option_map (tested_insn (known_from Nothing insns p.at))) at)
 
               known_is : (n : ℕ) → known_in (blocks_of (slice_get fs p.function) p.block) n ≡ known_from Nothing insns n
               known_is n = ap (λ z. known_in (blocks_of z p.block) n) there ∙ ap (λ z. known_in z n) stood
@@ -359,8 +359,8 @@ module _ (rooms : Rooms) (fs : List FunctionCode) where
               by_insn None at = Behind (before_site None at) (after_site None at)
               by_insn (Some i) at =
                   Insn i (before_site (Some i) at)
-                  (after_site (Some i) at ∙ ap (λ k. Some (insn_site (seen k i))) (sym (known_is p.at)))
-                  (known_is (suc p.at) ∙ known_next Nothing insns p.at i at ∙ ap (λ k. after k i) (sym (known_is p.at)))
+                  (after_site (Some i) at ∙ ap (λ k. Some (insn_site (tested_insn k i))) (sym (known_is p.at)))
+                  (known_is (suc p.at) ∙ known_next Nothing insns p.at i at ∙ ap (λ k. facts_after k i) (sym (known_is p.at)))
 
   -- a jump to a block, which nothing is known at
   to_block : (p : Point) (own block : ℕ) (r : Registers) (callers : List (Frame Registers)) (w : World) → WaitAtCalls callers →
@@ -383,9 +383,9 @@ module _ (rooms : Rooms) (fs : List FunctionCode) where
     returned : (at at2 : ℕ) (us : List Value) (w w2 : World) (callers : List (Frame Registers)) → w2 ≡ w → WaitAtCalls callers →
         before (return_to Value Registers rooms (vm_code fs) at us w callers) ≡ Over e → behind (return_to Value Registers rooms (vm_code gs) at2 us w2 callers) ≡ Over e
     unfolding WaitAtCalls over_of
-    returned at at2 us w w2 [] same waits is = by_status (status_of us) refl
+    returned at at2 us w w2 [] same waits is = by_status (result_status us) refl
       where
-        by_status : (o : Option ℕ) → status_of us ≡ o → behind (return_to Value Registers rooms (vm_code gs) at2 us w2 []) ≡ Over e
+        by_status : (o : Option ℕ) → result_status us ≡ o → behind (return_to Value Registers rooms (vm_code gs) at2 us w2 []) ≡ Over e
         by_status None none_ = absurd (never_undefined w at e (sym (ap (λ o. before (Over (status_ending Value Registers rooms (vm_code fs) at w o))) none_) ∙ is) meaning)
         by_status (Some status) some =
             ap (λ o. behind (Over (status_ending Value Registers rooms (vm_code gs) at2 w2 o))) some ∙ ap (λ u. over_of (Done u status)) same
@@ -411,57 +411,57 @@ module _ (rooms : Rooms) (fs : List FunctionCode) where
             (record { holds = nothing_holds (known_at (next_point a.point)) (set_registers (writes_of i) us a.store) w.outer.memory waits.0; waits = waits.1 })
             (sym (ap (λ o. before (resume Value Registers rooms (vm_code fs) a more w us o)) one) ∙ is)
 
-    module _ (k : Config Registers) (good : Good k) (i : VmInsn) (next : known_at (next_point k.here.point) ≡ after (known_at k.here.point) i) where
+    module _ (k : Config Registers) (good : Good k) (i : VmInsn) (next : known_at (next_point k.here.point) ≡ facts_after (known_at k.here.point) i) where
       j : VmInsn
-      j = seen (known_at k.here.point) i
+      j = tested_insn (known_at k.here.point) i
 
       acted : (m : Meter) (a : Act Value) → does i k.here.own (map k.here.store (reads_of i)) k.world.outer ≡ a →
           before (act_on Value Registers rooms (vm_code fs) k m (insn_site i) a) ≡ Over e → behind (act_on Value Registers rooms (vm_code gs) k m (insn_site j) a) ≡ Over e
       unfolding j over_of WaitAtCalls
       acted m (Writes us o) act is =
-          ap (λ l. exec Value Registers rooms (vm_code gs) n (record { here = record { point = next_point k.here.point; own = k.here.own; store = set_registers l us k.here.store }; callers = k.callers; world = world_of o m })) (seen_is (known_at k.here.point) i).writes
-          ∙ ih (record { here = record { point = next_point k.here.point; own = k.here.own; store = set_registers (writes_of i) us k.here.store }; callers = k.callers; world = world_of o m })
+          ap (λ l. exec Value Registers rooms (vm_code gs) n (record { here = record { point = next_point k.here.point; own = k.here.own; store = set_registers l us k.here.store }; callers = k.callers; world = whole_world o m })) (seen_is (known_at k.here.point) i).writes
+          ∙ ih (record { here = record { point = next_point k.here.point; own = k.here.own; store = set_registers (writes_of i) us k.here.store }; callers = k.callers; world = whole_world o m })
           (record {
             holds = subst (λ q. Holds q (set_registers (writes_of i) us k.here.store) o.memory) (sym next) (holds_after k.here.own k.here.store k.world.outer (known_at k.here.point) i us o good.holds act);
             waits = good.waits;
           }) is
       acted m (Jumps t o) act is = by_target (slice_get (targets_of i) t) refl
         where
-          by_target : (q : Option ℕ) → slice_get (targets_of i) t ≡ q → behind (jump_to Value Registers rooms (vm_code gs) k (world_of o m) (insn_site (seen (known_at k.here.point) i)) (slice_get (targets_of (seen (known_at k.here.point) i)) t)) ≡ Over e
-          by_target None none_ = absurd (never_undefined (world_of o m) ((vm_code fs).number k.here.point) e (sym (ap (λ q. before (jump_to Value Registers rooms (vm_code fs) k (world_of o m) (insn_site i) q)) none_) ∙ is) meaning)
+          by_target : (q : Option ℕ) → slice_get (targets_of i) t ≡ q → behind (jump_to Value Registers rooms (vm_code gs) k (whole_world o m) (insn_site (tested_insn (known_at k.here.point) i)) (slice_get (targets_of (tested_insn (known_at k.here.point) i)) t)) ≡ Over e
+          by_target None none_ = absurd (never_undefined (whole_world o m) ((vm_code fs).number k.here.point) e (sym (ap (λ q. before (jump_to Value Registers rooms (vm_code fs) k (whole_world o m) (insn_site i) q)) none_) ∙ is) meaning)
           by_target (Some block) some =
-              ap (λ l. behind (jump_to Value Registers rooms (vm_code gs) k (world_of o m) (insn_site (seen (known_at k.here.point) i)) (slice_get l t))) (seen_is (known_at k.here.point) i).targets
-              ∙ ap (λ q. behind (jump_to Value Registers rooms (vm_code gs) k (world_of o m) (insn_site (seen (known_at k.here.point) i)) q)) some
-              ∙ ap (λ l. exec Value Registers rooms (vm_code gs) n (record { here = record { point = block_point k.here.point block; own = k.here.own; store = set_registers l [] k.here.store }; callers = k.callers; world = world_of o m })) (seen_is (known_at k.here.point) i).writes
-              ∙ ih (record { here = record { point = block_point k.here.point block; own = k.here.own; store = set_registers (writes_of i) [] k.here.store }; callers = k.callers; world = world_of o m })
-              (to_block k.here.point k.here.own block (set_registers (writes_of i) [] k.here.store) k.callers (world_of o m) good.waits)
-              (sym (ap (λ q. before (jump_to Value Registers rooms (vm_code fs) k (world_of o m) (insn_site i) q)) some) ∙ is)
+              ap (λ l. behind (jump_to Value Registers rooms (vm_code gs) k (whole_world o m) (insn_site (tested_insn (known_at k.here.point) i)) (slice_get l t))) (seen_is (known_at k.here.point) i).targets
+              ∙ ap (λ q. behind (jump_to Value Registers rooms (vm_code gs) k (whole_world o m) (insn_site (tested_insn (known_at k.here.point) i)) q)) some
+              ∙ ap (λ l. exec Value Registers rooms (vm_code gs) n (record { here = record { point = block_point k.here.point block; own = k.here.own; store = set_registers l [] k.here.store }; callers = k.callers; world = whole_world o m })) (seen_is (known_at k.here.point) i).writes
+              ∙ ih (record { here = record { point = block_point k.here.point block; own = k.here.own; store = set_registers (writes_of i) [] k.here.store }; callers = k.callers; world = whole_world o m })
+              (to_block k.here.point k.here.own block (set_registers (writes_of i) [] k.here.store) k.callers (whole_world o m) good.waits)
+              (sym (ap (λ q. before (jump_to Value Registers rooms (vm_code fs) k (whole_world o m) (insn_site i) q)) some) ∙ is)
       acted m (Calls g us o) act is =
-          let u : World = world_of (begin_locals o (sizes_in (slice_get fs g))) (enter_call rooms g m) in
+          let u : World = whole_world (begin_locals o (sizes_in (slice_get fs g))) (enter_call rooms g m) in
           let start_frame : Frame Registers = record { point = record { function = g; block = 0; at = 0 }; own = length o.memory; store = registers_of us } in
-          ap (λ sizes. exec Value Registers rooms (vm_code gs) n (record { here = record { point = record { function = g; block = 0; at = 0 }; own = length o.memory; store = registers_of us }; callers = k.here ∷ k.callers; world = world_of (begin_locals o sizes) (enter_call rooms g m) })) (sizes_same g)
+          ap (λ sizes. exec Value Registers rooms (vm_code gs) n (record { here = record { point = record { function = g; block = 0; at = 0 }; own = length o.memory; store = registers_of us }; callers = k.here ∷ k.callers; world = whole_world (begin_locals o sizes) (enter_call rooms g m) })) (sizes_same g)
           ∙ ih (record { here = start_frame; callers = k.here ∷ k.callers; world = u })
           (to_block (record { function = g; block = 0; at = 0 }) (length o.memory) 0 (registers_of us) (k.here ∷ k.callers) u
           (next ∙ calls_known k.here.own k.here.store k.world.outer o (known_at k.here.point) i g us act, good.waits)) is
       acted m (Returns us o) act is =
           returned ((vm_code fs).number k.here.point) ((vm_code gs).number k.here.point) us
-          (world_of (end_locals o k.here.own (length (sizes_in (slice_get fs k.here.point.function)))) (leave_call rooms k.here.point.function m))
-          (world_of (end_locals o k.here.own (length (sizes_in (slice_get gs k.here.point.function)))) (leave_call rooms k.here.point.function m)) k.callers
-          (ap (λ (sizes : List ℕ). world_of (end_locals o k.here.own (length sizes)) (leave_call rooms k.here.point.function m)) (sizes_same k.here.point.function)) good.waits is
+          (whole_world (end_locals o k.here.own (length (sizes_in (slice_get fs k.here.point.function)))) (leave_call rooms k.here.point.function m))
+          (whole_world (end_locals o k.here.own (length (sizes_in (slice_get gs k.here.point.function)))) (leave_call rooms k.here.point.function m)) k.callers
+          (ap (λ (sizes : List ℕ). whole_world (end_locals o k.here.own (length sizes)) (leave_call rooms k.here.point.function m)) (sizes_same k.here.point.function)) good.waits is
       acted m (Stops (Exits status) o) act is = is
       acted m (Stops (Traps code) o) act is = is
-      acted m (Stops HasNoMeaning o) act is = absurd (never_undefined (world_of o m) ((vm_code fs).number k.here.point) e is meaning)
+      acted m (Stops HasNoMeaning o) act is = absurd (never_undefined (whole_world o m) ((vm_code fs).number k.here.point) e is meaning)
 
       stepped : (before (step_with Value Registers rooms (vm_code fs) k (insn_site i) (turn_if (takes_turn i) k.world.meter)) ≡ Over e) → behind (step_with Value Registers rooms (vm_code gs) k (insn_site j) (turn_if (takes_turn j) k.world.meter)) ≡ Over e
       unfolding j over_of
       stepped is =
-          ap (λ b. behind (step_with Value Registers rooms (vm_code gs) k (insn_site (seen (known_at k.here.point) i)) (turn_if b k.world.meter))) (seen_is (known_at k.here.point) i).turn
+          ap (λ b. behind (step_with Value Registers rooms (vm_code gs) k (insn_site (tested_insn (known_at k.here.point) i)) (turn_if b k.world.meter))) (seen_is (known_at k.here.point) i).turn
           ∙ by_turn (turn_if (takes_turn i) k.world.meter) is
         where
-          by_turn : (q : Option Meter) → before (step_with Value Registers rooms (vm_code fs) k (insn_site i) q) ≡ Over e → behind (step_with Value Registers rooms (vm_code gs) k (insn_site (seen (known_at k.here.point) i)) q) ≡ Over e
+          by_turn : (q : Option Meter) → before (step_with Value Registers rooms (vm_code fs) k (insn_site i) q) ≡ Over e → behind (step_with Value Registers rooms (vm_code gs) k (insn_site (tested_insn (known_at k.here.point) i)) q) ≡ Over e
           by_turn None over = over
           by_turn (Some m) over =
-              ap (λ a. behind (act_on Value Registers rooms (vm_code gs) k m (insn_site (seen (known_at k.here.point) i)) a)) (seen_acts k.here.own k.here.store k.world.outer (known_at k.here.point) i good.holds)
+              ap (λ a. behind (act_on Value Registers rooms (vm_code gs) k m (insn_site (tested_insn (known_at k.here.point) i)) a)) (seen_acts k.here.own k.here.store k.world.outer (known_at k.here.point) i good.holds)
               ∙ acted m (does i k.here.own (map k.here.store (reads_of i)) k.world.outer) refl over
 
     step_follows : (k : Config Registers) → Good k → Stands k.here.point → exec Value Registers rooms (vm_code fs) (suc n) k ≡ Over e → exec Value Registers rooms (vm_code gs) (suc n) k ≡ Over e
@@ -470,8 +470,8 @@ module _ (rooms : Rooms) (fs : List FunctionCode) where
         absurd (never_undefined k.world ((vm_code fs).number k.here.point) e (sym (ap (λ o. before (step_at Value Registers rooms (vm_code fs) k o)) none_) ∙ is) meaning)
     step_follows k good (Behind one two) is =
         ap (λ o. behind (step_at Value Registers rooms (vm_code gs) k o)) two
-        ∙ ih (record { here = record { point = block_point k.here.point (suc k.here.point.block); own = k.here.own; store = k.here.store }; callers = k.callers; world = world_of k.world.outer k.world.meter })
-        (to_block k.here.point k.here.own (suc k.here.point.block) k.here.store k.callers (world_of k.world.outer k.world.meter) good.waits)
+        ∙ ih (record { here = record { point = block_point k.here.point (suc k.here.point.block); own = k.here.own; store = k.here.store }; callers = k.callers; world = whole_world k.world.outer k.world.meter })
+        (to_block k.here.point k.here.own (suc k.here.point.block) k.here.store k.callers (whole_world k.world.outer k.world.meter) good.waits)
         (sym (ap (λ o. before (step_at Value Registers rooms (vm_code fs) k o)) one) ∙ is)
     step_follows k good (Insn i one two next) is =
         ap (λ o. behind (step_at Value Registers rooms (vm_code gs) k o)) two
@@ -484,9 +484,9 @@ module _ (rooms : Rooms) (fs : List FunctionCode) where
   pub run_follows : (main : ℕ) (w : World) (steps : ℕ) (e : Ending) → HasMeaning e → vm_run rooms fs main w steps ≡ Over e → vm_run rooms (map tested_code fs) main w steps ≡ Over e
   unfolding WaitAtCalls
   run_follows main w steps e meaning is =
-      let u : World = world_of (begin_locals w.outer (sizes_in (slice_get fs main))) (enter_call rooms main w.meter) in
+      let u : World = whole_world (begin_locals w.outer (sizes_in (slice_get fs main))) (enter_call rooms main w.meter) in
       let first : Frame Registers = record { point = record { function = main; block = 0; at = 0 }; own = length w.outer.memory; store = registers_of [] } in
-      ap (λ sizes. exec Value Registers rooms (vm_code gs) steps (record { here = record { point = record { function = main; block = 0; at = 0 }; own = length w.outer.memory; store = registers_of [] }; callers = []; world = world_of (begin_locals w.outer sizes) (enter_call rooms main w.meter) })) (sizes_same main)
+      ap (λ sizes. exec Value Registers rooms (vm_code gs) steps (record { here = record { point = record { function = main; block = 0; at = 0 }; own = length w.outer.memory; store = registers_of [] }; callers = []; world = whole_world (begin_locals w.outer sizes) (enter_call rooms main w.meter) })) (sizes_same main)
       ∙ follows steps e meaning (record { here = first; callers = []; world = u })
       (to_block (record { function = main; block = 0; at = 0 }) (length w.outer.memory) 0 (registers_of []) [] u tt) is
 

@@ -26,10 +26,10 @@ after_comparison (Zero z) NotEqual ty d a b = after_test z ty d a b
 after_comparison k op ty d a b = Nothing
 
 -- what is known behind an instruction
-abbrev pub after : Known → VmInsn → Known
-after k (LoadConstant ty d word) = after_constant d word
-after k (Compare op ty d a b) = after_comparison k op ty d a b
-after k i = Nothing
+abbrev pub facts_after : Known → VmInsn → Known
+facts_after k (LoadConstant ty d word) = after_constant d word
+facts_after k (Compare op ty d a b) = after_comparison k op ty d a b
+facts_after k i = Nothing
 
 -- the type and the register that a branch on a register of a type tests, where this is known
 abbrev pub tested_type : Known → VmType → (register : ℕ) → VmType
@@ -37,28 +37,28 @@ tested_type (Tests ty d a) S32 register = if register == d then ty else S32
 tested_type k ty register = ty
 
 -- the value where the register is its truth, or else the register
-abbrev pub value_of : (truth value register : ℕ) → ℕ
-value_of d a register = if register == d then a else register
+abbrev pub tested_value : (truth value register : ℕ) → ℕ
+tested_value d a register = if register == d then a else register
 
 abbrev pub tested_register : Known → VmType → (register : ℕ) → ℕ
-tested_register (Tests ty d a) S32 register = value_of d a register
+tested_register (Tests ty d a) S32 register = tested_value d a register
 tested_register k ty register = register
 
 -- an instruction as it is done where this is known
-abbrev pub seen : Known → VmInsn → VmInsn
-seen k (Branch op ty source block) = Branch op (tested_type k ty source) (tested_register k ty source) block
-seen k i = i
+abbrev pub tested_insn : Known → VmInsn → VmInsn
+tested_insn k (Branch op ty source block) = Branch op (tested_type k ty source) (tested_register k ty source) block
+tested_insn k i = i
 
 abbrev pub tested_from : Known → List VmInsn → List VmInsn
 tested_from k [] = []
-tested_from k (i ∷ insns) = seen k i ∷ tested_from (after k i) insns
+tested_from k (i ∷ insns) = tested_insn k i ∷ tested_from (facts_after k i) insns
 
 -- the instructions of a block, where nothing is known at its start
-abbrev pub tested : List VmInsn → List VmInsn
-tested insns = tested_from Nothing insns
+abbrev pub tested_block : List VmInsn → List VmInsn
+tested_block insns = tested_from Nothing insns
 
 abbrev pub tested_code : FunctionCode → FunctionCode
-tested_code c = record { sizes = c.sizes; blocks = map tested c.blocks }
+tested_code c = record { sizes = c.sizes; blocks = map tested_block c.blocks }
 
 abbrev pub HasMeaning : Ending → Type 0
 HasMeaning (Undefined w at) = ⊥

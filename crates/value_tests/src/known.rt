@@ -41,7 +41,7 @@ impl Known {
 
     /// What is known behind an instruction.
     pub fn after(self, insn: &VmInsn) -> Known
-        ensures { result ≡ tests.after self insn.now }
+        ensures { result ≡ tests.facts_after self insn.now }
     {
         match insn {
             VmInsn::LoadConstant {
@@ -99,7 +99,7 @@ impl Known {
 
 /// The value where the register is its truth, or else the register.
 fn value_of(truth: u32, value: u32, register: u32) -> u32
-    ensures { result ≡ tests.value_of truth value register }
+    ensures { result ≡ tests.tested_value truth value register }
 {
     if register == truth { value } else { register }
 }

@@ -18,7 +18,7 @@ use Rattle.suifvm_ir.specs.declared.insn.VmInsn.TheVariants.{LoadConstant, LoadA
 use Rattle.std.specs.List.{list_all}
 use Rattle.suifvm_ir.specs.Programs.{alignment_bytes}
 use Rattle.vm_meaning.specs.Operations.{Answer, Gives, TrapsWith, Fails, is_set, is_value_of, when_value, unary_answer, convert_answer, binary_answer, shift_answer, compare_answer, value_holds, loaded_answer, stored_memory, copied_memory}
-use Rattle.vm_meaning.specs.Effect.{fails, first, second, writes, changes, is_taken, branches, puts_char, exits, builtin_act, callee_act, return_act, does}
+use Rattle.vm_meaning.specs.Effect.{fails, first_source, second_source, writes, changes, is_branch_taken, branches, puts_char, exits_with, builtin_act, callee_act, return_act, does}
 use Rattle.vm_meaning.specs.Behave.{FunctionCode, Registers, vm_code, site_or_next, site_in_block, site_in_function}
 
 -- the output of an outer part is a front of the one that is left
@@ -42,7 +42,7 @@ changes_extends (Some memory) o = same o.output
 changes_extends None o = same o.output
 
 branches_extends : (op : VmBranchOp) (t : Option Bool) (o : Outer) → Extends o (branches op t o)
-branches_extends op (Some test) o = if_extends o (is_taken op test) (Jumps 0 o) (Writes [] o) (same o.output) (same o.output)
+branches_extends op (Some test) o = if_extends o (is_branch_taken op test) (Jumps 0 o) (Writes [] o) (same o.output) (same o.output)
 branches_extends op None o = same o.output
 
 puts_extends : (v : Value) (o : Outer) → Extends o (puts_char v o)
@@ -50,16 +50,16 @@ puts_extends (Word n) o = (_, refl)
 puts_extends (Address p) o = same o.output
 puts_extends Unset o = same o.output
 
-exits_extends : (v : Value) (o : Outer) → Extends o (exits v o)
+exits_extends : (v : Value) (o : Outer) → Extends o (exits_with v o)
 exits_extends (Word n) o = same o.output
 exits_extends (Address p) o = same o.output
 exits_extends Unset o = same o.output
 
 builtin_extends : (b : VmBuiltin) (vs : List Value) (o : Outer) → Extends o (builtin_act b vs o)
-builtin_extends PutChar vs o = puts_extends (first vs) o
+builtin_extends PutChar vs o = puts_extends (first_source vs) o
 builtin_extends GetChar vs o = same o.output
 builtin_extends Abort vs o = same o.output
-builtin_extends Exit vs o = exits_extends (first vs) o
+builtin_extends Exit vs o = exits_extends (first_source vs) o
 
 callee_extends : (c : VmCallee) (vs : List Value) (o : Outer) → Extends o (callee_act c vs o)
 callee_extends (callee.Function k) vs o = same o.output
@@ -67,20 +67,20 @@ callee_extends (callee.Builtin b) vs o = builtin_extends b vs o
 
 return_extends : (r : Option TypedRegister) (vs : List Value) (o : Outer) → Extends o (return_act r vs o)
 return_extends None vs o = same o.output
-return_extends (Some r) vs o = if_extends o (is_value_of r.ty (first vs)) (Returns (first vs ∷ []) o) (fails o) (same o.output) (same o.output)
+return_extends (Some r) vs o = if_extends o (is_value_of r.ty (first_source vs)) (Returns (first_source vs ∷ []) o) (fails o) (same o.output) (same o.output)
 
 pub does_extends : (i : VmInsn) (own : ℕ) (vs : List Value) (o : Outer) → IsPrefix o.output (act_outer (does i own vs o)).output
 does_extends (LoadConstant ty destination word) own vs o = writes_extends (when_value ty (Word word)) o
 does_extends (LoadAddress destination place plus) own vs o = same o.output
-does_extends (Load ty destination pointer plus) own vs o = writes_extends (loaded_answer o.memory ty (first vs) plus) o
-does_extends (Store ty pointer plus value) own vs o = changes_extends (stored_memory o.memory ty (first vs) plus (second vs)) o
-does_extends (Copy to from size align) own vs o = changes_extends (copied_memory o.memory (first vs) (second vs) size (alignment_bytes align)) o
-does_extends (Unary op ty destination source) own vs o = writes_extends (unary_answer op ty (first vs)) o
-does_extends (Binary op ty destination left right) own vs o = writes_extends (binary_answer o.memory op ty (first vs) (second vs)) o
-does_extends (Shift op ty destination source count) own vs o = writes_extends (shift_answer op ty (first vs) (second vs)) o
-does_extends (Convert from to destination source) own vs o = writes_extends (convert_answer from to (first vs)) o
-does_extends (Compare op ty destination left right) own vs o = writes_extends (compare_answer o.memory op ty (first vs) (second vs)) o
-does_extends (Branch op ty source block) own vs o = branches_extends op (value_holds o.memory ty (first vs)) o
+does_extends (Load ty destination pointer plus) own vs o = writes_extends (loaded_answer o.memory ty (first_source vs) plus) o
+does_extends (Store ty pointer plus value) own vs o = changes_extends (stored_memory o.memory ty (first_source vs) plus (second_source vs)) o
+does_extends (Copy to from size align) own vs o = changes_extends (copied_memory o.memory (first_source vs) (second_source vs) size (alignment_bytes align)) o
+does_extends (Unary op ty destination source) own vs o = writes_extends (unary_answer op ty (first_source vs)) o
+does_extends (Binary op ty destination left right) own vs o = writes_extends (binary_answer o.memory op ty (first_source vs) (second_source vs)) o
+does_extends (Shift op ty destination source count) own vs o = writes_extends (shift_answer op ty (first_source vs) (second_source vs)) o
+does_extends (Convert from to destination source) own vs o = writes_extends (convert_answer from to (first_source vs)) o
+does_extends (Compare op ty destination left right) own vs o = writes_extends (compare_answer o.memory op ty (first_source vs) (second_source vs)) o
+does_extends (Branch op ty source block) own vs o = branches_extends op (value_holds o.memory ty (first_source vs)) o
 does_extends (Jump block) own vs o = same o.output
 does_extends (Call destination c arguments) own vs o = if_extends o (list_all is_set vs) (callee_act c vs o) (fails o) (callee_extends c vs o) (same o.output)
 does_extends (Return value) own vs o = return_extends value vs o

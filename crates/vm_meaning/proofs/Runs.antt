@@ -4,7 +4,7 @@ use Rattle.mem_model.specs.declared.value.Value.{Value}
 use Rattle.mem_model.specs.World.{World, Rooms}
 use Rattle.mem_model.specs.Ending.{Ending, ending_output}
 use Rattle.machine_model.specs.Code.{Code}
-use Rattle.machine_model.specs.Machine.{Config, start}
+use Rattle.machine_model.specs.Machine.{Config, start_config}
 use Rattle.machine_model.specs.Laws.{IsFinal, IsPrefix, ending_with_turns, next_world}
 use Rattle.machine_model.proofs.Runs as runs
 use Rattle.machine_model.proofs.Turns as turns
@@ -18,7 +18,7 @@ abbrev code : VmProgram → Code Value Registers
 code program = vm_code (map code_of program.functions)
 
 abbrev begin : Rooms → VmProgram → (input : List ℕ) → (turns : ℕ) → Config Registers
-begin rooms program input n = start Value Registers rooms (code program) (main_of program.functions) (start_world program.globals input n)
+begin rooms program input n = start_config Value Registers rooms (code program) (main_of program.functions) (start_world program.globals input n)
 
 pub one_ending : (rooms : Rooms) (program : VmProgram) (input : List ℕ) (n : ℕ) (e f : Ending) → behave_vm rooms program input n e → behave_vm rooms program input n f → e ≡ f
 one_ending rooms program input n e f x y =
@@ -39,4 +39,4 @@ first_peak a b c h = omega arith
 pub peak_rises : (rooms : Rooms) (functions : List FunctionCode) (main : ℕ) (w : World) (n : ℕ) → w.meter.peak ≤ (next_world (vm_run rooms functions main w n)).meter.peak
 peak_rises rooms functions main w n =
     first_peak w.meter.peak _ _
-    (peaks.peak_rises Value Registers rooms (vm_code functions) n (start Value Registers rooms (vm_code functions) main w))
+    (peaks.peak_rises Value Registers rooms (vm_code functions) n (start_config Value Registers rooms (vm_code functions) main w))

@@ -31,8 +31,8 @@ use Rattle.suifvm_ir.specs.declared.insn.TypedRegister.{TypedRegister}
 use Rattle.suifvm_ir.specs.declared.insn.VmInsn.{VmInsn}
 use Rattle.suifvm_ir.specs.declared.insn.VmInsn.TheVariants.{LoadConstant, LoadAddress, Load, Store, Copy, Unary, Binary, Shift, Convert, Compare, Branch, Jump, Call, Return, Mark, Nop}
 use Rattle.suifvm_ir.specs.Insns.{unary_may_trap, binary_may_trap, call_may_trap, may_trap_of}
-use Rattle.vm_meaning.specs.Operations.{Answer, Gives, TrapsWith, Fails, is_set, is_value_of, when_value, integer_of, memory_integer, access_bytes, is_pointer_access, with_sign, without_sign, comparison_answer, compare_pointer, shift_by, convert_answer, shift_answer, value_holds, loaded_answer, stored_memory, copied_memory, outcome_answer, value_answer, distance_answer, test_answer, on_number, on_numbers, unary_number, unary_answer, conversion_answer, binary_number, pointer_answer, binary_answer, shift_number, compare_answer, load_answer, load_through}
-use Rattle.vm_meaning.specs.Effect.{fails, first, second, writes, changes, is_taken, branches, puts_char, exits, builtin_act, call_act, return_act, does}
+use Rattle.vm_meaning.specs.Operations.{Answer, Gives, TrapsWith, Fails, is_set, is_value_of, when_value, integer_of, memory_integer, access_bytes, is_pointer_access, signed_type, without_sign, comparison_answer, compare_pointer, shift_by, convert_answer, shift_answer, value_holds, loaded_answer, stored_memory, copied_memory, outcome_answer, value_answer, distance_answer, test_answer, on_number, on_numbers, unary_number, unary_answer, conversion_answer, binary_number, pointer_answer, binary_answer, shift_number, compare_answer, load_answer, load_through}
+use Rattle.vm_meaning.specs.Effect.{fails, first_source, second_source, writes, changes, is_branch_taken, branches, puts_char, exits_with, builtin_act, call_act, return_act, does}
 use Rattle.vm_meaning.specs.Laws.{OnlyTheseVmInstructionsTrap}
 
 -- an answer, and an act, that is no trap
@@ -115,7 +115,7 @@ calm_right t a (Some k) = tt
 calm_right t a None = tt
 
 calm_shift : (op : ShiftOp) (t : IntegerType) (a k : ℕ) → Calm (shift_number op t a k)
-calm_shift ArithmeticRight t a k = calm_right (with_sign t) a (shift_count (with_sign t) UnsignedLong k)
+calm_shift ArithmeticRight t a k = calm_right (signed_type t) a (shift_count (signed_type t) UnsignedLong k)
 calm_shift Left t a k = calm_left t a (shift_count t UnsignedLong k)
 calm_shift LogicalRight t a k = calm_right (without_sign t) a (shift_count (without_sign t) UnsignedLong k)
 
@@ -203,7 +203,7 @@ no_trap_changes (Some memory) o = tt
 no_trap_changes None o = tt
 
 no_trap_branches : (op : VmBranchOp) (t : Option Bool) (o : Outer) → NoTrap (branches op t o)
-no_trap_branches op (Some test) o = no_trap_if (is_taken op test) (Jumps 0 o) (Writes [] o) tt tt
+no_trap_branches op (Some test) o = no_trap_if (is_branch_taken op test) (Jumps 0 o) (Writes [] o) tt tt
 no_trap_branches op None o = tt
 
 no_trap_puts : (v : Value) (o : Outer) → NoTrap (puts_char v o)
@@ -211,7 +211,7 @@ no_trap_puts (Word n) o = tt
 no_trap_puts (Address p) o = tt
 no_trap_puts Unset o = tt
 
-no_trap_exits : (v : Value) (o : Outer) → NoTrap (exits v o)
+no_trap_exits : (v : Value) (o : Outer) → NoTrap (exits_with v o)
 no_trap_exits (Word n) o = tt
 no_trap_exits (Address p) o = tt
 no_trap_exits Unset o = tt
@@ -219,35 +219,35 @@ no_trap_exits Unset o = tt
 call_only : (c : VmCallee) (vs : List Value) (o : Outer) → OnlyIf (call_may_trap c) (call_act c vs o)
 call_only (callee.Function k) vs o = no_trap_if (list_all is_set vs) (Calls k vs o) (fails o) tt tt
 call_only (callee.Builtin PutChar) vs o =
-    no_trap_if (list_all is_set vs) (puts_char (first vs) o) (fails o) (no_trap_puts (first vs) o) tt
+    no_trap_if (list_all is_set vs) (puts_char (first_source vs) o) (fails o) (no_trap_puts (first_source vs) o) tt
 call_only (callee.Builtin GetChar) vs o =
     no_trap_if (list_all is_set vs) (builtin_act GetChar vs o) (fails o) tt tt
 call_only (callee.Builtin Abort) vs o = tt
 call_only (callee.Builtin Exit) vs o =
-    no_trap_if (list_all is_set vs) (exits (first vs) o) (fails o) (no_trap_exits (first vs) o) tt
+    no_trap_if (list_all is_set vs) (exits_with (first_source vs) o) (fails o) (no_trap_exits (first_source vs) o) tt
 
 no_trap_return : (r : Option TypedRegister) (vs : List Value) (o : Outer) → NoTrap (return_act r vs o)
 no_trap_return None vs o = tt
-no_trap_return (Some r) vs o = no_trap_if (is_value_of r.ty (first vs)) (Returns (first vs ∷ []) o) (fails o) tt tt
+no_trap_return (Some r) vs o = no_trap_if (is_value_of r.ty (first_source vs)) (Returns (first_source vs ∷ []) o) (fails o) tt tt
 
 traps_only : (i : VmInsn) (own : ℕ) (vs : List Value) (o : Outer) → OnlyIf (may_trap_of i) (does i own vs o)
 traps_only (LoadConstant ty destination word) own vs o =
     calm_writes (when_value ty (Word word)) o (calm_if (is_value_of ty (Word word)) (Gives (Word word)) Fails tt tt)
 traps_only (LoadAddress destination place plus) own vs o = tt
 traps_only (Load ty destination pointer plus) own vs o =
-    calm_writes (loaded_answer o.memory ty (first vs) plus) o
-    (calm_through o.memory (memory_integer ty) (pointer_plus o.memory (first vs) plus))
-traps_only (Store ty pointer plus value) own vs o = no_trap_changes (stored_memory o.memory ty (first vs) plus (second vs)) o
+    calm_writes (loaded_answer o.memory ty (first_source vs) plus) o
+    (calm_through o.memory (memory_integer ty) (pointer_plus o.memory (first_source vs) plus))
+traps_only (Store ty pointer plus value) own vs o = no_trap_changes (stored_memory o.memory ty (first_source vs) plus (second_source vs)) o
 traps_only (Copy to from size align) own vs o =
-    no_trap_changes (copied_memory o.memory (first vs) (second vs) size (alignment_bytes align)) o
-traps_only (Unary op ty destination source) own vs o = unary_only op ty (first vs) o
-traps_only (Binary op ty destination left right) own vs o = binary_only op ty o.memory (first vs) (second vs) o
-traps_only (Shift op ty destination source count) own vs o = calm_writes (shift_answer op ty (first vs) (second vs)) o (calm_shifts op ty (first vs) (second vs))
+    no_trap_changes (copied_memory o.memory (first_source vs) (second_source vs) size (alignment_bytes align)) o
+traps_only (Unary op ty destination source) own vs o = unary_only op ty (first_source vs) o
+traps_only (Binary op ty destination left right) own vs o = binary_only op ty o.memory (first_source vs) (second_source vs) o
+traps_only (Shift op ty destination source count) own vs o = calm_writes (shift_answer op ty (first_source vs) (second_source vs)) o (calm_shifts op ty (first_source vs) (second_source vs))
 traps_only (Convert from to destination source) own vs o =
-    calm_writes (convert_answer from to (first vs)) o (calm_conversion (memory_integer from) (integer_of to) (first vs))
+    calm_writes (convert_answer from to (first_source vs)) o (calm_conversion (memory_integer from) (integer_of to) (first_source vs))
 traps_only (Compare op ty destination left right) own vs o =
-    calm_writes (compare_answer o.memory op ty (first vs) (second vs)) o (calm_compare op ty o.memory (first vs) (second vs))
-traps_only (Branch op ty source block) own vs o = no_trap_branches op (value_holds o.memory ty (first vs)) o
+    calm_writes (compare_answer o.memory op ty (first_source vs) (second_source vs)) o (calm_compare op ty o.memory (first_source vs) (second_source vs))
+traps_only (Branch op ty source block) own vs o = no_trap_branches op (value_holds o.memory ty (first_source vs)) o
 traps_only (Jump block) own vs o = tt
 traps_only (Call destination c arguments) own vs o = call_only c vs o
 traps_only (Return value) own vs o = no_trap_return value vs o

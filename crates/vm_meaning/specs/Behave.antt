@@ -5,7 +5,7 @@ use Rattle.mem_model.specs.declared.value.Value.TheVariants.{Word, Unset}
 use Rattle.mem_model.specs.World.{World, Rooms, meter_of}
 use Rattle.mem_model.specs.Ending.{Ending}
 use Rattle.machine_model.specs.Code.{Jumps, Site, Point, Code}
-use Rattle.machine_model.specs.Machine.{Next, Over, exec, start}
+use Rattle.machine_model.specs.Machine.{Next, Over, exec, start_config}
 use Rattle.data_object.specs.declared.DataObject.{DataObject}
 use Rattle.data_object.specs.Start.{start_memory}
 use Rattle.suifvm_ir.specs.declared.insn.VmInsn.{VmInsn}
@@ -89,8 +89,8 @@ sizes_in None = []
 sizes_in (Some f) = f.sizes
 
 -- the number of an instruction, counted over all functions from 0
-abbrev pub number_of : List FunctionCode → Point → ℕ
-number_of functions p =
+abbrev pub point_number : List FunctionCode → Point → ℕ
+point_number functions p =
     sum_by (λ f. count_of f.blocks) (take p.function functions) + count_of
     (take p.block (blocks_in (slice_get functions p.function))) + p.at
 
@@ -99,17 +99,17 @@ abbrev pub value_status : Value → Option ℕ
 value_status (Word n) = Some (n % 256)
 value_status _ = None
 
-abbrev pub status_of : List Value → Option ℕ
-status_of vs = value_status (first_or_unset vs)
+abbrev pub result_status : List Value → Option ℕ
+result_status vs = value_status (first_or_unset vs)
 
 abbrev pub vm_code : List FunctionCode → Code Value Registers
 vm_code functions = record {
   site = λ p. site_in_function p.block p.at (slice_get functions p.function);
-  number = number_of functions;
+  number = point_number functions;
   edge = λ p block rs. rs;
   entry = λ function vs. registers_of vs;
   locals = λ function. sizes_in (slice_get functions function);
-  status = status_of;
+  status = result_status;
 }
 
 -- ---- runs
@@ -124,7 +124,7 @@ start_world globals input turns = record {
 -- so many steps from the start of a function
 abbrev pub vm_run : Rooms → List FunctionCode → (main : ℕ) → World → (steps : ℕ) → Next Registers
 vm_run rooms functions main w steps =
-    exec Value Registers rooms (vm_code functions) steps (start Value Registers rooms (vm_code functions) main w)
+    exec Value Registers rooms (vm_code functions) steps (start_config Value Registers rooms (vm_code functions) main w)
 
 -- the number of the function `main`
 abbrev pub main_of : List VmFunction → ℕ

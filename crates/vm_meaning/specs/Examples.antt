@@ -53,8 +53,9 @@ abbrev pub minus_one : ℕ
 minus_one = 2 ^ 64 - 1
 
 -- an object of 8 bytes whose first two are 1 and 2
-abbrev pub object : DataObject
-object = record { name = []; size = 8; align = 1; offset = 0; writable = false; cells = cell.Byte 1 ∷ cell.Byte 2 ∷ [] }
+abbrev pub constant_object : DataObject
+constant_object =
+    record { name = []; size = 8; align = 1; offset = 0; writable = false; cells = cell.Byte 1 ∷ cell.Byte 2 ∷ [] }
 
 pub record VmExamplesRun : Type 0 where
   -- a byte is put, which is a turn, and is the status
@@ -105,10 +106,10 @@ pub record VmExamplesRun : Type 0 where
         blocks =
             (LoadAddress 0 (Global 0) 1 ∷ Load memory.U8 1 0 (pos 0) ∷ Load memory.U8 2 0 (pos 3) ∷ Binary Add S32 3 1 2
             ∷ give 3 ∷ []) ∷ [];
-      } ∷ []) (object ∷ []) [] 0 ≡ ShowsDone 2 []
+      } ∷ []) (constant_object ∷ []) [] 0 ≡ ShowsDone 2 []
   pub loads_outside : run_functions
       (record { sizes = []; blocks = (LoadAddress 0 (Global 0) 8 ∷ Load memory.U8 1 0 (pos 0) ∷ give 1 ∷ []) ∷ [] }
-      ∷ []) (object ∷ []) [] 0 ≡ ShowsUndefined 1 []
+      ∷ []) (constant_object ∷ []) [] 0 ≡ ShowsUndefined 1 []
   -- a function writes to its memory local and returns what stands there; the object has ended when it returned
   pub calls : run_functions (
       record { sizes = []; blocks = (LoadConstant S32 0 9 ∷ Call (Some 1) (Function 1) (0 ∷ []) ∷ give 1 ∷ []) ∷ [] }

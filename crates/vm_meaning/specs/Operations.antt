@@ -58,15 +58,15 @@ is_set (Address p) = true
 is_set Unset = false
 
 -- a value may stand in a register of numbers
-abbrev pub is_number : IntegerType → Value → Bool
-is_number t (Word n) = is_word t n
-is_number t (Address p) = false
-is_number t Unset = false
+abbrev pub is_integer_value : IntegerType → Value → Bool
+is_integer_value t (Word n) = is_word t n
+is_integer_value t (Address p) = false
+is_integer_value t Unset = false
 
 -- an instruction of the type may read a value
 abbrev pub is_value_in : Option IntegerType → Value → Bool
 is_value_in None v = is_set v
-is_value_in (Some t) v = is_number t v
+is_value_in (Some t) v = is_integer_value t v
 
 abbrev pub is_value_of : VmType → Value → Bool
 is_value_of ty v = is_value_in (integer_of ty) v
@@ -155,10 +155,10 @@ binary_answer memory op v.P64 a b = pointer_answer memory op a b
 binary_answer memory op ty a b = on_numbers (integer_of ty) a b (binary_number op)
 
 -- the type of the same width whose numbers have signs, or have none
-abbrev pub with_sign : IntegerType → IntegerType
-with_sign UnsignedInt = Int
-with_sign UnsignedLong = Long
-with_sign t = t
+abbrev pub signed_type : IntegerType → IntegerType
+signed_type UnsignedInt = Int
+signed_type UnsignedLong = Long
+signed_type t = t
 
 abbrev pub without_sign : IntegerType → IntegerType
 without_sign Int = UnsignedInt
@@ -167,7 +167,7 @@ without_sign t = t
 
 -- the count is a word
 abbrev pub shift_number : ShiftOp → IntegerType → (a count : ℕ) → Answer
-shift_number ArithmeticRight t a count = outcome_answer (c.right_shift (with_sign t) UnsignedLong a count)
+shift_number ArithmeticRight t a count = outcome_answer (c.right_shift (signed_type t) UnsignedLong a count)
 shift_number Left t a count = outcome_answer (c.left_shift t UnsignedLong a count)
 shift_number LogicalRight t a count = outcome_answer (c.right_shift (without_sign t) UnsignedLong a count)
 

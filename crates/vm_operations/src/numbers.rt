@@ -210,7 +210,7 @@ pub(crate) fn binary_in(op: VmBinaryOp, t: IntegerType, a: Value, b: Value) -> A
 
 /// The type of the same width whose numbers have signs.
 fn with_sign(t: IntegerType) -> IntegerType
-    ensures { result ≡ operations.with_sign t }
+    ensures { result ≡ operations.signed_type t }
 {
     match t {
         IntegerType::UnsignedInt => IntegerType::Int,

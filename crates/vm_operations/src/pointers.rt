@@ -31,7 +31,7 @@ fn distance(to: i64, from: i64) -> u64
 /// An offset moved by so many bytes, where it stays within 0 to a size.
 fn move_offset(offset: i64, by: i64, size: u64) -> Option<i64>
     requires { size < 2 ^ 63 }
-    ensures { result ≡ pointers.when (pointers.is_offset (offset +ℤ by) size) (offset +ℤ by) }
+    ensures { result ≡ pointers.option_if (pointers.is_offset (offset +ℤ by) size) (offset +ℤ by) }
 {
     match offset.checked_add(by) {
         None => None,
@@ -61,7 +61,7 @@ fn share_object(memory: &Mem, p: Ptr, q: Ptr) -> bool
 fn address_plus(memory: &Mem, p: Ptr, by: i64) -> Option<Ptr>
     requires { MemoryIsTidy memory.now }
     ensures { result
-        ≡ pointers.when
+        ≡ pointers.option_if
         (pointers.is_live memory.now p && pointers.is_offset (p.offset +ℤ by) (pointers.size_at memory.now p))
         (pointers.ptr_plus p by) }
 {

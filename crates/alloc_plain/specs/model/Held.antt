@@ -2,7 +2,7 @@
 use Rattle.std.specs.Prelude.{◌≡◌, ℕ, ◌+◌, ◌==◌, Bool, true, false, List, [], ◌∷◌, length, slice_index_or, Option, Some, None, if◌then◌else◌}
 use Rattle.temp_ir.specs.declared.insn.TempInsn.{TempInsn}
 use Rattle.temp_ir.specs.Insns.{reads_of, writes_of}
-use Rattle.alloc_model.specs.Effect.{is_call}
+use Rattle.alloc_model.specs.Effect.{calls_function}
 use Rattle.alloc_model.specs.Places.{Place, Reg, Slot}
 use Rattle.alloc_rules.specs.Visits.{Homes}
 use Rattle.alloc_plain.specs.declared.holders.Held.{Held}
@@ -55,7 +55,7 @@ nothing_held = record { first = None; second = None; third = None }
 
 -- behind the loads and what the instruction ends: a call of a function ends all three
 abbrev pub held_left : TempInsn → Held → Held
-held_left x h = if is_call x then nothing_held else come (reads_of x) 1 h
+held_left x h = if calls_function x then nothing_held else come (reads_of x) 1 h
 
 -- behind its writes
 abbrev pub held_behind : TempInsn → Held → Held

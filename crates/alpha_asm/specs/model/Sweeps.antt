@@ -6,9 +6,9 @@ use Rattle.std.specs.List.{sum, count_by, position_from}
 use Rattle.alpha_isa.specs.declared.insn.BranchOp.{BranchOp}
 use Rattle.alpha_items.specs.declared.item.AsmItem.{AsmItem}
 use Rattle.alpha_items.specs.declared.item.AsmItem.TheVariants.{Label, Branch}
-use Rattle.alpha_items.specs.Items.{label_used, names}
+use Rattle.alpha_items.specs.Items.{label_used, names_label}
 use Rattle.alpha_items.specs.Assembly.{label_index}
-use Rattle.alpha_items.specs.Layout.{sizes, place, label_place, is_far}
+use Rattle.alpha_items.specs.Layout.{sizes, item_place, label_place, is_far}
 
 abbrev pub is_branch_item : AsmItem → Bool
 is_branch_item (Branch op ra l) = true
@@ -17,7 +17,7 @@ is_branch_item _ = false
 -- the number of the item that names the label which one uses, 0 where it uses none or there is no such item
 abbrev pub label_target : List AsmItem → Option ℕ → ℕ
 label_target items None = 0
-label_target items (Some l) = unwrap_or (position_from (names l) 0 items) 0
+label_target items (Some l) = unwrap_or (position_from (names_label l) 0 items) 0
 
 abbrev pub target_of : List AsmItem → AsmItem → ℕ
 target_of items i = label_target items (label_used i)
@@ -44,7 +44,7 @@ abbrev pub BackReachesAt : List AsmItem → List Bool → ℕ → Type 0
 BackReachesAt items far k =
     (op : BranchOp) (ra l : ℕ) → slice_index_or items k (Label 0) ≡ Branch op ra l → is_far far k ≡ false →
     label_index items l ≤ k →
-    place items far k + 1 ≤ label_place items far l + reach
+    item_place items far k + 1 ≤ label_place items far l + reach
 
 -- or its label stands behind it
 abbrev pub ForthReachesAt : List AsmItem → List Bool → ℕ → Type 0
@@ -61,7 +61,7 @@ pub record TooFarBack (items : List AsmItem) (far : List Bool) (k : ℕ) : Type 
   pub is_branch : slice_index_or items k (Label 0) ≡ Branch op ra l
   pub short : is_far far k ≡ false
   pub behind : label_index items l ≤ k
-  pub beyond : label_place items far l + reach < place items far k + 1
+  pub beyond : label_place items far l + reach < item_place items far k + 1
 
 pub record TooFarForth (items : List AsmItem) (far : List Bool) (k : ℕ) : Type 0 where
   pub op : BranchOp
@@ -79,13 +79,13 @@ GrowsWhere old new grew = MatchBool grew (near new < near old) (new ≡ old)
 -- the places of the items and of the end
 pub record ArePlaces (items : List AsmItem) (far : List Bool) (places : List ℕ) : Type 0 where
   pub room : length places ≡ length items + 1
-  pub at : (k : ℕ) → k ≤ length items → slice_index places k ≡ place items far k
+  pub at : (k : ℕ) → k ≤ length items → slice_index places k ≡ item_place items far k
 
 -- a sweep from the front has come so far: the places up to there, and the branches before it
 pub record SweptBack (items : List AsmItem) (far : List Bool) (places : List ℕ) (i : ℕ) : Type 0 where
   pub one_each : length far ≡ length items
   pub room : length places ≡ length items + 1
-  pub at : (k : ℕ) → k ≤ i → slice_index places k ≡ place items far k
+  pub at : (k : ℕ) → k ≤ i → slice_index places k ≡ item_place items far k
   pub reach : (k : ℕ) → k < i → BackReachesAt items far k
 
 -- a sweep from the end has come so far: what stands from there on, and the branches behind it

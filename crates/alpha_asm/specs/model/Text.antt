@@ -9,7 +9,7 @@ use Rattle.alpha_isa.specs.Program.{most_bytes, most_words}
 use Rattle.alpha_items.specs.declared.item.AsmItem.{AsmItem}
 use Rattle.alpha_items.specs.Items.{IsItem, gives_word}
 use Rattle.alpha_items.specs.Assembly.{label_index}
-use Rattle.alpha_items.specs.Layout.{place, text_words, AllReach, IsLeastFar}
+use Rattle.alpha_items.specs.Layout.{item_place, text_words, AllReach, IsLeastFar}
 use Rattle.alpha_asm.specs.model.Sweeps.{AreTargets, ArePlaces, label_target, target_of}
 
 -- addresses below this one are sums of a high and a low half
@@ -45,6 +45,6 @@ pub record IsPlan (items : List AsmItem) (targets : List ℕ) (entry : ℕ) (far
   pub are_targets : AreTargets items targets
   pub entry_is : entry ≡ label_index items 0
   pub entry_inside : entry < length items
-  pub entry_word : place items far entry < text_words items far
+  pub entry_word : item_place items far entry < text_words items far
   pub least : IsLeastFar items far
   pub are_places : ArePlaces items far places

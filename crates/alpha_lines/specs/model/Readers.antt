@@ -6,7 +6,7 @@ use Rattle.alpha_isa.specs.declared.insn.OperateOp.{OperateOp}
 use Rattle.alpha_isa.specs.declared.insn.Operand.{Operand}
 use Rattle.alpha_isa.specs.declared.insn.Operand.TheVariants.{Reg, Literal}
 use Rattle.alpha_isa.specs.declared.insn.Fields.TheVariants as fields
-use Rattle.alpha_isa.specs.Lawful.{is_call}
+use Rattle.alpha_isa.specs.Lawful.{is_pal_function}
 use Rattle.alpha_isa.specs.Words.{extends}
 use Rattle.alpha_items.specs.declared.item.AsmItem.{AsmItem}
 use Rattle.alpha_items.specs.declared.item.AsmItem.TheVariants.{Label, Name, Plain, Branch, TextAddress, DataAddress}
@@ -100,7 +100,7 @@ operation_of op rest =
 
 abbrev pub call_in : Option ℕ → Option AsmItem
 call_in None = None
-call_in (Some n) = if is_call n then Some (Plain (fields.Pal n)) else None
+call_in (Some n) = if is_pal_function n then Some (Plain (fields.Pal n)) else None
 
 -- what a line with this mnemonic says, by what stands behind it
 unfoldable pub said_by : Mnemonic → List ℕ → Option AsmItem

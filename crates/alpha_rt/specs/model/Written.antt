@@ -5,7 +5,7 @@ use Rattle.alpha_isa.specs.declared.insn.OperateOp.TheVariants.{SublV, SubqV}
 use Rattle.alpha_items.specs.declared.item.AsmItem.{AsmItem}
 use Rattle.alpha_items.specs.declared.item.AsmItem.TheVariants.{Label}
 use Rattle.alpha_rt.specs.Code.{prologue, magnitudes, numbers, low_numbers, signed_quotient, signed_remainder, plain_remainder, long_quotient, long_remainder}
-use Rattle.alpha_rt.specs.Items.{plain, test_items, operand_items, answer_items, refusal_items, preparation_items, place_items, turn_items, epilogue_items}
+use Rattle.alpha_rt.specs.Items.{plain_items, test_items, operand_items, answer_items, refusal_items, preparation_items, place_items, turn_items, epilogue_items}
 
 -- the items of a part behind others
 unfoldable pub behind : List AsmItem → List AsmItem → List AsmItem
@@ -13,13 +13,15 @@ behind items part = items ++ part
 
 unfoldable pub signed_behind : List AsmItem → ℕ → OperateOp → ℕ → List AsmItem
 signed_behind items entry negation past =
-    behind (behind (behind items (test_items entry negation past)) (plain prologue)) (operand_items magnitudes)
+    behind (behind (behind items (test_items entry negation past)) (plain_items prologue)) (operand_items magnitudes)
 
 unfoldable pub unsigned_behind : List AsmItem → ℕ → List AsmItem
-unsigned_behind items entry = behind (behind (behind items (Label entry ∷ [])) (plain prologue)) (operand_items numbers)
+unsigned_behind items entry = behind (behind (behind items (Label entry ∷ [])) (plain_items prologue))
+    (operand_items numbers)
 
 unfoldable pub long_behind : List AsmItem → ℕ → List AsmItem
-long_behind items entry = behind (behind (behind items (Label entry ∷ [])) (plain prologue)) (operand_items low_numbers)
+long_behind items entry = behind (behind (behind items (Label entry ∷ [])) (plain_items prologue))
+    (operand_items low_numbers)
 
 unfoldable pub quads_behind : List AsmItem → List AsmItem
 quads_behind items =

@@ -3,7 +3,7 @@ use Rattle.std.specs.Prelude.{◌≡◌, ℕ, ◌≤◌, List, length, map, Bool
 use Rattle.alpha_isa.specs.Words.{insn_of}
 use Rattle.alpha_isa.specs.Program.{Program, most_words, data_start, stack_start}
 use Rattle.alpha_isa.specs.State.{State, with_register}
-use Rattle.alpha_isa.specs.Step.{MachineNext, Goes, Over, Trap, stuck, next_instruction}
+use Rattle.alpha_isa.specs.Step.{MachineNext, Goes, Over, Trap, stuck_at, next_instruction}
 use Rattle.alpha_run.specs.model.MemoryParts.{IsLaidAs}
 use Rattle.alpha_run.specs.declared.processor.Processor.{Processor}
 
@@ -36,7 +36,7 @@ pub record KeepsText (old new : Processor) : Type 0 where
 -- a step that went on, or could not be done
 abbrev pub next_if_done : Bool → State → MachineNext
 next_if_done true s = Goes s
-next_if_done false s = stuck s
+next_if_done false s = stuck_at s
 
 -- an operation that went on, or whose result does not fit, which has the code 3
 abbrev pub next_if_fits : Bool → State → MachineNext
@@ -46,9 +46,9 @@ next_if_fits false s = Over (Trap 3) s
 -- a register gets a word that was loaded, if it was
 abbrev pub next_with_word : ℕ → Option ℕ → State → MachineNext
 next_with_word ra (Some word) s = next_instruction (with_register ra word s)
-next_with_word ra None s = stuck s
+next_with_word ra None s = stuck_at s
 
 -- the machine goes on after a store that was done
 abbrev pub advanced_if : Bool → State → MachineNext
 advanced_if true s = next_instruction s
-advanced_if false s = stuck s
+advanced_if false s = stuck_at s

@@ -5,7 +5,7 @@ use Rattle.alpha_isa.specs.State.{State, register, with_register}
 use Rattle.alpha_isa.specs.Step.{MachineNext, Over, next_instruction, pal_step, input_word, input_rest}
 use Rattle.alpha_isa.specs.Step as step
 use Rattle.alpha_run.specs.Ending.{halt_is}
-use Rattle.alpha_run.specs.Services.{asks}
+use Rattle.alpha_run.specs.Services.{asks_service}
 use Rattle.alpha_run.specs.declared.processor.Turn.{Turn}
 use Rattle.alpha_run.specs.declared.processor.Turn.TheVariants as turn
 
@@ -32,11 +32,12 @@ Calls function s turn.Takes =
 -- what a step does from s, where t is the state in which the processor then stands. A step that waits for
 -- the outside is not done yet
 abbrev pub Steps : Program → Turn → State → State → Type 0
-Steps p turn.Goes s t = (step.step p s ≡ step.Goes t) × IsFalse (asks p 3 s)
-Steps p (turn.Over h) s t = (step.step p s ≡ Over (halt_is h) t) × IsFalse (asks p 3 s)
+Steps p turn.Goes s t = (step.step p s ≡ step.Goes t) × IsFalse (asks_service p 3 s)
+Steps p (turn.Over h) s t = (step.step p s ≡ Over (halt_is h) t) × IsFalse (asks_service p 3 s)
 Steps p (turn.Puts byte) s t =
-    (step.step p s ≡ next_instruction (with_put byte s)) × IsFalse (asks p 3 s) × IsTrue (asks p 2 s) × (t ≡ s)
-Steps p turn.Takes s t = (step.step p s ≡ next_instruction (with_taken s)) × IsTrue (asks p 3 s) × (t ≡ s)
+    (step.step p s ≡ next_instruction (with_put byte s)) × IsFalse (asks_service p 3 s) × IsTrue (asks_service p 2 s)
+    × (t ≡ s)
+Steps p turn.Takes s t = (step.step p s ≡ next_instruction (with_taken s)) × IsTrue (asks_service p 3 s) × (t ≡ s)
 
 -- a turn that waits for the outside
 abbrev pub waits : Turn → Bool

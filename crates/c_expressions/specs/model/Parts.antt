@@ -5,13 +5,14 @@ use Rattle.c_tree.specs.declared.types.Parameter.{Parameter}
 use Rattle.c_typed_tree.specs.declared.types.CType.{CType}
 use Rattle.c_checks.specs.Checks.{and_then, each}
 use Rattle.c_judgements.specs.Leaves.{leaf}
-use Rattle.c_judgements.specs.Types.{JudgementState, within, given_length, parameter_declared}
+use Rattle.c_judgements.specs.Types.{JudgementState, in_env, given_length, parameter_declared}
 use Rattle.c_expressions.specs.Expressions.{judge, derive}
 
 abbrev pub one_parameter : Parameter → JudgementState → Option CType × JudgementState
 one_parameter p s =
-    and_then (within s.0 (leaf s.0 p.at p.ty s.1)) (λ of u. and_then (derive p.at p.ty of u) (λ r. parameter_declared p.at p.name r))
+    and_then (in_env s.0 (leaf s.0 p.at p.ty s.1))
+    (λ of u. and_then (derive p.at p.ty of u) (λ r. parameter_declared p.at p.name r))
 
 abbrev pub optional_length : Option e.Expr → JudgementState → Option (Option ℕ) × JudgementState
 optional_length None s = (Some None, s)
-optional_length (Some x) s = and_then (judge x s) (λ a u. within u.0 (each a given_length u.1))
+optional_length (Some x) s = and_then (judge x s) (λ a u. in_env u.0 (each a given_length u.1))

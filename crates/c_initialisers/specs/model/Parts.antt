@@ -7,7 +7,7 @@ use Rattle.c_checks.specs.Checks.{and_then}
 use Rattle.c_judgements.specs.Types.{JudgementState}
 use Rattle.c_initialisers.specs.declared.lists.InitialiserItems.{InitialiserItems}
 use Rattle.c_initialisers.specs.Unfit.{judge_init, is_whole_with}
-use Rattle.c_initialisers.specs.Values.{FillingState, beside}
+use Rattle.c_initialisers.specs.Values.{FillingState, cells_beside}
 use Rattle.c_initialisers.specs.Initialisers.{initialise, if_part, counted_by, with_item, with_surplus}
 
 abbrev pub judge_inits : List Init → (whole : Bool) → JudgementState → Bool × JudgementState
@@ -16,7 +16,7 @@ judge_inits (x ∷ xs) whole s = and_then (judge_init x s) (λ place. judge_init
 
 abbrev pub one_item : Init → CType → (place k : ℕ) → InitialiserItems → FillingState → InitialiserItems × FillingState
 one_item x ty place k found s =
-    if_part (part_of s.1.1.structs ty k) (counted_by with_surplus found (beside s.0 (judge_init x s.1)))
+    if_part (part_of s.1.1.structs ty k) (counted_by with_surplus found (cells_beside s.0 (judge_init x s.1)))
     (λ p. counted_by with_item found (initialise x p.ty (place + p.place) s))
 
 abbrev pub items_from : List Init → CType → (place k : ℕ) → InitialiserItems → FillingState →

@@ -6,7 +6,7 @@ use Rattle.c_lexer.specs.declared.token.TokenKind.TheVariants as k
 use Rattle.c_lexer.specs.declared.piece.Piece.{Piece}
 use Rattle.c_lexer.specs.declared.piece.Piece.TheVariants as p
 use Rattle.c_lexer.specs.declared.piece.Cut.{Cut}
-use Rattle.c_lexer.specs.Bytes.{is_blank, is_digit, is_letter, is_word, is_run, is_inner}
+use Rattle.c_lexer.specs.Bytes.{is_blank, is_digit, is_letter, is_word_byte, is_run, is_inner}
 use Rattle.c_lexer.specs.Marks.{mark1, mark2, mark3}
 use Rattle.c_lexer.specs.Words.{kind_of_word}
 use Rattle.c_lexer.specs.Numbers.{is_number}
@@ -37,7 +37,7 @@ mark_at (a ∷ b ∷ []) = two_byte_mark a b
 mark_at (a ∷ b ∷ c ∷ s) = three_byte_mark a b c
 
 unfoldable pub word_at : List ℕ → Option Cut
-word_at s = let n = prefix_len is_word s in Some (record { piece = p.Token (kind_of_word (take n s)); len = n })
+word_at s = let n = prefix_len is_word_byte s in Some (record { piece = p.Token (kind_of_word (take n s)); len = n })
 
 unfoldable pub number_at : List ℕ → Option Cut
 number_at s = let n = prefix_len is_run s in

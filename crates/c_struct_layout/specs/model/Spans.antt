@@ -5,11 +5,12 @@ use Rattle.c_typed_tree.specs.declared.types.StructDef.{StructDef}
 use Rattle.c_struct_layout.specs.declared.fields.Field.{Field}
 use Rattle.c_struct_layout.specs.declared.places.Span.{Span}
 use Rattle.c_struct_layout.specs.declared.fields.Placement.{Placement}
-use Rattle.c_struct_layout.specs.StructLayout.{place_of, end_of, members_from, end_behind}
+use Rattle.c_struct_layout.specs.StructLayout.{offset_after, end_after, members_from, end_behind}
 
 abbrev pub span : List StructDef → (end : ℕ) → Field → Option Span
 span ds end f =
-    if nat_le (end_of ds end f) MOST_DATA then Some (record { from = place_of ds end f; to = end_of ds end f })
+    if nat_le (end_after ds end f) MOST_DATA then Some
+    (record { from = offset_after ds end f; to = end_after ds end f })
     else None
 
 abbrev pub placement_of_fields : List StructDef → List Field → Option Placement

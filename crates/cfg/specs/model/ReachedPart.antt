@@ -22,4 +22,5 @@ pub record IsReachedPart {I : Type 0} (reads writes targets : I → List ℕ) (w
   pub fewer_blocks : length after ≤ length before
   pub fewer_insns : count_of after ≤ count_of before
   pub measures : NoMeasureGrows targets with_target before after
-  pub fewer_edges : edge_count (successors_from targets flows_on 0 after) ≤ edge_count (successors_from targets flows_on 0 before)
+  pub fewer_edges : edge_count (successors_from targets flows_on 0 after)
+      ≤ edge_count (successors_from targets flows_on 0 before)

@@ -23,7 +23,7 @@ use Rattle.program_passes.specs.Prepared.{ArePrepared}
 use Rattle.alloc_model.specs.declared.allocation.Allocation.{Allocation}
 use Rattle.plain_programs.specs.Allocations.{AreAllocationsOf}
 use Rattle.program_rooms.specs.AllocationLaws.{HasFrame}
-use Rattle.program_rooms.specs.Assemblies.{gathered}
+use Rattle.program_rooms.specs.Assemblies.{whole_assembly}
 use Rattle.program_rooms.specs.Layouts.{end_label, FitsProgram, FunctionsAreLaidOut}
 use Rattle.program_rooms.specs.Programs.{IsAllocated, HasItemsOf, Placing, plans_of}
 use Rattle.compile_options.specs.declared.Allocator.{Allocator}
@@ -82,7 +82,7 @@ CodeCanBeAssembled =
 pub record IsAssemblyOf (temps : TempProgram) (allocations : List Allocation) (asm : Assembly) : Type 0 where
   pub finals : List FinalFn
   pub laid_out : FunctionsAreLaidOut temps.globals allocations finals
-  pub is_gathered : asm ≡ gathered finals temps.globals
+  pub is_gathered : asm ≡ whole_assembly finals temps.globals
   pub whole : IsWhole asm
 
 -- what is known of the code and the assembly of a unit

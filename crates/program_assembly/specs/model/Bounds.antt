@@ -5,7 +5,7 @@ use Rattle.data_object.specs.declared.DataCell.{DataCell}
 use Rattle.data_object.specs.declared.DataCell.TheVariants.{Byte, AddressPart}
 use Rattle.data_object.specs.declared.TheConstants.{MOST_DATA}
 use Rattle.data_object.specs.Layout.{place_after}
-use Rattle.flat_globals.specs.Globals.{offset_of}
+use Rattle.flat_globals.specs.Globals.{global_offset}
 
 -- objects lie one behind the other from an end on, none of them past the end of the most data
 abbrev pub LieWithin : (end : ℕ) → List DataObject → Type 0
@@ -15,7 +15,7 @@ LieWithin end (o ∷ os) = (o.offset ≡ place_after end) × LieWithin (o.offset
 -- the address that a cell is part of lies within the most data
 abbrev pub ReachesWithin : List DataObject → DataCell → Type 0
 ReachesWithin globals (Byte b) = Unit {0}
-ReachesWithin globals (AddressPart global plus part) = offset_of (slice_get globals global) + plus ≤ MOST_DATA
+ReachesWithin globals (AddressPart global plus part) = global_offset (slice_get globals global) + plus ≤ MOST_DATA
 
 -- so do the cells of an object, and the addresses in them
 pub record FitsFixes (globals : List DataObject) (o : DataObject) : Type 0 where

@@ -4,7 +4,7 @@ use Rattle.bk_memory.specs.Shortage.{MemoryIsShort}
 use Rattle.mem_model.specs.declared.value.Value.{Value}
 use Rattle.mem_model.specs.Memory.{Memory}
 use Rattle.mem_model.specs.World.{World, Rooms, room_of, meter_of}
-use Rattle.machine_model.specs.Machine.{Config, Over, exec, start}
+use Rattle.machine_model.specs.Machine.{Config, Over, exec, start_config}
 use Rattle.vm_meaning.specs.Behave.{Registers, vm_code}
 use Rattle.suifvm_run.specs.declared.machine.Machine.{Machine}
 use Rattle.suifvm_run.specs.declared.machine.Stop.{Stop}
@@ -17,7 +17,7 @@ use Rattle.suifvm_run.specs.model.Tables.{functions_of}
 -- the start of a function without arguments
 abbrev pub start_at : Rooms → ProgramTable → (main : ℕ) → Memory → (turns : ℕ) → (input : List ℕ) → Config Registers
 start_at rooms p main memory turns input =
-    start Value Registers rooms (vm_code (functions_of p)) main (record {
+    start_config Value Registers rooms (vm_code (functions_of p)) main (record {
       outer = record { memory = memory; input = input; takings = 0; output = [] };
       meter = meter_of turns;
     })

@@ -153,7 +153,8 @@ Comes rooms p (turn.Over s) m h next = EndsBy rooms p next s h
 Comes rooms p (turn.Puts byte) m h next = GoesTo next (λ g. config_of m (with_byte byte g)) h
 Comes rooms p (turn.Takes destination) m h next =
     GoesTo next
-    (λ g. wrote (named_register destination) (Word (input_word (slice_get g.input 0)) ∷ []) (config_of m (with_taken g))) h
+    (λ g. wrote (named_register destination) (Word (input_word (slice_get g.input 0)) ∷ [])
+    (config_of m (with_taken g))) h
 Comes rooms p turn.NoMemory m h next = MemoryIsShort
 
 -- what an instruction does where the machine stands, by what is done with its values

@@ -5,7 +5,7 @@ use Rattle.alpha_isa.specs.ImageFormat.{IsImage}
 use Rattle.alpha_image.specs.declared.read.ImageFault.{ImageFault}
 use Rattle.alpha_image.specs.declared.read.ImageFault.TheVariants.{NoMemory}
 use Rattle.alpha_image.specs.ReadImage.{IsImageFault}
-use Rattle.alpha_image.specs.ImageFault.{length_fault, image_fault, first_of}
+use Rattle.alpha_image.specs.ImageFault.{length_fault, image_fault, first_place}
 use Rattle.alpha_image.proofs.ImageFaults.{found, was_read, image_fault-length}
 use Rattle.alpha_image.proofs.read.read_image.Goals as goal
 
@@ -15,7 +15,7 @@ short_fault bytes f none told = subst (λ f. IsImageFault f bytes) (sym told.0) 
 
 pub returns-in-Err-clause-bad : goal.returns-in-Err-clause-bad
 unfolding image_fault
-returns-in-Err-clause-bad c = ap (λ fault. first_of fault (length_fault c.args.bytes.now)) c.in-Err.ensures.fault
+returns-in-Err-clause-bad c = ap (λ fault. first_place fault (length_fault c.args.bytes.now)) c.in-Err.ensures.fault
 
 pub returns-in-Some-clause-bad : goal.returns-in-Some-clause-bad
 returns-in-Some-clause-bad c =

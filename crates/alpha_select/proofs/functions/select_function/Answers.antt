@@ -1,9 +1,9 @@
 use Rattle.std.proofs.Common.{◌≡◌, map, sym, ap, ◌∙◌, subst}
 use Rattle.suifvm_ir.specs.Functions.{AllInsns}
 use Rattle.selection_code.specs.Fields.{HasNumbers}
-use Rattle.selection_code.specs.Functions.{function_blocks}
+use Rattle.selection_code.specs.Functions.{selected_blocks}
 use Rattle.suifvm_ir.specs.Programs.{VmFunction}
-use Rattle.value_tests.specs.Tests.{tested}
+use Rattle.value_tests.specs.Tests.{tested_block}
 use Rattle.value_tests.proofs.Functions.{tested_function}
 use Rattle.selection_shapes.proofs.Shaped.{blocks_shaped}
 use Rattle.selection_shapes.proofs.Registers.{registers_used}
@@ -20,7 +20,7 @@ invariant_of-result c =
     let f = c.args.f.now in
     let with_tests : VmFunction = tested_function f in
     let small : IsWithinLimits with_tests = within_limits f c.requires in
-    let same : c.in_ok-blocks.blocks ≡ function_blocks f.params (map tested f.blocks) = c.in_ok-blocks.ensures.put ∙ ap (λ bs. function_blocks f.params (map tested bs)) c.as_slice-2.ensures in
+    let same : c.in_ok-blocks.blocks ≡ selected_blocks f.params (map tested_block f.blocks) = c.in_ok-blocks.ensures.put ∙ ap (λ bs. selected_blocks f.params (map tested_block bs)) c.as_slice-2.ensures in
     let shaped = blocks_shaped with_tests in
     rw same (record {
       targets = shaped.targets;

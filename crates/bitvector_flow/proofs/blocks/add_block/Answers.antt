@@ -2,7 +2,7 @@ use Rattle.std.proofs.Common.{◌≡◌, ◌&&◌, ◌||◌, not, rules, refl, s
 use Rattle.bk_ilist.specs.Listing.{items}
 use Rattle.bk_bits.specs.Sets.{has}
 use Rattle.suifvm_ir.specs.Functions.{UsesRegisters}
-use Rattle.bitvector_flow.specs.Lives.{reads_first, write, HasFewRegisters}
+use Rattle.bitvector_flow.specs.Lives.{reads_first, some_writes, HasFewRegisters}
 use Rattle.bitvector_flow.proofs.Registers.{insn_reads, insn_writes, first_left, others_left, same_bound}
 use Rattle.bitvector_flow.proofs.blocks.add_block.Goals as goal
 
@@ -15,7 +15,7 @@ loop-line-init g c =
       inside = subst (All (UsesRegisters g.I.Insn.reads g.I.Insn.writes (length c.args.reads.now))) (sym whole) c.requires.inside;
       few = subst (All (HasFewRegisters g.I.Insn.reads g.I.Insn.writes)) (sym whole) c.requires.few;
       reads = λ k. ap (λ xs. has c.args.reads.now k || (not (has c.args.writes.now k) && reads_first g.I.Insn.reads g.I.Insn.writes xs k)) whole;
-      writes = λ k. ap (λ xs. has c.args.writes.now k || write g.I.Insn.writes xs k) whole;
+      writes = λ k. ap (λ xs. has c.args.writes.now k || some_writes g.I.Insn.writes xs k) whole;
     }
 
 pub add_reads-requires-clause-inside : goal.add_reads-requires-clause-inside

@@ -3,7 +3,7 @@ use Rattle.std.proofs.Common.{◌≡◌, ℕ, ◌&&◌, ◌||◌, not, length, A
 use Rattle.suifvm_ir.specs.Functions.{UsesRegisters}
 use Rattle.bk_bits.specs.Sets.{has}
 use Rattle.bk_ilist.specs.Listing.{items}
-use Rattle.bitvector_flow.specs.Lives.{reads_first, write, HasFewRegisters}
+use Rattle.bitvector_flow.specs.Lives.{reads_first, some_writes, HasFewRegisters}
 use Rattle.bitvector_flow.proofs.blocks.add_block.Given as goal
 
 abbrev pub invariant-loop-line : goal.invariant-loop-line
@@ -14,5 +14,5 @@ invariant-loop-line g l = record {
   few : All (HasFewRegisters g.I.Insn.reads g.I.Insn.writes) (items l.line-iterator);
   reads : (k : ℕ) → (has l.reads k || (not (has l.writes k) && reads_first g.I.Insn.reads g.I.Insn.writes (items l.line-iterator) k))
       ≡ (has l.initial.reads k || (not (has l.initial.writes k) && reads_first g.I.Insn.reads g.I.Insn.writes l.block k));
-  writes : (k : ℕ) → (has l.writes k || write g.I.Insn.writes (items l.line-iterator) k) ≡ (has l.initial.writes k || write g.I.Insn.writes l.block k);
+  writes : (k : ℕ) → (has l.writes k || some_writes g.I.Insn.writes (items l.line-iterator) k) ≡ (has l.initial.writes k || some_writes g.I.Insn.writes l.block k);
 }

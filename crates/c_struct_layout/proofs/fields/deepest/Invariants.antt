@@ -6,5 +6,5 @@ use Rattle.c_struct_layout.proofs.fields.deepest.Given as goal
 abbrev pub invariant-loop-field : goal.invariant-loop-field
 invariant-loop-field l = record {
   bound : l.most ≤ most_depth;
-  so_far : spec.deepest l.structs l.fields ≡ max l.most (spec.deepest l.structs (drop l.field-index l.fields));
+  so_far : spec.deepest_member l.structs l.fields ≡ max l.most (spec.deepest_member l.structs (drop l.field-index l.fields));
 }

@@ -1,5 +1,5 @@
 use Rattle.std.proofs.Common.{sym, ap, ◌∙◌}
-use Rattle.c_tree.specs.Nodes.{stmt_node, expr_node, nodes_of, part_of_for, first_nodes, more, both, append_nodes}
+use Rattle.c_tree.specs.Nodes.{stmt_node, expr_node, nodes_of, part_of_for, first_nodes, more, two_nodes, append_nodes}
 use Rattle.c_tree.specs.model.Parts.{section_node, children_of}
 use Rattle.c_tree.specs.model.Open.{opens}
 use Rattle.c_tree.proofs.Rows.{stmt_row-hidden, section_row-hidden}
@@ -39,6 +39,6 @@ pub are_parts_within-returns-then-is_head_within : goal.are_parts_within-returns
 unfolding opens
 are_parts_within-returns-then-is_head_within t c =
     last-is _ (first_nodes c.deref-in-For.result.now) (part_of_for c.in-For.condition) (part_of_for c.in-For.step) (stmt_node c.deref-then-is_head_within.result.now) _ _
-    (ap (λ s. append_nodes (first_nodes c.deref-in-For.result.now) (more (part_of_for c.in-For.condition) (both (part_of_for c.in-For.step) (stmt_node s)))) c.deref-then-is_head_within.ensures
-    ∙ ap (λ f. append_nodes (first_nodes f) (more (part_of_for c.in-For.condition) (both (part_of_for c.in-For.step) (stmt_node c.in-For.body)))) c.deref-in-For.ensures ∙ sym (ap (λ e. children_of (stmt_node e)) c.in-For.is))
+    (ap (λ s. append_nodes (first_nodes c.deref-in-For.result.now) (more (part_of_for c.in-For.condition) (two_nodes (part_of_for c.in-For.step) (stmt_node s)))) c.deref-then-is_head_within.ensures
+    ∙ ap (λ f. append_nodes (first_nodes f) (more (part_of_for c.in-For.condition) (two_nodes (part_of_for c.in-For.step) (stmt_node c.in-For.body)))) c.deref-in-For.ensures ∙ sym (ap (λ e. children_of (stmt_node e)) c.in-For.is))
     (c.is_head_within.ensures.0 c.if-is_head_within.true) c.is_stmt_within-then-is_head_within.ensures

@@ -1,6 +1,6 @@
 -- What each form puts, from what its calls put.
 use Rattle.std.proofs.Common.{sym, ap, ◌∙◌, refl}
-use Rattle.c_tree.specs.Nodes.{both, more, nodes_of, expr_node, stmt_node, part_of_for, first_nodes, append_nodes}
+use Rattle.c_tree.specs.Nodes.{two_nodes, more, nodes_of, expr_node, stmt_node, part_of_for, first_nodes, append_nodes}
 use Rattle.c_tree.specs.model.Parts.{section_node, children_of, else_nodes}
 use Rattle.c_tree.specs.model.Open.{opens}
 use Rattle.c_tree.proofs.Rows.{stmt_row-hidden, section_row-hidden, if-children}
@@ -21,7 +21,7 @@ put_parts-returns-in_ok-put_stmt-in-If t c =
 pub put_parts-returns-in_ok-put_expr-in-While : goal.put_parts-returns-in_ok-put_expr-in-While
 unfolding opens
 put_parts-returns-in_ok-put_expr-in-While t c =
-    two _ _ _ _ _ _ _ _ (ap (λ s. both (expr_node c.deref-in-While.result.now) (stmt_node s)) c.deref-in-While-2.ensures ∙ ap (λ e. both (expr_node e) (stmt_node c.in-While.body)) c.deref-in-While.ensures ∙ sym (ap (λ e. children_of (stmt_node e)) c.in-While.is)) c.in_ok-put_expr-in-While.ensures c.put_stmt-in-While.ensures
+    two _ _ _ _ _ _ _ _ (ap (λ s. two_nodes (expr_node c.deref-in-While.result.now) (stmt_node s)) c.deref-in-While-2.ensures ∙ ap (λ e. two_nodes (expr_node e) (stmt_node c.in-While.body)) c.deref-in-While.ensures ∙ sym (ap (λ e. children_of (stmt_node e)) c.in-While.is)) c.in_ok-put_expr-in-While.ensures c.put_stmt-in-While.ensures
 
 pub put_parts-returns-in_ok-put_expr-in-Switch : goal.put_parts-returns-in_ok-put_expr-in-Switch
 unfolding opens
@@ -33,8 +33,8 @@ pub put_parts-returns-in_ok-put_part_of_for-in-For-2 : goal.put_parts-returns-in
 unfolding opens
 put_parts-returns-in_ok-put_part_of_for-in-For-2 t c =
     four _ _ _ _ _ _ _ (first_nodes c.deref-in-For.result.now) (part_of_for c.in-For.condition) (part_of_for c.in-For.step) _ _
-    (ap (λ s. append_nodes (first_nodes c.deref-in-For.result.now) (more (part_of_for c.in-For.condition) (both (part_of_for c.in-For.step) (stmt_node s)))) c.deref-in-For-2.ensures
-    ∙ ap (λ f. append_nodes (first_nodes f) (more (part_of_for c.in-For.condition) (both (part_of_for c.in-For.step) (stmt_node c.in-For.body)))) c.deref-in-For.ensures ∙ sym (ap (λ e. children_of (stmt_node e)) c.in-For.is)) c.in_ok-put_first-in-For.ensures c.in_ok-put_part_of_for-in-For.ensures c.in_ok-put_part_of_for-in-For-2.ensures c.put_stmt-in-For.ensures
+    (ap (λ s. append_nodes (first_nodes c.deref-in-For.result.now) (more (part_of_for c.in-For.condition) (two_nodes (part_of_for c.in-For.step) (stmt_node s)))) c.deref-in-For-2.ensures
+    ∙ ap (λ f. append_nodes (first_nodes f) (more (part_of_for c.in-For.condition) (two_nodes (part_of_for c.in-For.step) (stmt_node c.in-For.body)))) c.deref-in-For.ensures ∙ sym (ap (λ e. children_of (stmt_node e)) c.in-For.is)) c.in_ok-put_first-in-For.ensures c.in_ok-put_part_of_for-in-For.ensures c.in_ok-put_part_of_for-in-For-2.ensures c.put_stmt-in-For.ensures
 
 pub put_stmts-loop-stmt-preserved : goal.put_stmts-loop-stmt-preserved
 unfolding opens

@@ -3,4 +3,4 @@ use Rattle.c_type_faults.specs.Faults as spec
 use Rattle.c_type_faults.proofs.order.least.Given as goal
 
 abbrev pub invariant-loop-fault : goal.invariant-loop-fault
-invariant-loop-fault l = l.found ≡ spec.head (spec.sorted (take l.fault-index l.faults))
+invariant-loop-fault l = l.found ≡ spec.head (spec.sort_faults (take l.fault-index l.faults))

@@ -7,7 +7,7 @@ use Rattle.kept_allocations.proofs.allocations.kept_over_call.Goals as goal
 
 pub returns-clause-plan : goal.returns-clause-plan
 returns-clause-plan c =
-    plan_is c.args.register c.args.value c.args.callee _ _ _ _ _ _ _ _ _ c.in_ok-function.ensures.params c.in_ok-function.ensures.temps c.in_ok-function.ensures.objects (c.in_ok-function.ensures.blocks ∙ ap (λ v. spec.keeping v c.args.callee ∷ []) (to_z-of_z w16 c.args.value c.ranges.value))
+    plan_is c.args.register c.args.value c.args.callee _ _ _ _ _ _ _ _ _ c.in_ok-function.ensures.params c.in_ok-function.ensures.temps c.in_ok-function.ensures.objects (c.in_ok-function.ensures.blocks ∙ ap (λ v. spec.kept_sum v c.args.callee ∷ []) (to_z-of_z w16 c.args.value c.ranges.value))
     c.in_ok-top.ensures c.in_ok-bottom.ensures c.in_ok-at.ensures (c.in_ok-regs.ensures ∙ ap spec.stated_registers c.number.ensures) c.new.ensures
 
 pub returns-clause-faithful : goal.returns-clause-faithful
