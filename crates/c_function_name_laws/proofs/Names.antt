@@ -71,20 +71,20 @@ array_same : (ds : Definitions) (at : ℕ) (name : List ℕ) (storage : Option S
 array_same ds at name storage None element w = let r = in_notes w (no_object_type at w.1.1) in object_same ds at name storage None r.0 r.1
 array_same ds at name storage (Some v) element w = let r = in_notes w (array_type at element (length_given element v) w.1.1) in object_same ds at name storage (Some v) r.0 r.1
 
-declared_same : (ds : Definitions) (at : ℕ) (name : List ℕ) (storage : Option Storage) (has_body : Bool) (o : Option DeclaredType) (w : UnitWalk) → (function_by_type ds at name storage has_body o w).0.functions ≡ w.0.functions
+pub declared_same : (ds : Definitions) (at : ℕ) (name : List ℕ) (storage : Option Storage) (has_body : Bool) (o : Option DeclaredType) (w : UnitWalk) → (function_by_type ds at name storage has_body o w).0.functions ≡ w.0.functions
 declared_same ds at name storage has_body None w = refl
 declared_same ds at name storage has_body (Some ty) w = refl
 
-prototype_same : (ds : Definitions) (at : ℕ) (name : List ℕ) (storage : Option Storage) (ty : DeclaredType) (w : UnitWalk) → (prototype ds at name storage ty w).0.functions ≡ w.0.functions
+pub prototype_same : (ds : Definitions) (at : ℕ) (name : List ℕ) (storage : Option Storage) (ty : DeclaredType) (w : UnitWalk) → (prototype ds at name storage ty w).0.functions ≡ w.0.functions
 prototype_same ds at name storage ty w = let r = in_notes w (function_type at ty w.1.1) in declared_same ds at name storage false r.0 r.1
 
-typed_same : (ds : Definitions) (at : ℕ) (name : List ℕ) (storage : Option Storage) (init : Option Init) (o : Option DeclaredType) (w : UnitWalk) → (object_with ds at name storage init o w).0.functions ≡ w.0.functions
+pub typed_same : (ds : Definitions) (at : ℕ) (name : List ℕ) (storage : Option Storage) (init : Option Init) (o : Option DeclaredType) (w : UnitWalk) → (object_with ds at name storage init o w).0.functions ≡ w.0.functions
 typed_same ds at name storage init None w = refl
 typed_same ds at name storage init (Some (d.Value ty)) w = let r = in_notes w (object_type at ty w.1.1) in object_same ds at name storage init r.0 r.1
 typed_same ds at name storage init (Some (d.Unsized element)) w = array_same ds at name storage init element w
 typed_same ds at name storage init (Some (d.Function of parameters)) w = prototype_same ds at name storage (d.Function of parameters) w
 
-main_same : (name : List ℕ) (o : Option DeclaredType) (u : UnitSoFar) → (main_with name o u).functions ≡ u.functions
+pub main_same : (name : List ℕ) (o : Option DeclaredType) (u : UnitSoFar) → (main_with name o u).functions ≡ u.functions
 main_same name None u = refl
 main_same name (Some ty) u = refl
 
