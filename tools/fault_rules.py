@@ -32,7 +32,7 @@ RULES = {
             ("an identifier is called, and no declaration of it is in scope (C99 has no implicit declarations)",
              NAME, "6.5.1 p2, 6.5.2.2 p1", ["c_judgements::call_by_meaning"]),
             ("a name stands for a type, and no declaration of it is in scope; the parser takes a name for a type's "
-             "only behind its `typedef`", DECLARED, "6.7.2, 6.7.7", ["c_judgements::named_type"]),
+             "only behind its `typedef`", DECLARED, "6.7.2, 6.7.7", ["c_judgements::typedef_type"]),
         ],
     ),
     "Redeclared": (
@@ -78,18 +78,18 @@ RULES = {
         "to functions, and no parameters or results of struct type.",
         [
             ("a pointer to a function, or to an array without a length", DECLARED, "6.7.5.1",
-             ["c_judgements::there"]),
+             ["c_judgements::required_type"]),
             ("an array whose element is void, a function, an incomplete struct or an array without a length; of a "
-             "length below 1; of a size above the limit", DECLARED, "6.7.5.2 p1", ["c_judgements::there"]),
+             "length below 1; of a size above the limit", DECLARED, "6.7.5.2 p1", ["c_judgements::required_type"]),
             ("a function whose result is an array, a function or a struct", DECLARED, "6.7.5.3 p1",
-             ["c_judgements::there"]),
+             ["c_judgements::required_type"]),
             ("a parameter that is void, a function or a struct, where an array has become a pointer; or whose type "
              "is deeper than the limit", "the parameter's name, or its first token", "6.7.5.3 p4, p7",
              ["c_judgements::within_depth"]),
             ("a type name, a typedef name or a function whose type is deeper than the limit", DECLARED,
              "5.2.4.1, 6.7.6", ["c_judgements::type_named"]),
             ("a name stands for a type, and its first declaration is that of something else, so that the `typedef` of "
-             "the same name is Redeclared", DECLARED, "6.7.2 p2, 6.7.7", ["c_judgements::named_type"]),
+             "the same name is Redeclared", DECLARED, "6.7.2 p2, 6.7.7", ["c_judgements::typedef_type"]),
             ("`struct` with neither a tag nor a body that was declared at this place; the parser makes no such "
              "tree", "the word `struct`", "6.7.2.1, 6.7.2.3 p6", ["c_judgements::struct_at"]),
             ("a string literal whose array is larger than the limit", "the literal", "5.2.4.1, 6.4.5",
@@ -100,15 +100,15 @@ RULES = {
             ("a struct that is larger than the limit", "the tag, or the word `struct`", "5.2.4.1, 6.7.2.1",
              ["c_tag_bodies::too_large"]),
             ("a local that is void, a function, an incomplete struct or an array without a length, or whose type "
-             "is deeper than the limit", NAME, "6.7 p7", ["c_statement_rules::no_object"]),
+             "is deeper than the limit", NAME, "6.7 p7", ["c_statement_rules::no_object_type"]),
             ("an object at file scope of such a type; an array without a length may stand there where an "
-             "initialiser gives it one", NAME, "6.7 p7, 6.9.2", ["c_declarations::no_object"]),
+             "initialiser gives it one", NAME, "6.7 p7, 6.9.2", ["c_declarations::no_object_type"]),
             ("a body behind a declarator whose type is no function's", NAME, "6.9.1 p2",
              ["c_declarations::function_type"]),
             ("a body behind a declarator that is no function's own, but has its type from a typedef name", NAME,
              "6.9.1 p2", ["c_declarations::defined_type"]),
             ("a parameter without a name in the definition of a function", "the parameter's first token",
-             "6.9.1 p5", ["c_declarations::name_judged", "c_statement_rules::no_name"]),
+             "6.9.1 p5", ["c_declarations::name_judged", "c_statement_rules::nameless_local"]),
         ],
     ),
     "NotConstant": (
@@ -126,9 +126,9 @@ RULES = {
             ("an enumeration constant without a value stands behind the greatest value of `int`", "its name",
              "6.7.2.2 p2, p3", ["c_constant_rules::next_of"]),
             ("the expression of a `case` is no integer constant", "that expression", "6.8.4.2 p3",
-             ["c_constant_rules::label_of"]),
+             ["c_constant_rules::label_value_of"]),
             ("the value of an initialiser at file scope is no constant of these kinds", VALUE,
-             "6.6 p7, p9; 6.7.8 p4", ["c_initial_values::value_or_fault"]),
+             "6.6 p7, p9; 6.7.8 p4", ["c_initial_values::initial_or_fault"]),
         ],
     ),
     "BadOperand": (
@@ -137,7 +137,7 @@ RULES = {
         "object type.",
         [
             ("unary `+`, `-` or `~` of what is no integer", EXPRESSION, "6.5.3.3 p1", ["c_type_rules::unary_of"]),
-            ("`!` of what is no integer and no pointer", EXPRESSION, "6.5.3.3 p1", ["c_type_rules::negation"]),
+            ("`!` of what is no integer and no pointer", EXPRESSION, "6.5.3.3 p1", ["c_type_rules::not_operation"]),
             ("`&&` or `||` with an operand that is no integer and no pointer", EXPRESSION, "6.5.13 p2, 6.5.14 p2",
              ["c_type_rules::logical"]),
             ("a condition (of `if`, a loop or `?:`) that is no integer and no pointer", "the condition",
@@ -146,9 +146,10 @@ RULES = {
              "on its left, where an operand is no integer", EXPRESSION,
              "6.5.5 p2, 6.5.6 p2, p3, 6.5.10 p2, 6.5.11 p2, 6.5.12 p2", ["c_type_rules::arithmetic_of"]),
             ("`<<` or `>>` where an operand is no integer", EXPRESSION, "6.5.7 p2", ["c_type_rules::shift_of"]),
-            ("`+` of a pointer to an object and what is no integer", EXPRESSION, "6.5.6 p2", ["c_type_rules::sum"]),
+            ("`+` of a pointer to an object and what is no integer", EXPRESSION, "6.5.6 p2",
+             ["c_type_rules::addition"]),
             ("`-` of a pointer to an object and what is neither an integer nor of the same type", EXPRESSION,
-             "6.5.6 p3", ["c_type_rules::difference"]),
+             "6.5.6 p3", ["c_type_rules::subtraction"]),
             ("`<`, `>`, `<=` or `>=` where the left operand is an integer and the right one is none", EXPRESSION,
              "6.5.8 p2", ["c_type_rules::comparison_of"]),
             ("`<`, `>`, `<=` or `>=` where the left operand is no integer, and the two are no pointers of one type",
@@ -177,7 +178,7 @@ RULES = {
              ["c_place_rules::size"]),
             ("`sizeof` of the name of a function type or of an array without a length", "the word `sizeof`",
              "6.5.3.4 p1", ["c_operators::size_of_type"]),
-            ("the operand of `switch` is no integer", OPERAND, "6.8.4.2 p1", ["c_primary_rules::switched_of"]),
+            ("the operand of `switch` is no integer", OPERAND, "6.8.4.2 p1", ["c_primary_rules::switch_value"]),
             ("the name of a function stands elsewhere than called, as there are no pointers to functions here; or, "
              "in a tree that the parser does not make, a typedef name stands as an operand", NAME,
              "6.3.2.1 p4, 6.5.1 p2", ["c_judgements::name_of"]),
@@ -214,7 +215,7 @@ RULES = {
              "6.5.16.1 p1, 6.7.8 p13", ["c_type_rules::value_for_type"]),
             ("a cast that is neither to void, nor between integers, nor between pointers, nor of a null pointer "
              "constant to a pointer (casts between pointers and integers are left out here)", "the cast's bracket",
-             "6.5.4 p2", ["c_type_rules::cast"]),
+             "6.5.4 p2", ["c_type_rules::cast_ruling"]),
             ("a cast to a function type or to an array without a length", "the cast's bracket", "6.5.4 p2",
              ["c_operators::cast_to"]),
             ("an expression stands as the initialiser of a function", VALUE, "6.7.8 p3",
@@ -280,7 +281,7 @@ RULES = {
         "suffix; the longest types are `long` and `unsigned long`.",
         [
             ("no type of its list holds the value of an integer constant", "the constant",
-             "6.4.4 p2, 6.4.4.1 p5, p6", ["c_primary_rules::literal"]),
+             "6.4.4 p2, 6.4.4.1 p5, p6", ["c_primary_rules::literal_value"]),
             ("a character constant is not spelled as one; the lexer gives no such token", "the constant", "6.4.4.4",
              ["c_primary_rules::character_value"]),
         ],
@@ -296,7 +297,7 @@ RULES = {
             ("a text is longer than the array of characters, its zero at the end not counted", "the text",
              "6.7.8 p2, p14", ["c_initialisers::text_value"]),
             ("an expression stands for an array or a struct at file scope, and is no text for an array of "
-             "characters", EXPRESSION, "6.7.8 p14, p16", ["c_initialisers::value_of"]),
+             "characters", EXPRESSION, "6.7.8 p14, p16", ["c_initialisers::fill_value"]),
             ("a list stands as the initialiser of a function", "the brace", "6.7.8 p3",
              ["c_declarations::refusal_of"]),
             ("a local array has an initialiser (left out here)", "the initialiser", "6.7.8 p14, p16",
@@ -314,6 +315,6 @@ NOTED = {
                    "c_checks::with_use", "c_judgements::use_of_undefined", "c_judgements::name_of",
                    "c_judgements::call_by_meaning", "c_unit_names::undefined_name", "c_unit_names::object_name",
                    "c_unit_names::function_name", "c_unit_names::value_name"],
-    "NotAssignable": ["c_type_rules::value", "c_place_rules::led_to", "c_place_rules::place_of_member",
-                      "c_primary_rules::local", "c_primary_rules::object"],
+    "NotAssignable": ["c_type_rules::rvalue", "c_place_rules::pointed_place", "c_place_rules::place_of_member",
+                      "c_primary_rules::local", "c_primary_rules::static_object"],
 }
