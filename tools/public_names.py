@@ -1,12 +1,12 @@
 #!/usr/bin/env python3
-"""Says which names of public types, records and propositions of specs/ stand for two different things.
+"""Says which names of public definitions of specs/ stand for two different things.
 
 tools/public_names.py            prints each such name with its files
 tools/public_names.py --check    does so too, and ends with status 1 where there is one
 
 A definition is what stands from its name to the next blank line, without comments. Two equal ones are one thing.
-Definitions under specs/model/ are for proofs alone and do not count, nor do functions, which are read with their
-module.
+Functions that have one meaning over several types (`reads_of` of both kinds of instruction) may share a name: they
+stand in tools/same_meaning.txt with that meaning. Definitions under specs/model/ are for proofs alone and do not count.
 """
 
 import os
@@ -14,7 +14,7 @@ import re
 import sys
 
 TOP = os.path.dirname(os.path.dirname(os.path.abspath(__file__)))
-NAME = re.compile(r"(?:abbrev pub|pub record|pub data) ([A-Z]\w*)")
+NAME = re.compile(r"(?:(?:abbrev |unfoldable )?pub|pub record|pub data) (\w+)\b")
 
 
 def definitions(file):
@@ -24,7 +24,7 @@ def definitions(file):
             text = [line for line in part.split("\n") if not line.startswith("--")]
             for at, line in enumerate(text):
                 found = NAME.match(line)
-                if found:
+                if found and found[1] not in ("use", "mod", "record", "data"):
                     yield found[1], " ".join(" ".join(text[at:]).split())
 
 
@@ -36,15 +36,26 @@ def spec_files():
                 yield from (f"{folder}/{file}" for file in sorted(files) if file.endswith(".antt"))
 
 
+def same_meaning():
+    """The names of functions that have one meaning wherever they stand."""
+    with open(f"{TOP}/tools/same_meaning.txt", encoding="utf-8") as lines:
+        return {line.split(":")[0] for line in lines if not line.startswith("#")}
+
+
 def main():
     places = {}
     for file in spec_files():
         for name, text in definitions(file):
             places.setdefault(name, {}).setdefault(text, os.path.relpath(file, TOP))
     twice = {name: texts for name, texts in places.items() if len(texts) > 1}
-    for name, texts in sorted(twice.items()):
-        print(f"{name}: {', '.join(sorted(set(texts.values())))}")
-    return 1 if twice and "--check" in sys.argv[1:] else 0
+    shared = same_meaning()
+    wrong = sorted(twice.keys() - shared)
+    for name in wrong:
+        print(f"{name}: {', '.join(sorted(set(twice[name].values())))}")
+    idle = sorted(shared - twice.keys())
+    for name in idle:
+        print(f"{name}: stands in tools/same_meaning.txt, and has one definition")
+    return 1 if (wrong or idle) and "--check" in sys.argv[1:] else 0
 
 
 if __name__ == "__main__":
