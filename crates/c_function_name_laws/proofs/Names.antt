@@ -35,7 +35,7 @@ use Rattle.c_declarations.specs.declared.walk.UnitSoFar.{UnitSoFar}
 use Rattle.c_declarations.specs.Walk.{UnitWalk, in_notes, with_notes, declare, main_checked, next_object, object_number, add_numbered, with_unit_object, fill_numbered, keep_cells, function_at, add_function, keep_function}
 use Rattle.c_declarations.specs.Objects.{no_object_type, object_type, array_type, object_declared, init_filled, object_by_type, array_object}
 use Rattle.c_declarations.specs.Functions.{function_type, function_by_type, function_with_type}
-use Rattle.c_externals.specs.Externals.{prototype, object_with, main_with, with_main_in, with_definition, type_of_function, definition, external_function, function_typed, declarator_type, walk_external, externals}
+use Rattle.c_externals.specs.Externals.{prototype, object_with, main_with, with_main_in, with_definition, type_of_function, definition, function_typed, declarator_type, walk_external, externals}
 use Rattle.c_units.specs.Units.{unit_start, whole_unit}
 use Rattle.c_function_name_laws.specs.Laws.{passes}
 
@@ -71,20 +71,20 @@ array_same : (ds : Definitions) (at : ℕ) (name : List ℕ) (storage : Option S
 array_same ds at name storage None element w = let r = in_notes w (no_object_type at w.1.1) in object_same ds at name storage None r.0 r.1
 array_same ds at name storage (Some v) element w = let r = in_notes w (array_type at element (length_given element v) w.1.1) in object_same ds at name storage (Some v) r.0 r.1
 
-pub declared_same : (ds : Definitions) (at : ℕ) (name : List ℕ) (storage : Option Storage) (has_body : Bool) (o : Option DeclaredType) (w : UnitWalk) → (function_by_type ds at name storage has_body o w).0.functions ≡ w.0.functions
+declared_same : (ds : Definitions) (at : ℕ) (name : List ℕ) (storage : Option Storage) (has_body : Bool) (o : Option DeclaredType) (w : UnitWalk) → (function_by_type ds at name storage has_body o w).0.functions ≡ w.0.functions
 declared_same ds at name storage has_body None w = refl
 declared_same ds at name storage has_body (Some ty) w = refl
 
-pub prototype_same : (ds : Definitions) (at : ℕ) (name : List ℕ) (storage : Option Storage) (ty : DeclaredType) (w : UnitWalk) → (prototype ds at name storage ty w).0.functions ≡ w.0.functions
+prototype_same : (ds : Definitions) (at : ℕ) (name : List ℕ) (storage : Option Storage) (ty : DeclaredType) (w : UnitWalk) → (prototype ds at name storage ty w).0.functions ≡ w.0.functions
 prototype_same ds at name storage ty w = let r = in_notes w (function_type at ty w.1.1) in declared_same ds at name storage false r.0 r.1
 
-pub typed_same : (ds : Definitions) (at : ℕ) (name : List ℕ) (storage : Option Storage) (init : Option Init) (o : Option DeclaredType) (w : UnitWalk) → (object_with ds at name storage init o w).0.functions ≡ w.0.functions
+typed_same : (ds : Definitions) (at : ℕ) (name : List ℕ) (storage : Option Storage) (init : Option Init) (o : Option DeclaredType) (w : UnitWalk) → (object_with ds at name storage init o w).0.functions ≡ w.0.functions
 typed_same ds at name storage init None w = refl
 typed_same ds at name storage init (Some (d.Value ty)) w = let r = in_notes w (object_type at ty w.1.1) in object_same ds at name storage init r.0 r.1
 typed_same ds at name storage init (Some (d.Unsized element)) w = array_same ds at name storage init element w
 typed_same ds at name storage init (Some (d.Function of parameters)) w = prototype_same ds at name storage (d.Function of parameters) w
 
-pub main_same : (name : List ℕ) (o : Option DeclaredType) (u : UnitSoFar) → (main_with name o u).functions ≡ u.functions
+main_same : (name : List ℕ) (o : Option DeclaredType) (u : UnitSoFar) → (main_with name o u).functions ≡ u.functions
 main_same name None u = refl
 main_same name (Some ty) u = refl
 
@@ -102,57 +102,67 @@ made_function d of list s =
     let v = walk (statement (result_of of) no_jumps) list (Some []) p.1 in
     made_name d.name (result_of of) p.0 (length p.1.0) (with_addressed v.1.1.1.addressed v.1.0) v.0
 
--- ---- all names pass a test
+-- ---- what holds of each function that is made of a definition holds of those of a unit
 
-module _ (test : List ℕ → Bool) where
-  abbrev Named : UnitFunction → Type 0
-  Named one = IsTrue (test one.function.name)
+-- of a definition of which one thing holds, a function is made of which another holds
+abbrev pub MakesFunctions : (TypedFn → Type 0) → (External → Type 0) → Type 0
+MakesFunctions P Q =
+    (e : Declaration) (storage : Option Storage) (list : List Stmt) → Q (x.Function e storage (f.Body list)) → (of : Option FunctionType) (s : JudgementState) → IfSome (judge_function e of list s).0 P
 
-  abbrev AreNamed : List UnitFunction → Type 0
-  AreNamed fs = All Named fs
+module _ (P : TypedFn → Type 0) (Q : External → Type 0) (made_of : MakesFunctions P Q) where
+  abbrev Holds : UnitFunction → Type 0
+  Holds one = P one.function
 
-  added_named : (o : Option ℕ) (made : TypedFn) (u : UnitSoFar) → IsTrue (test made.name) → AreNamed u.functions → AreNamed (add_function o made u).functions
-  added_named None made u g h = h
-  added_named (Some number) made u g h = All-push Named u.functions (record { number = number; function = made }) h g
+  abbrev AllHold : List UnitFunction → Type 0
+  AllHold fs = All Holds fs
 
-  kept_named : (env : Env) (name : List ℕ) (o : Option TypedFn) (u : UnitSoFar) → IfSome o (λ made. made.name ≡ name) → IsTrue (test name) → AreNamed u.functions → AreNamed (keep_function env name o u).functions
-  kept_named env name None u e g h = h
-  kept_named env name (Some made) u e g h = added_named (function_at env name) made u (ap test e ∙ g) h
+  kept_hold : (env : Env) (name : List ℕ) (o : Option TypedFn) (u : UnitSoFar) → IfSome o P → AllHold u.functions → AllHold (keep_function env name o u).functions
+  kept_hold env name None u g h = h
+  kept_hold env name (Some made) u g h = added (function_at env name)
+    where
+      added : (o : Option ℕ) → AllHold (add_function o made u).functions
+      added None = h
+      added (Some number) = All-push Holds u.functions (record { number = number; function = made }) h g
 
-  definition_named : (ds : Definitions) (e : Declaration) (storage : Option Storage) (list : List Stmt) (ty : DeclaredType) (w : UnitWalk) → IsTrue (test e.name) → AreNamed w.0.functions → AreNamed (definition ds e storage list ty w).0.functions
-  definition_named ds e storage list ty w g h =
+  definition_holds : (ds : Definitions) (e : Declaration) (storage : Option Storage) (list : List Stmt) (ty : DeclaredType) (w : UnitWalk) → Q (x.Function e storage (f.Body list)) → AllHold w.0.functions → AllHold (definition ds e storage list ty w).0.functions
+  definition_holds ds e storage list ty w g h =
       let r = in_notes w (function_type e.at ty w.1.1) in
       let t = with_definition e.at e.ty (with_main_in e.name r) in
       let v = function_with_type ds e.at e.name storage true t in
       let made = judge_function e (type_of_function t.0) list v.1 in
-      kept_named made.1.0 e.name made.0 v.0 (made_function e (type_of_function t.0) list v.1) g
-      (subst AreNamed (sym (declared_same ds e.at e.name storage true t.0 t.1 ∙ main_same e.name r.0 w.0)) h)
+      kept_hold made.1.0 e.name made.0 v.0 (made_of e storage list g (type_of_function t.0) v.1)
+      (subst AllHold (sym (declared_same ds e.at e.name storage true t.0 t.1 ∙ main_same e.name r.0 w.0)) h)
 
-  function_named : (ds : Definitions) (e : Declaration) (storage : Option Storage) (end : FunctionEnd) (ty : DeclaredType) (w : UnitWalk) → IsTrue (passes test (x.Function e storage end)) → AreNamed w.0.functions → AreNamed (external_function ds e storage end ty w).0.functions
-  function_named ds e storage f.Nothing ty w g h = subst AreNamed (sym (prototype_same ds e.at e.name storage ty w)) h
-  function_named ds e storage (f.Init init) ty w g h = subst AreNamed (sym (prototype_same ds e.at e.name storage ty w)) h
-  function_named ds e storage (f.Body list) ty w g h = definition_named ds e storage list ty w g h
+  function_holds : (ds : Definitions) (e : Declaration) (storage : Option Storage) (end : FunctionEnd) (o : Option DeclaredType) (w : UnitWalk) → Q (x.Function e storage end) → AllHold w.0.functions → AllHold (function_typed ds e storage end o w).0.functions
+  function_holds ds e storage end None w g h = h
+  function_holds ds e storage f.Nothing (Some ty) w g h = subst AllHold (sym (prototype_same ds e.at e.name storage ty w)) h
+  function_holds ds e storage (f.Init init) (Some ty) w g h = subst AllHold (sym (prototype_same ds e.at e.name storage ty w)) h
+  function_holds ds e storage (f.Body list) (Some ty) w g h = definition_holds ds e storage list ty w g h
 
-  typed_named : (ds : Definitions) (e : Declaration) (storage : Option Storage) (end : FunctionEnd) (o : Option DeclaredType) (w : UnitWalk) → IsTrue (passes test (x.Function e storage end)) → AreNamed w.0.functions → AreNamed (function_typed ds e storage end o w).0.functions
-  typed_named ds e storage end None w g h = h
-  typed_named ds e storage end (Some ty) w g h = function_named ds e storage end ty w g h
+  external_holds : (ds : Definitions) (e : External) (s : UnitSoFar × TagScope) → Q e → AllHold s.0.functions → AllHold (walk_external ds e s).0.functions
+  external_holds ds (x.Typedef e) s g h = h
+  external_holds ds (x.Object e storage init) s g h =
+      let r = declarator_type e s.1 in subst AllHold (sym (typed_same ds e.at e.name storage init r.0 (s.0, r.1.1))) h
+  external_holds ds (x.Function e storage end) s g h = let r = declarator_type e s.1 in function_holds ds e storage end r.0 (s.0, r.1.1) g h
+  external_holds ds (x.Tags storage ty) s g h = h
 
-  external_named : (ds : Definitions) (e : External) (s : UnitSoFar × TagScope) → IsTrue (passes test e) → AreNamed s.0.functions → AreNamed (walk_external ds e s).0.functions
-  external_named ds (x.Typedef e) s g h = h
-  external_named ds (x.Object e storage init) s g h =
-      let r = declarator_type e s.1 in subst AreNamed (sym (typed_same ds e.at e.name storage init r.0 (s.0, r.1.1))) h
-  external_named ds (x.Function e storage end) s g h = let r = declarator_type e s.1 in typed_named ds e storage end r.0 (s.0, r.1.1) g h
-  external_named ds (x.Tags storage ty) s g h = h
+  externals_hold : (ds : Definitions) (es : List External) (s : UnitSoFar × TagScope) → All Q es → AllHold s.0.functions → AllHold (externals ds es s).0.functions
+  externals_hold ds [] s g h = h
+  externals_hold ds (e ∷ es) s g h =
+      externals_hold ds es (walk_external ds e s) (All-tail Q e es g) (external_holds ds e s (All-head Q e es g) h)
 
-  abbrev Passes : External → Type 0
-  Passes e = IsTrue (passes test e)
+  pub unit_functions : (tree : TranslationUnit) → All Q tree.externals → All Holds (whole_unit tree).0.functions
+  unit_functions tree h =
+      let ds = definitions tree.externals in
+      externals_hold ds tree.externals (unit_start ds) h (All-nil Holds)
 
-  externals_named : (ds : Definitions) (es : List External) (s : UnitSoFar × TagScope) → All Passes es → AreNamed s.0.functions → AreNamed (externals ds es s).0.functions
-  externals_named ds [] s g h = h
-  externals_named ds (e ∷ es) s g h =
-      externals_named ds es (walk_external ds e s) (All-tail Passes e es g) (external_named ds e s (All-head Passes e es g) h)
+-- ---- all names pass a test
+
+name_passes : (test : List ℕ → Bool) (name : List ℕ) (o : Option TypedFn) → IsTrue (test name) → IfSome o (λ f. f.name ≡ name) → IfSome o (λ f. IsTrue (test f.name))
+name_passes test name None g e = tt
+name_passes test name (Some made) g e = ap test e ∙ g
 
 pub unit_names : (test : List ℕ → Bool) (tree : TranslationUnit) → All (λ e. IsTrue (passes test e)) tree.externals → All (λ f. IsTrue (test f.function.name)) (whole_unit tree).0.functions
 unit_names test tree h =
-    let ds = definitions tree.externals in
-    externals_named test ds tree.externals (unit_start ds) h (All-nil (λ f. IsTrue (test f.function.name)))
+    unit_functions (λ f. IsTrue (test f.name)) (λ e. IsTrue (passes test e))
+    (λ e storage list g of s. name_passes test e.name (judge_function e of list s).0 g (made_function e of list s)) tree h
