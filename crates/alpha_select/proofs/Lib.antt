@@ -2,3 +2,4 @@ mod Lists
 mod Bounds
 mod Plain
 mod Lawful
+mod Turns

@@ -17,7 +17,7 @@ use suifvm_ir::insn::VmInsn;
 use temp_ir::insn::TempInsn;
 
 /// The selected function. It fails only where memory is short.
-fn select_function(alloc: Global, f: &Func<VmInsn>) -> Result<Func<TempInsn>, AllocError>
+pub(crate) fn select_function(alloc: Global, f: &Func<VmInsn>) -> Result<Func<TempInsn>, AllocError>
     requires { IsWithinLimits f.now }
     ensures selected { IfOk result (λ g. IsSelectedFunction f.now g) }
     ensures fields { OnOk result (AllInsns HasFields f.now.blocks) }
