@@ -1,3 +1,4 @@
 pub mod Trees
 mod Made
 mod Lawful
+mod Heights

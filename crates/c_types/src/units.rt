@@ -1,6 +1,8 @@
 //! Whole units.
 
-ghost use Rattle.std.specs.Prelude.{◌≡◌, IsTrue, is_some, IfOk, IfErr, IfSome, IfNone, Some, None, [], replicate, slice_set};
+ghost use Rattle.std.specs.Prelude.{◌≡◌, ◌*◌, ◌≤◌, IsTrue, is_some, IfOk, IfErr, IfSome, IfNone, Some, None, [], replicate, slice_set};
+ghost use Rattle.c_tree.specs.Nodes.{unit_height};
+ghost use Rattle.c_typed_height.specs.Heights.{typed_unit_height};
 ghost use Rattle.c_typed_tree.specs.Lawful.{IsLawfulUnit};
 ghost use Rattle.c_types.specs.Spellings.{HasSpellings};
 ghost use Rattle.c_types.specs.Units as spec;
@@ -134,7 +136,7 @@ fn make_unit(
 }
 
 /// The typed tree of a unit, which is lawful where the names of functions are identifiers and literals hold bytes: in
-/// the tree of a text they are.
+/// the tree of a text they are. It is at most three times as high as the tree of the unit.
 ///
 /// # Errors
 ///
@@ -143,6 +145,7 @@ fn make_unit(
 pub fn check(alloc: Global, unit: &TranslationUnit) -> Result<TypedUnit, TypeFault>
     ensures typed { IfOk result (spec.IsTyped unit.now) }
     ensures lawful { IfOk result (λ typed. HasSpellings unit.now → IsLawfulUnit typed) }
+    ensures height { IfOk result (λ typed. typed_unit_height typed ≤ 3 * unit_height unit.now) }
     ensures fault { IfErr result (spec.IsFaulty unit.now) }
 {
     let UnitState { so_far, notes, .. } = judge(alloc, unit)?;

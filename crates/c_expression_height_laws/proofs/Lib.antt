@@ -1,0 +1,4 @@
+pub mod Trees
+pub mod Rules
+pub mod Forms
+pub mod Walks

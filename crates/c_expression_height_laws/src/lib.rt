@@ -1,0 +1,6 @@
+//! Laws of the height of expressions that are judged.
+//!
+//! It has laws alone and no bodies.
+#![tactic(auto)]
+
+pub mod laws;

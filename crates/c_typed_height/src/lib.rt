@@ -1,0 +1,2 @@
+//! The height of typed trees (`specs/Heights.antt`).
+#![tactic(auto)]

@@ -1,0 +1,2 @@
+pub mod Units
+pub use Rattle.c_statement_height_laws.proofs.Parts
