@@ -58,7 +58,7 @@ pub record Congruence (R : (A : Type 0) → Run A → Run A → Type 0) : Type 1
   pub get : R Value w.get w.get
   pub object : {A : Type 0} (size k : ℕ) {run run' : Scope → Run A} (scope : Scope) → ((inner : Scope) → R A (run inner) (run' inner))
       → R A (with_local_object size k run scope) (with_local_object size k run' scope)
-  pub run_call : {A : Type 0} (rooms : Rooms) (n : ℕ) {run run' : Run A} → R A run run' → R A (within_call rooms n run) (within_call rooms n run')
+  pub call : {A : Type 0} (rooms : Rooms) (n : ℕ) {run run' : Run A} → R A run run' → R A (within_call rooms n run) (within_call rooms n run')
 
 module _ (R : (A : Type 0) → Run A → Run A → Type 0) (kept : Congruence R) where
   abbrev pub Related : {A : Type 0} → Run A → Run A → Type 0

@@ -68,7 +68,7 @@ element_says (t.Struct n) = refl
 -- a value, which is no array
 pub record IsValueIn (c : Context) (a : TypedExpression) : Type 0 where
   pub typed : IsTypedIn c a
-  pub rvalue : IsFalse (is_array (type_view a.ty))
+  pub value : IsFalse (is_array (type_view a.ty))
 
 module _ (c : Context) where
   pub fit_of : (x : Expr) → IsTrue (is_typed c x) → IsTrue (is_fit c.structs (type_of x))
