@@ -208,6 +208,10 @@ class Code:
         for m in reversed(list(re.finditer(r"#!?(?=\[)", body))):
             end = matching(body, m.end()) + 1
             body = body[: m.start()] + re.sub(r"[^\n]", " ", body[m.start() : end]) + body[end:]
+        # what stands after `by` beside an invariant is a proof that the invariant has one proof at most
+        for m in reversed(list(re.finditer(r"(?<=\})\s*by\s+(?=\{)", body))):
+            end = matching(body, m.end()) + 1
+            body = body[: m.start()] + re.sub(r"[^\n]", " ", body[m.start() : end]) + body[end:]
         self.body = body
         self.uses, self.exports = {}, {}
         self.public_modules, self.modules = set(), set()

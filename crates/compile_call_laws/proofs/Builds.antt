@@ -14,8 +14,8 @@ pub of_text : (text : List ℕ) (allocator : Allocator) (b : _) → HasBuilt (So
 of_text text allocator b has = subst (λ t. IsBuilt t allocator b) (sym has.is_told) has.is_built
 
 -- and its unit is the text's
-pub same_unit : OneTree → (text : List ℕ) (unit : TypedUnit) (allocator : Allocator) (b : _) → HasUnit text unit → IsBuilt text allocator b → b.typed ≡ unit
-same_unit one_tree text unit allocator b has is = one_unit one_tree text b.unit has.tree b.typed unit is.made.front.is_unit has.is_unit.is_unit
+pub same_unit : OneTree → (text : List ℕ) (unit : TypedUnit) (allocator : Allocator) (b : _) → HasUnit text unit → IsBuilt text allocator b → b.typed.unit ≡ unit
+same_unit one_tree text unit allocator b has is = one_unit one_tree text b.unit has.tree b.typed.unit unit is.made.front.is_unit has.is_unit.is_unit
 
 pub same_image : OneTree → (text : List ℕ) (unit : TypedUnit) (allocator : Allocator) (b : _) → HasUnit text unit → IsBuilt text allocator b → (stack : ℕ) → IsStack stack → Same (meaning unit) b.image stack
 same_image one_tree text unit allocator b has is stack is_stack =

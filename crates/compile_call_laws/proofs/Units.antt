@@ -52,11 +52,11 @@ module _ (one_tree : OneTree) (read_or_refused : ReadOrRefused) where
       let e : parse.Nesting counted ≡ parse.NoMemory = read_or_refused text has.tree (parse.Nesting counted) has.is_unit.is_unit.read (n.1.0, n.1.1) in cc
   no_limit text unit Weight counted has n =
       let heavy = n.1 in
-      let same : heavy.unit ≡ unit = one_unit one_tree text heavy.tree has.tree heavy.unit unit heavy.is_unit has.is_unit.is_unit in
+      let same : heavy.unit.unit ≡ unit = one_unit one_tree text heavy.tree has.tree heavy.unit.unit unit heavy.is_unit has.is_unit.is_unit in
       omega (arith, ap unit_weight same, heavy.heavy, has.is_unit.light)
   no_limit text unit Data counted has n =
       let large = n.1 in
-      let same : large.unit ≡ unit = one_unit one_tree text large.tree has.tree large.unit unit large.is_unit has.is_unit.is_unit in
+      let same : large.unit.unit ≡ unit = one_unit one_tree text large.tree has.tree large.unit.unit unit large.is_unit has.is_unit.is_unit in
       omega (arith, ap data_size same, large.large, has.is_unit.small)
 
   pub not_refused : TextsWithAUnitAreNotRefused

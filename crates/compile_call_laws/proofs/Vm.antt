@@ -8,6 +8,7 @@ use Rattle.bk_io.specs.Outside.{taken_with, Traffic}
 use Rattle.c_mean.specs.Behaviour as c
 use Rattle.c_mean.specs.Behaviour.{CBehaviour, output_of}
 use Rattle.c_typed_tree.specs.declared.units.TypedUnit.{TypedUnit}
+use Rattle.c_typed_tree.specs.Lawful.{IsTypedUnit}
 use Rattle.c_semantics.specs.Behaves.{behave_c, behaviour_of, rooms_of}
 use Rattle.suifvm_ir.specs.declared.program.VmProgram.{VmProgram}
 use Rattle.suifvm_run.specs.declared.ending.VmEnding.{VmEnding}
@@ -18,7 +19,7 @@ use Rattle.call_outcomes.specs.declared.outcome.Outcome.{Outcome}
 use Rattle.call_outcomes.specs.declared.outcome.Outcome.TheVariants.{Ran, Trapped, Budget}
 use Rattle.compile_calls.specs.Compile.{IsBuilt}
 use Rattle.compile_calls.specs.Vm.{outcome_of_ending, RunsProgram}
-use Rattle.compile_call_laws.specs.Laws.{HasUnit, IsOutcomeOf, AnswersAs, TextsWithAUnitAreNotRefused, VmAnswersAsTheTextMeans}
+use Rattle.compile_call_laws.specs.Laws.{IsOutcomeOf, AnswersAs, TextsWithAUnitAreNotRefused, VmAnswersAsTheTextMeans}
 use Rattle.compile_call_laws.proofs.Units.{OneTree}
 use Rattle.compile_call_laws.proofs.Builds.{of_text, same_unit}
 
@@ -43,11 +44,11 @@ module _ (text : List ℕ) (turns : ℕ) (before after : Traffic) (b : CBehaviou
     by_ending ending.NoMemory r = AnswersAs.no_memory refl (inl r.stops.1)
 
 module _ (one_tree : OneTree) (not_refused : TextsWithAUnitAreNotRefused) (one_ending : OneVmEnding) (kept : BehavioursAreKept) where
-  by_program : (text input : List ℕ) (unit : TypedUnit) (turns : ℕ) (answer : Outcome) (before after : Traffic) (program : VmProgram) → HasUnit text unit → IsCodeOf unit program
+  by_program : (text input : List ℕ) (unit : TypedUnit) (turns : ℕ) (answer : Outcome) (before after : Traffic) (program : VmProgram) → IsTypedUnit unit → IsCodeOf unit program
       → before.left ≡ Some input → All (λ byte. byte < 256) input → behave_c unit input turns ≢ c.Undefined → RunsProgram turns program answer before after
       → AnswersAs text turns (behave_c unit input turns) before after answer
-  by_program text input unit turns answer before after program has code told bytes ne runs =
-      let it : BehavesAsUnit unit program input turns = kept unit program has.is_unit.is_unit.lawful.typed code input turns bytes ne in
+  by_program text input unit turns answer before after program typed code told bytes ne runs =
+      let it : BehavesAsUnit unit program input turns = kept unit program typed code input turns bytes ne in
       subst (AnswersAs text turns (behave_c unit input turns) before after) (sym runs.1)
       (by_ending text turns before after (behave_c unit input turns) one_ending ne (rooms_of unit) program input it.ending it.ends it.behaviour runs.0 (runs.2 (rooms_of unit) input told))
 
@@ -59,5 +60,6 @@ module _ (one_tree : OneTree) (not_refused : TextsWithAUnitAreNotRefused) (one_e
     ]
     | inr m ↦
         let is : IsBuilt text allocator m.0 = of_text text allocator m.0 m.1 in
-        by_program text input unit turns answer before after m.0.vm has (subst (λ u. IsCodeOf u m.0.vm) (same_unit one_tree text unit allocator m.0 has is) is.made.code) told bytes ne m.2
+        let same : m.0.typed.unit ≡ unit = same_unit one_tree text unit allocator m.0 has is in
+        by_program text input unit turns answer before after m.0.vm (subst IsTypedUnit same m.0.typed.lawful.typed) (subst (λ u. IsCodeOf u m.0.vm) same is.made.code) told bytes ne m.2
   ]

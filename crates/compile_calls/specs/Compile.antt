@@ -22,7 +22,7 @@ source_limit = 4194305
 pub record IsBuilt (text : List ℕ) (allocator : Allocator) (b : Built) : Type 0 where
   pub low : length text ≤ text_limit
   pub made : Made text allocator b
-  pub same : (stack : ℕ) → IsStack stack → Same (meaning b.typed) b.image stack
+  pub same : (stack : ℕ) → IsStack stack → Same (meaning b.typed.unit) b.image stack
 
 -- this was made of a text, which is that of the file, where it is told
 pub record HasBuilt (told : Option (List ℕ)) (allocator : Allocator) (b : Built) : Type 0 where

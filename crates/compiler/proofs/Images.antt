@@ -4,7 +4,7 @@ use Rattle.compiler.specs.model.Stages.{ImagesAreSame}
 
 pub images_are_same : UnitsBehaveAlike → ImagesAreSame
 images_are_same alike text allocator b made stack is_stack =
-    alike b.typed b.image made.front.is_unit.lawful.typed
+    alike b.typed.unit b.image b.typed.lawful.typed
     (record {
       code = b.vm;
       is_code = made.code;

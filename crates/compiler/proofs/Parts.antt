@@ -9,6 +9,7 @@ use Rattle.alpha_items.specs.Words.{Words}
 use Rattle.alpha_asm.specs.Fault.{HasFewWords}
 use Rattle.c_tree.specs.declared.declarations.TranslationUnit.{TranslationUnit}
 use Rattle.c_typed_tree.specs.declared.units.TypedUnit.{TypedUnit}
+use Rattle.c_lawful_unit.specs.declared.LawfulUnit.{LawfulUnit}
 use Rattle.lowering.specs.Lowered.{AreLowered, AreWithinWeight}
 use Rattle.suifvm_ir.specs.declared.program.VmProgram.{VmProgram}
 use Rattle.suifvm_ir.specs.Programs.{program_size}
@@ -99,18 +100,18 @@ image_made same text allocator wanted p m = record {
 pub all_kept : (b : Built) (p : Parts) → p.unit ≡ Some b.unit → p.typed ≡ Some b.typed → p.vm ≡ Some b.vm → p.temps ≡ Some b.temps → p.allocations ≡ Some b.allocations → p.asm ≡ Some b.asm → p.image ≡ b.image → p ≡ parts_of_built b
 all_kept b p unit typed vm temps allocations asm image = λ i. record { unit = unit i; typed = typed i; vm = vm i; temps = temps i; allocations = allocations i; asm = asm i; image = image i }
 
-module _ (made : AssembliesAreMade) (allocator : Allocator) (wanted : Wanted) (unit : TranslationUnit) (typed : TypedUnit) (vm : VmProgram) (temps : TempProgram) (code : IsCodeWithin typed vm temps) (q : AssemblyParts)
+module _ (made : AssembliesAreMade) (allocator : Allocator) (wanted : Wanted) (unit : TranslationUnit) (typed : LawfulUnit) (vm : VmProgram) (temps : TempProgram) (code : IsCodeWithin typed.unit vm temps) (q : AssemblyParts)
     (of : AreAssemblyPartsOf temps allocator wanted q) where
-  assembly_of_unit : (text : List ℕ) → IsUnitWithin text unit typed → IsAssemblyOfUnit typed vm temps of.allocations.items q.asm
+  assembly_of_unit : (text : List ℕ) → IsUnitWithin text unit typed.unit → IsAssemblyOfUnit typed.unit vm temps of.allocations.items q.asm
   assembly_of_unit text front = made text unit typed vm temps of.allocations.items q.asm front code of.are of.assembly
 
-  pub few_words : UnitHasText unit typed → HasFewWords q.asm
+  pub few_words : UnitHasText unit typed.unit → HasFewWords q.asm
   few_words h = (assembly_of_unit h.text h.front).few_words
 
   abbrev pub built_of : Program → Built
   built_of image = record { unit = unit; typed = typed; vm = vm; temps = temps; allocations = of.allocations; asm = q.asm; image = image }
 
-  pub unit_parts : (p : Parts) → Words q.asm p.image → IsLawful p.image → (wanted ≡ Everything → p ≡ parts_of_built (built_of p.image)) → (text : List ℕ) → IsUnitWithin text unit typed → ArePartsOf text allocator wanted p
+  pub unit_parts : (p : Parts) → Words q.asm p.image → IsLawful p.image → (wanted ≡ Everything → p ≡ parts_of_built (built_of p.image)) → (text : List ℕ) → IsUnitWithin text unit typed.unit → ArePartsOf text allocator wanted p
   unit_parts p words lawful kept text front = record {
     built = built_of p.image;
     made = made_of text allocator (built_of p.image) front code of.are of.by of.assembly (assembly_of_unit text front) words lawful;

@@ -77,10 +77,10 @@ can_be_laid_out fit few temps allocations frames names labels lawful data_size a
 
 pub can_be_assembled : PreparedFunctionsFit → PreparedFunctionsHaveNames → FunctionsHaveFrames → AllocationsFit → LabelsAreFew → CodeCanBeAssembled
 can_be_assembled prepared_fit have_names have_frames fit few text tree u vm temps front code =
-    let frames = have_frames u temps (prepared_of prepared_fit u vm temps code) front.light front.small in
-    let names = (have_names u vm code.over_temps.selected temps code.code.functions code.over_temps.are_selected code.over_temps.prepared).names front.is_unit.lawful.typed.functions in
-    let globals = globals_of u vm temps code in
-    let lawful = subst AreLawful (sym globals) front.is_unit.lawful.typed.globals in
+    let frames = have_frames u.unit temps (prepared_of prepared_fit u.unit vm temps code) front.light front.small in
+    let names = (have_names u.unit vm code.over_temps.selected temps code.code.functions code.over_temps.are_selected code.over_temps.prepared).names u.lawful.typed.functions in
+    let globals = globals_of u.unit vm temps code in
+    let lawful = subst AreLawful (sym globals) u.lawful.typed.globals in
     let small = front.small in
     let data_size = subst (λ gs. data_end gs ≤ MOST_DATA) (sym globals) (omega (arith, small)) in
     record {
@@ -128,24 +128,24 @@ are_tidy (f ∷ fs) (g ∷ gs) h = All-cons IsTidy g gs (record { reached = h.0.
 pub assemblies_are_made : ProgramsKeepMeaning → PreparedSelectionsKeep → PreparedFunctionsFit → FunctionsHaveFrames → FramesFitTheirRooms → AllocationsFit → AllocationsAreNear → AssembliesHavePrograms → ProgramsAreAllocated
     → UnitTextsFitImages → AssembliesAreMade
 assemblies_are_made keep selections prepared_fit have_frames fit_rooms fit near have_programs are_allocated fit_images text tree u vm temps allocations asm front code are made =
-    let prepared = prepared_of prepared_fit u vm temps code in
-    let fits = fit temps allocations are (have_frames u temps prepared front.light front.small) in
+    let prepared = prepared_of prepared_fit u.unit vm temps code in
+    let fits = fit temps allocations are (have_frames u.unit temps prepared front.light front.small) in
     record {
-      runs = keep u vm front.is_unit.lawful.typed code.code;
+      runs = keep u.unit vm u.lawful.typed code.code;
       selection = selections vm code.over_temps.selected temps code.over_temps.are_selected code.over_temps.prepared code.over_temps.same_globals code.over_temps.keeps;
       tidy = are_tidy code.over_temps.selected.functions temps.functions code.over_temps.prepared;
-      allocated = are_allocated temps allocations (rooms_of u) fits.code fits.fit prepared.split (fit_rooms u temps allocations prepared are);
+      allocated = are_allocated temps allocations (rooms_of u.unit) fits.code fits.fit prepared.split (fit_rooms u.unit temps allocations prepared are);
       placing = placing_of temps.globals allocations made.finals;
       items = subst (λ x. HasItemsOf x temps (plans_of allocations) (placing_of temps.globals allocations made.finals)) (sym made.is_gathered)
           (have_programs temps allocations made.finals fits.names (near temps allocations are prepared.near) made.laid_out);
-      few_words = subst HasFewWords (sym made.is_gathered) (fit_images u temps allocations made.finals front.light prepared are made.laid_out);
+      few_words = subst HasFewWords (sym made.is_gathered) (fit_images u.unit temps allocations made.finals front.light prepared are made.laid_out);
     }
 
 -- ---- the image
 
 -- what was made of a text
-pub made_of : (text : List ℕ) (allocator : Allocator) (b : Built) → IsUnitWithin text b.unit b.typed → IsCodeWithin b.typed b.vm b.temps → AreAllocationsOf b.temps.functions b.allocations.items
-    → AllocatesBy allocator b.temps.functions b.allocations.items → IsAssemblyOf b.temps b.allocations.items b.asm → IsAssemblyOfUnit b.typed b.vm b.temps b.allocations.items b.asm → Words b.asm b.image → IsLawful b.image
+pub made_of : (text : List ℕ) (allocator : Allocator) (b : Built) → IsUnitWithin text b.unit b.typed.unit → IsCodeWithin b.typed.unit b.vm b.temps → AreAllocationsOf b.temps.functions b.allocations.items
+    → AllocatesBy allocator b.temps.functions b.allocations.items → IsAssemblyOf b.temps b.allocations.items b.asm → IsAssemblyOfUnit b.typed.unit b.vm b.temps b.allocations.items b.asm → Words b.asm b.image → IsLawful b.image
     → Made text allocator b
 made_of text allocator b front code are by assembly made words lawful = record {
   front = front;

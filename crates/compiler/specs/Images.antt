@@ -12,5 +12,5 @@ use Rattle.compiler.specs.Made.{Made}
 pub record IsImageOfText (text : List ℕ) (allocator : Allocator) (image : Program) : Type 0 where
   pub built : Built
   pub made : Made text allocator built
-  pub same : (stack : ℕ) → IsStack stack → Same (meaning built.typed) built.image stack
+  pub same : (stack : ℕ) → IsStack stack → Same (meaning built.typed.unit) built.image stack
   pub is_its_image : image ≡ built.image

@@ -41,18 +41,18 @@ AllocatesBy Plain functions allocations = ArePlainAllocationsOf functions alloca
 
 -- This was made of a text by an allocator.
 pub record Made (text : List ℕ) (allocator : Allocator) (b : Built) : Type 0 where
-  -- the tree of the text, and its typed unit, which is within the limits
-  pub front : IsUnitWithin text b.unit b.typed
+  -- the tree of the text, and its typed unit, which is lawful and within the limits
+  pub front : IsUnitWithin text b.unit b.typed.unit
   -- the code over virtual registers: each function is that of the unit's with its number
-  pub code : IsCodeOf b.typed b.vm
-  pub code_runs : CodeRunsAs b.typed b.vm
+  pub code : IsCodeOf b.typed.unit b.vm
+  pub code_runs : CodeRunsAs b.typed.unit b.vm
   -- the code over temporaries
   pub selection : SelectionKeeps b.vm b.temps
   pub tidy : All IsTidy b.temps.functions
   -- a faithful allocation of each function, in a frame that fits the room of the unit's function
   pub allocations : AreAllocationsOf b.temps.functions b.allocations.items
   pub by : AllocatesBy allocator b.temps.functions b.allocations.items
-  pub allocated : IsAllocated b.temps b.allocations.items (rooms_of b.typed)
+  pub allocated : IsAllocated b.temps b.allocations.items (rooms_of b.typed.unit)
   -- the assembly: the start piece, the functions, the division routines, and the data
   pub whole : IsWhole b.asm
   pub placing : Placing

@@ -6,8 +6,8 @@ ghost use Rattle.compiler.specs.model.Parts.{PartsAreWhole, parts_of_built};
 use alloc_model::allocation::Allocation;
 use alpha_isa::image::Image;
 use alpha_items::asm::Asm;
+use c_lawful_unit::LawfulUnit;
 use c_tree::TranslationUnit;
-use c_typed_tree::TypedUnit;
 use suifvm_ir::program::VmProgram;
 use temp_ir::program::TempProgram;
 
@@ -16,8 +16,8 @@ use temp_ir::program::TempProgram;
 pub struct Built {
     /// The tree of the text (C99 6.9).
     pub unit: TranslationUnit,
-    /// Its typed unit.
-    pub typed: TypedUnit,
+    /// Its typed unit, which is lawful.
+    pub typed: LawfulUnit,
     /// The code of the unit over virtual registers.
     pub vm: VmProgram,
     /// The Alpha code over temporaries, whose functions have no block to which no path leads and no critical edge.
@@ -63,7 +63,7 @@ pub(crate) struct AssemblyParts {
 #[derive(Drop)]
 pub(crate) struct Parts {
     pub(crate) unit: Option<TranslationUnit>,
-    pub(crate) typed: Option<TypedUnit>,
+    pub(crate) typed: Option<LawfulUnit>,
     pub(crate) vm: Option<VmProgram>,
     pub(crate) temps: Option<TempProgram>,
     pub(crate) allocations: Option<Vec<Allocation>>,

@@ -50,7 +50,7 @@ use temp_ir::program::TempProgram;
 pub fn compile(alloc: Global, text: &[u8], options: &Options) -> Result<Built, CompileFault>
     requires { length text.now ≤ text_limit }
     ensures made { IfOk result (Made text.now options.now.allocator) }
-    ensures same { IfOk result (λ b. (stack : ℕ) → IsStack stack → Same (meaning b.typed) b.image stack) }
+    ensures same { IfOk result (λ b. (stack : ℕ) → IsStack stack → Same (meaning b.typed.unit) b.image stack) }
     ensures fault { IfErr result (HasNoUnit text.now) }
 {
     let front = read_unit(alloc, text)?;
@@ -85,8 +85,8 @@ fn make(
     allocator: Allocator,
     wanted: Wanted,
 ) -> Result<Parts, CompileFault>
-    requires { UnitHasText front.unit front.typed }
-    ensures made { IfOk result (λ parts. (text : List ℕ) → IsUnitWithin text front.unit front.typed →
+    requires { UnitHasText front.unit front.typed.unit }
+    ensures made { IfOk result (λ parts. (text : List ℕ) → IsUnitWithin text front.unit front.typed.unit →
         ArePartsOf text allocator wanted parts) }
     ensures fault { IfErr result (λ f. (f ≡ NoMemory) × MemoryIsShort) }
 {

@@ -18,8 +18,6 @@ use Rattle.c_types.specs.FunctionNames.{passes}
 use Rattle.c_types.specs.Initialisers.{HoldsBytes}
 use Rattle.c_types.specs.Walks.{IsInitialiserIn, Here, There}
 use Rattle.c_types.specs.Spellings.{HasSpellings}
-use Rattle.c_types.specs.Units.{IsTyped}
-use Rattle.front_end.specs.Units.{IsUnitOf}
 
 named : (e : External) → HasIdentifier e → IsTrue (passes is_identifier e)
 named (x.Typedef d) h = refl
@@ -39,5 +37,6 @@ spelled t tree bytes read = record {
   initialisers = λ init there. held there (read_bytes t tree bytes read);
 }
 
-pub is_unit : (t : List ℕ) (tree : TranslationUnit) (typed : TypedUnit) → AreBytes t → IsRead t tree → IsTyped tree typed → (HasSpellings tree → IsLawfulUnit typed) → IsUnitOf t tree typed
-is_unit t tree typed bytes read is lawful = record { read = read; typed = is; lawful = lawful (spelled t tree bytes read) }
+-- so what is lawful where the tree is spelled so is lawful
+pub lawful : (t : List ℕ) (tree : TranslationUnit) (typed : TypedUnit) → AreBytes t → IsRead t tree → (HasSpellings tree → IsLawfulUnit typed) → IsLawfulUnit typed
+lawful t tree typed bytes read is = is (spelled t tree bytes read)

@@ -1,7 +1,7 @@
 -- Why a text has no unit, by the faults of its parts.
 use Rattle.std.proofs.Common.{ℕ, ◌≤◌, ◌<◌, ◌-◌, ◌^◌, List, inl, arith}
 use Rattle.c_tree.specs.declared.declarations.TranslationUnit.{TranslationUnit}
-use Rattle.c_typed_tree.specs.declared.units.TypedUnit.{TypedUnit}
+use Rattle.c_lawful_unit.specs.declared.LawfulUnit.{LawfulUnit}
 use Rattle.c_parser.specs.declared.fault.ParseFault.{ParseFault}
 use Rattle.c_parser.specs.declared.fault.ParseFault.TheVariants as text
 use Rattle.c_parser.specs.Reading.{IsRead, IsNotRead}
@@ -30,7 +30,7 @@ within n most low most_low = omega arith
 pub above : (n most : ℕ) → most < as_count n → most < n
 above n most high = omega arith
 
-pub beyond : (t : List ℕ) (tree : TranslationUnit) (unit : TypedUnit) (f : CompileFault) → IsUnitOf t tree unit → IsBeyond unit f → HasNoUnit t f
+pub beyond : (t : List ℕ) (tree : TranslationUnit) (unit : LawfulUnit) (f : CompileFault) → IsUnitOf t tree unit.unit → IsBeyond unit.unit f → HasNoUnit t f
 beyond t tree unit (Limit Weight counted) is h = record { tree = tree; unit = unit; is_unit = is; heavy = h.0; count = h.1 }
 beyond t tree unit (Limit Data counted) is h = record { tree = tree; unit = unit; is_unit = is; light = h.0; large = h.1; count = h.2 }
 beyond t tree unit _ is h = absurd h

@@ -10,7 +10,7 @@ use Rattle.c_type_faults.specs.declared.faults.Kind.{Kind}
 use Rattle.c_type_faults.specs.Faults.{head}
 use Rattle.c_types.specs.CUnits.{faults_of}
 use Rattle.c_typed_tree.specs.declared.units.TypedUnit.{TypedUnit}
-use Rattle.c_typed_tree.specs.Lawful.{IsLawfulUnit}
+use Rattle.c_lawful_unit.specs.declared.LawfulUnit.{LawfulUnit}
 use Rattle.c_typed_tree.specs.Weight.{unit_weight}
 use Rattle.c_typed_tree.specs.Rooms.{data_size}
 use Rattle.c_types.specs.Units.{IsTyped}
@@ -24,7 +24,6 @@ use Rattle.front_end.specs.Limits.{most_weight, most_data}
 pub record IsUnitOf (text : List ℕ) (tree : TranslationUnit) (unit : TypedUnit) : Type 0 where
   pub read : IsRead text tree
   pub typed : IsTyped tree unit
-  pub lawful : IsLawfulUnit unit
 
 -- which is within the limits of weight and of data
 pub record IsUnitWithin (text : List ℕ) (tree : TranslationUnit) (unit : TypedUnit) : Type 0 where
@@ -44,22 +43,22 @@ pub record HasTypingFault (text : List ℕ) (at : ℕ) (k : Kind) : Type 0 where
 abbrev pub as_count : ℕ → ℕ
 as_count n = min n (2 ^ 64 - 1)
 
--- the text has a unit that is heavier than is taken
+-- the text has a unit that is lawful and heavier than is taken
 pub record IsTooHeavy (text : List ℕ) (counted : ℕ) : Type 0 where
   pub tree : TranslationUnit
-  pub unit : TypedUnit
-  pub is_unit : IsUnitOf text tree unit
-  pub heavy : most_weight < unit_weight unit
-  pub count : counted ≡ as_count (unit_weight unit)
+  pub unit : LawfulUnit
+  pub is_unit : IsUnitOf text tree unit.unit
+  pub heavy : most_weight < unit_weight unit.unit
+  pub count : counted ≡ as_count (unit_weight unit.unit)
 
--- the text has a unit of a weight that is taken, which needs more data than is taken
+-- the text has a unit that is lawful and of a weight that is taken, and that needs more data than is taken
 pub record IsTooLarge (text : List ℕ) (counted : ℕ) : Type 0 where
   pub tree : TranslationUnit
-  pub unit : TypedUnit
-  pub is_unit : IsUnitOf text tree unit
-  pub light : unit_weight unit ≤ most_weight
-  pub large : most_data < data_size unit
-  pub count : counted ≡ as_count (data_size unit)
+  pub unit : LawfulUnit
+  pub is_unit : IsUnitOf text tree unit.unit
+  pub light : unit_weight unit.unit ≤ most_weight
+  pub large : most_data < data_size unit.unit
+  pub count : counted ≡ as_count (data_size unit.unit)
 
 -- Why a text has no unit within the limits: each answer has one cause. For want of memory it is that memory is short,
 -- or that the tree is higher than is taken.

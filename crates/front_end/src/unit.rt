@@ -9,6 +9,7 @@ ghost use Rattle.front_end.specs.Units.{IsUnitOf, IsUnitWithin, HasNoUnit};
 ghost use Rattle.front_end.specs.model.Causes.{IsBeyond};
 
 use crate::fault::CompileFault;
+use c_lawful_unit::LawfulUnit;
 use c_parser::parse;
 use c_text_bytes::read_text;
 use c_tree::TranslationUnit;
@@ -24,24 +25,27 @@ const MOST_WEIGHT: u64 = 131_072;
 /// The bytes of data that a unit, and of memory locals that one of its functions, may have.
 const MOST_DATA: u64 = 67_108_864;
 
-/// The tree of a text, and its typed unit.
+/// The tree of a text, and its typed unit, which is lawful.
 #[derive(Drop)]
 pub struct FrontEnd {
     pub unit: TranslationUnit,
-    pub typed: TypedUnit,
+    pub typed: LawfulUnit,
 }
 
 /// The tree of a text, and its typed unit, whatever it weighs.
-#[tactic(auto, using(crate::proofs::Units::no_tree, crate::proofs::Units::no_unit, crate::proofs::Spellings::is_unit))]
+#[tactic(auto, using(crate::proofs::Units::no_tree, crate::proofs::Units::no_unit, crate::proofs::Spellings::lawful))]
 fn any_unit(alloc: Global, text: &[u8]) -> Result<FrontEnd, CompileFault>
     requires { length text.now ≤ text_limit }
-    ensures unit { IfOk result (λ made. IsUnitOf text.now made.unit made.typed) }
+    ensures unit { IfOk result (λ made. IsUnitOf text.now made.unit made.typed.unit) }
     ensures fault { IfErr result (HasNoUnit text.now) }
 {
     let unit = parse(alloc, text)?;
     let typed = check(alloc, &unit)?;
     read_text(text);
-    Ok(FrontEnd { unit, typed })
+    Ok(FrontEnd {
+        unit,
+        typed: LawfulUnit { unit: typed },
+    })
 }
 
 /// Whether a unit is within the limits of weight and of data.
@@ -68,7 +72,7 @@ fn within_limits(unit: &TypedUnit) -> Result<(), CompileFault>
     Ok(())
 }
 
-/// The tree of a text of at most 4,194,304 bytes, and its typed unit, which is within the limits.
+/// The tree of a text of at most 4,194,304 bytes, and its typed unit, which is lawful and within the limits.
 ///
 /// # Errors
 ///
@@ -79,10 +83,10 @@ fn within_limits(unit: &TypedUnit) -> Result<(), CompileFault>
 #[tactic(auto, using(crate::proofs::Units::beyond))]
 pub fn read_unit(alloc: Global, text: &[u8]) -> Result<FrontEnd, CompileFault>
     requires { length text.now ≤ text_limit }
-    ensures unit { IfOk result (λ made. IsUnitWithin text.now made.unit made.typed) }
+    ensures unit { IfOk result (λ made. IsUnitWithin text.now made.unit made.typed.unit) }
     ensures fault { IfErr result (HasNoUnit text.now) }
 {
     let made = any_unit(alloc, text)?;
-    within_limits(&made.typed)?;
+    within_limits(&made.typed.unit)?;
     Ok(made)
 }

@@ -5,9 +5,9 @@ ghost use Rattle.c_typed_tree.specs.Types.{Int};
 ghost use Rattle.c_typed_tree.specs.Statements.{Block, no_stmts};
 ghost use Rattle.c_typed_tree.specs.View.{type_view, stmt_view};
 ghost use Rattle.c_typed_tree.specs.Weight.{unit_weight};
-ghost use Rattle.c_typed_tree.specs.Lawful.{IsLawfulUnit};
 
 use crate::lower;
+use c_lawful_unit::LawfulUnit;
 use c_tree::{Name, Seq};
 use c_typed_tree::{CType, TStmt, TypedFn, TypedUnit};
 use std::alloc::{AllocError, Global};
@@ -59,18 +59,19 @@ fn one(alloc: Global, f: TypedFn) -> Result<Seq<TypedFn>, AllocError>
 }
 
 /// The unit.
-fn unit(alloc: Global) -> Result<TypedUnit, AllocError>
-    ensures lawful { IfOk result (λ u. IsLawfulUnit u) }
-    ensures weight { IfOk result (λ u. unit_weight u ≤ 131072) }
+fn unit(alloc: Global) -> Result<LawfulUnit, AllocError>
+    ensures { IfOk result (λ made. unit_weight made.unit ≤ 131072) }
 {
     let f = main_function(alloc)?;
     let functions = one(alloc, f)?;
     let structs = Seq::new(alloc);
     let globals = Seq::new(alloc);
-    Ok(TypedUnit {
-        structs,
-        globals,
-        functions,
+    Ok(LawfulUnit {
+        unit: TypedUnit {
+            structs,
+            globals,
+            functions,
+        },
     })
 }
 

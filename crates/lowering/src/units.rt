@@ -1,15 +1,15 @@
 //! The code of units.
 
 ghost use Rattle.std.specs.Prelude.{◌≡◌, ◌≤◌, ◌^◌, All, IfOk};
-ghost use Rattle.c_typed_tree.specs.Lawful.{IsLawfulUnit};
 ghost use Rattle.c_typed_tree.specs.Weight.{unit_weight};
 ghost use Rattle.suifvm_ir.specs.Programs.{program_size};
 ghost use Rattle.lowering.specs.Lowered.{IsLowered, AreLowered, AreWithinWeight};
 ghost use Rattle.lowering.specs.model.Premises.{CanBeLowered};
 
 use crate::globals::copy_objects;
+use c_lawful_unit::LawfulUnit;
 use c_tree::Seq;
-use c_typed_tree::{StructDef, TypedFn, TypedUnit};
+use c_typed_tree::{StructDef, TypedFn};
 use lowering_functions::lower_function;
 use std::alloc::{AllocError, Global};
 use suifvm_ir::function::Func;
@@ -46,14 +46,14 @@ fn all_functions(
 /// only where memory is short.
 ///
 /// The weight of the unit is at most 131,072.
-pub fn lower(alloc: Global, unit: &TypedUnit) -> Result<VmProgram, AllocError>
-    requires lawful { IsLawfulUnit unit.now }
-    requires weight { unit_weight unit.now ≤ 131072 }
-    ensures functions { IfOk result (λ p. AreLowered unit.now.structs unit.now.functions p.functions) }
-    ensures globals { IfOk result (λ p. p.globals ≡ unit.now.globals) }
-    ensures weights { IfOk result (λ p. AreWithinWeight unit.now.structs unit.now.functions p.functions) }
+pub fn lower(alloc: Global, typed: &LawfulUnit) -> Result<VmProgram, AllocError>
+    requires { unit_weight typed.now.unit ≤ 131072 }
+    ensures functions { IfOk result (λ p. AreLowered typed.now.unit.structs typed.now.unit.functions p.functions) }
+    ensures globals { IfOk result (λ p. p.globals ≡ typed.now.unit.globals) }
+    ensures weights { IfOk result (λ p. AreWithinWeight typed.now.unit.structs typed.now.unit.functions p.functions) }
     ensures size { IfOk result (λ p. program_size p.functions ≤ 2 ^ 24) }
 {
+    let unit = &typed.unit;
     let functions = all_functions(alloc, unit.structs.as_slice(), unit.functions.as_slice())?;
     let globals = copy_objects(alloc, &unit.globals)?;
     Ok(VmProgram { functions, globals })

@@ -10,6 +10,7 @@ use Rattle.data_object.specs.Globals.{AreLawful}
 use Rattle.data_object.specs.Layout.{data_end}
 use Rattle.c_tree.specs.declared.declarations.TranslationUnit.{TranslationUnit}
 use Rattle.c_typed_tree.specs.declared.units.TypedUnit.{TypedUnit}
+use Rattle.c_lawful_unit.specs.declared.LawfulUnit.{LawfulUnit}
 use Rattle.c_semantics.specs.Behaves.{meaning, rooms_of}
 use Rattle.suifvm_ir.specs.declared.program.VmProgram.{VmProgram}
 use Rattle.suifvm_ir.specs.Programs.{program_size}
@@ -75,8 +76,8 @@ pub record ProgramCanBeAssembled (temps : TempProgram) : Type 0 where
 
 abbrev pub CodeCanBeAssembled : Type 0
 CodeCanBeAssembled =
-    (text : List ℕ) (tree : TranslationUnit) (u : TypedUnit) (vm : VmProgram) (temps : TempProgram) →
-    IsUnitWithin text tree u → IsCodeWithin u vm temps → ProgramCanBeAssembled temps
+    (text : List ℕ) (tree : TranslationUnit) (u : LawfulUnit) (vm : VmProgram) (temps : TempProgram) →
+    IsUnitWithin text tree u.unit → IsCodeWithin u.unit vm temps → ProgramCanBeAssembled temps
 
 -- an assembly is gathered of functions that are laid out by these allocations, and is whole
 pub record IsAssemblyOf (temps : TempProgram) (allocations : List Allocation) (asm : Assembly) : Type 0 where
@@ -98,14 +99,14 @@ pub record IsAssemblyOfUnit (u : TypedUnit) (vm : VmProgram) (temps : TempProgra
 
 abbrev pub AssembliesAreMade : Type 0
 AssembliesAreMade =
-    (text : List ℕ) (tree : TranslationUnit) (u : TypedUnit) (vm : VmProgram) (temps : TempProgram)
-    (allocations : List Allocation) (asm : Assembly) → IsUnitWithin text tree u → IsCodeWithin u vm temps →
+    (text : List ℕ) (tree : TranslationUnit) (u : LawfulUnit) (vm : VmProgram) (temps : TempProgram)
+    (allocations : List Allocation) (asm : Assembly) → IsUnitWithin text tree u.unit → IsCodeWithin u.unit vm temps →
     AreAllocationsOf temps.functions allocations → IsAssemblyOf temps allocations asm →
-    IsAssemblyOfUnit u vm temps allocations asm
+    IsAssemblyOfUnit u.unit vm temps allocations asm
 
 -- ---- the image
 
 abbrev pub ImagesAreSame : Type 0
 ImagesAreSame =
     (text : List ℕ) (allocator : Allocator) (b : Built) → Made text allocator b →
-    (stack : ℕ) → IsStack stack → Same (meaning b.typed) b.image stack
+    (stack : ℕ) → IsStack stack → Same (meaning b.typed.unit) b.image stack

@@ -11,5 +11,5 @@ pub returns-clause-image : goal.returns-clause-image
 returns-clause-image c =
     image_made c.images_are_same.ensures c.args.text.items c.args.options.now.allocator Image c.in_ok-parts.parts
     (c.in_ok-parts.ensures.made c.args.text.items
-    (subst (λ t. IsUnitWithin t c.in_ok-front.front.unit c.in_ok-front.front.typed) c.as_slice.ensures.value
+    (subst (λ t. IsUnitWithin t c.in_ok-front.front.unit c.in_ok-front.front.typed.unit) c.as_slice.ensures.value
     c.in_ok-front.ensures.unit))
