@@ -1,2 +1,3 @@
 mod Units
 mod Spellings
+mod Heights

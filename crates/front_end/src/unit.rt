@@ -5,6 +5,7 @@ ghost use Rattle.c_lexer.specs.Limits.{text_limit};
 ghost use Rattle.c_typed_tree.specs.Weight.{unit_weight};
 ghost use Rattle.c_typed_tree.specs.Rooms.{data_size};
 ghost use Rattle.front_end.specs.Limits.{most_weight, most_data};
+ghost use Rattle.front_end.specs.Heights.{IsWithinHeight};
 ghost use Rattle.front_end.specs.Units.{IsUnitOf, IsUnitWithin, HasNoUnit};
 ghost use Rattle.front_end.specs.model.Causes.{IsBeyond};
 
@@ -33,10 +34,11 @@ pub struct FrontEnd {
 }
 
 /// The tree of a text, and its typed unit, whatever it weighs.
-#[tactic(auto, using(crate::proofs::Units::no_tree, crate::proofs::Units::no_unit, crate::proofs::Spellings::lawful))]
+#[tactic(auto, using(crate::proofs::Units::no_tree, crate::proofs::Units::no_unit, crate::proofs::Spellings::lawful, crate::proofs::Heights::has_height))]
 fn any_unit(alloc: Global, text: &[u8]) -> Result<FrontEnd, CompileFault>
     requires { length text.now ≤ text_limit }
     ensures unit { IfOk result (λ made. IsUnitOf text.now made.unit made.typed.unit) }
+    ensures height { IfOk result (λ made. IsWithinHeight made.unit made.typed.unit) }
     ensures fault { IfErr result (HasNoUnit text.now) }
 {
     let unit = parse(alloc, text)?;
@@ -84,6 +86,7 @@ fn within_limits(unit: &TypedUnit) -> Result<(), CompileFault>
 pub fn read_unit(alloc: Global, text: &[u8]) -> Result<FrontEnd, CompileFault>
     requires { length text.now ≤ text_limit }
     ensures unit { IfOk result (λ made. IsUnitWithin text.now made.unit made.typed.unit) }
+    ensures height { IfOk result (λ made. IsWithinHeight made.unit made.typed.unit) }
     ensures fault { IfErr result (HasNoUnit text.now) }
 {
     let made = any_unit(alloc, text)?;
