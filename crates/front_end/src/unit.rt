@@ -74,7 +74,8 @@ fn within_limits(unit: &TypedUnit) -> Result<(), CompileFault>
     Ok(())
 }
 
-/// The tree of a text of at most 4,194,304 bytes, and its typed unit, which is lawful and within the limits.
+/// The tree of a text of at most 4,194,304 bytes, and its typed unit, which is lawful and within the limits. The tree
+/// is at most 2,048 nodes high, and the typed unit at most three times as high as the tree.
 ///
 /// # Errors
 ///
