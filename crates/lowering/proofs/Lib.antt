@@ -1,3 +1,4 @@
 pub mod Parts
 pub mod Programs
 pub mod Small
+pub mod Turns

@@ -2,8 +2,10 @@
 #![tactic(auto)]
 
 mod globals;
+mod in_turn;
 #[cfg(test)]
 mod tests;
 mod units;
 
+pub use in_turn::lower_in_turn;
 pub use units::lower;

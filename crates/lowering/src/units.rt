@@ -17,7 +17,11 @@ use suifvm_ir::insn::VmInsn;
 use suifvm_ir::program::VmProgram;
 
 /// The code of one function.
-fn one(alloc: Global, structs: &[StructDef], f: &TypedFn) -> Result<Func<VmInsn>, AllocError>
+pub(crate) fn one(
+    alloc: Global,
+    structs: &[StructDef],
+    f: &TypedFn,
+) -> Result<Func<VmInsn>, AllocError>
     requires { CanBeLowered structs.now f.now }
     ensures { IfOk result (λ g. IsLowered structs.now f.now g) }
 {
