@@ -22,12 +22,13 @@ use Rattle.compile_options.specs.declared.Allocator.TheVariants.{Plain}
 use Rattle.front_end.specs.Units.{IsUnitWithin}
 use Rattle.compiler.specs.declared.built.AssemblyParts.{AssemblyParts}
 use Rattle.compiler.specs.declared.built.Built.{Built}
+use Rattle.compiler.specs.declared.built.CodeParts.{CodeParts}
 use Rattle.compiler.specs.declared.built.Parts.{Parts}
 use Rattle.compiler.specs.declared.built.Wanted.{Wanted}
 use Rattle.compiler.specs.declared.built.Wanted.TheVariants.{Everything, Image}
 use Rattle.compiler.specs.Made.{Made}
 use Rattle.compiler.specs.Images.{IsImageOfText}
-use Rattle.compiler.specs.model.Parts.{UnitHasText, HasAllocations, AreAssemblyPartsOf, parts_of_built, PartsAreWhole, ArePartsOf}
+use Rattle.compiler.specs.model.Parts.{UnitHasText, AreCodePartsOf, HasAllocations, AreAssemblyPartsOf, parts_of_built, PartsAreWhole, ArePartsOf}
 use Rattle.compiler.specs.model.Stages.{IsCodeWithin, AreTempsOf, ProgramCanBeAssembled, IsAssemblyOfUnit, AssembliesAreMade, ImagesAreSame}
 use Rattle.compiler.proofs.Stages.{made_of}
 
@@ -36,6 +37,15 @@ use Rattle.compiler.proofs.Stages.{made_of}
 pub code_within : (u : TypedUnit) (vm : VmProgram) (temps : TempProgram) → AreLowered u.structs u.functions vm.functions → vm.globals ≡ u.globals → AreWithinWeight u.structs u.functions vm.functions → program_size vm.functions ≤ 2 ^ 24
     → AreTempsOf vm temps → IsCodeWithin u vm temps
 code_within u vm temps functions globals weights size of = record { code = record { functions = functions; globals = globals }; weights = weights; size = size; over_temps = of }
+
+-- what was let go was there
+pub code_alone : (u : LawfulUnit) (vm : VmProgram) (p : CodeParts) → IsCodeWithin u.unit vm p.temps → AreCodePartsOf u Image p
+code_alone u vm p code = record {
+  vm = vm;
+  code = code;
+  unit = λ e. let clash : ⊥ = cc in absurd clash;
+  kept = λ e. let clash : ⊥ = cc in absurd clash;
+}
 
 -- ---- the assembly
 

@@ -51,6 +51,14 @@ impl Wanted {
     }
 }
 
+/// The code of a unit over temporaries, with the unit and its code over virtual registers, as far as they were kept.
+#[derive(Drop)]
+pub(crate) struct CodeParts {
+    pub(crate) typed: Option<LawfulUnit>,
+    pub(crate) vm: Option<VmProgram>,
+    pub(crate) temps: TempProgram,
+}
+
 /// The assembly of a program, with the program and the allocations of its functions, as far as they were kept.
 #[derive(Drop)]
 pub(crate) struct AssemblyParts {

@@ -1,6 +1,6 @@
 //! The passes, one after the other.
 
-ghost use Rattle.std.specs.Prelude.{◌≡◌, ℕ, ◌^◌, ◌≤◌, List, All, length, IfOk, IfErr};
+ghost use Rattle.std.specs.Prelude.{◌≡◌, ℕ, ◌≤◌, List, length, IfOk, IfErr};
 ghost use Rattle.bk_memory.specs.Shortage.{MemoryIsShort};
 ghost use Rattle.c_lexer.specs.Limits.{text_limit};
 ghost use Rattle.c_semantics.specs.Behaves.{meaning};
@@ -8,7 +8,6 @@ ghost use Rattle.alpha_isa.specs.Program as image;
 ghost use Rattle.alpha_isa.specs.Behave.{IsStack};
 ghost use Rattle.alpha_items.specs.Words.{Words};
 ghost use Rattle.alpha_asm.specs.Fault.{HasFewWords};
-ghost use Rattle.suifvm_ir.specs.Programs.{VmFunction, program_size};
 ghost use Rattle.plain_programs.specs.Allocations.{AreAllocationsOf};
 ghost use Rattle.same_behaviour.specs.Same.{Same};
 ghost use Rattle.front_end.specs.declared.fault.CompileFault.TheVariants.{NoMemory};
@@ -16,27 +15,24 @@ ghost use Rattle.front_end.specs.Units.{IsUnitWithin, HasNoUnit};
 ghost use Rattle.compiler.specs.Made.{Made, AllocatesBy};
 ghost use Rattle.compiler.specs.Images.{IsImageOfText};
 ghost use Rattle.compiler.specs.model.Parts.{UnitHasText, HasAllocations, AreAssemblyPartsOf, ArePartsOf};
-ghost use Rattle.compiler.specs.model.Stages.{AreTempsOf, CanBeLaidOut, ProgramCanBeAssembled, IsAssemblyOf};
+ghost use Rattle.compiler.specs.model.Stages.{CanBeLaidOut, ProgramCanBeAssembled, IsAssemblyOf};
 
-use crate::built::{AssemblyParts, Built, Parts, Wanted};
+use crate::built::{AssemblyParts, Built, CodeParts, Parts, Wanted};
+use crate::code::code_parts;
 use crate::laws::{assemblies_are_made, code_can_be_assembled, images_are_same};
 use alloc_model::allocation::Allocation;
 use alpha_asm::assemble::{AsmFault, assemble};
 use alpha_isa::image::Image;
 use alpha_items::asm::Asm;
-use alpha_select::select;
 use compile_options::{Allocator, Options};
 use front_end::{CompileFault, FrontEnd, read_unit};
-use lowering::lower;
 use plain_layouts::assemble_plain;
 use plain_programs::allocate;
-use program_passes::prepare;
 use program_rooms::words::words;
 use program_rooms::words::words::allocations;
 use program_rooms::words::words::allocations::assemblies;
 use program_rooms::words::words::allocations::assemblies::assembly::{gather, lay_out};
 use std::alloc::{AllocError, Global};
-use suifvm_ir::program::VmProgram;
 use temp_ir::program::TempProgram;
 
 /// The image of a C text of at most 4,194,304 bytes, with what was made on the way to it. On each stack, the image does
@@ -78,7 +74,6 @@ pub fn compile_image(alloc: Global, text: Vec<u8>, options: &Options) -> Result<
 }
 
 /// Makes one pass after the other of the unit of a text. What no pass reads any more is kept where it is wanted.
-#[tactic(auto, using(crate::proofs::Registers::unit_registers))]
 fn make(
     alloc: Global,
     front: FrontEnd,
@@ -92,10 +87,7 @@ fn make(
 {
     let FrontEnd { unit, typed } = front;
     let unit = wanted.keep(unit);
-    let vm = lower(alloc, &typed)?;
-    let typed = wanted.keep(typed);
-    let temps = temps_of(alloc, &vm)?;
-    let vm = wanted.keep(vm);
+    let CodeParts { typed, vm, temps } = code_parts(alloc, typed, wanted)?;
     code_can_be_assembled();
     let AssemblyParts {
         temps,
@@ -114,17 +106,6 @@ fn make(
         asm,
         image,
     })
-}
-
-/// Selects instructions, and prepares the functions for allocation.
-fn temps_of(alloc: Global, vm: &VmProgram) -> Result<TempProgram, AllocError>
-    requires size { program_size vm.now.functions ≤ 2 ^ 24 }
-    requires registers { All (λ (f : VmFunction). f.temps ≤ 2 ^ 24) vm.now.functions }
-    ensures { IfOk result (AreTempsOf vm.now) }
-{
-    let selected = select(alloc, vm)?;
-    let temps = prepare(alloc, selected)?;
-    Ok(temps)
 }
 
 /// The assembly of a program, by allocations of its functions. Where the image alone is wanted, each function is let

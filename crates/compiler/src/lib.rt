@@ -5,6 +5,7 @@
 #![tactic(auto)]
 
 mod built;
+mod code;
 pub mod compile;
 mod laws;
 

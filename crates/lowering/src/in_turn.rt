@@ -39,7 +39,7 @@ fn lower_each(
 ///
 /// The weight of the unit is at most 131,072.
 pub fn lower_in_turn(alloc: Global, typed: LawfulUnit) -> Result<VmProgram, AllocError>
-    requires weight { unit_weight typed.unit ≤ 131072 }
+    requires { unit_weight typed.unit ≤ 131072 }
     ensures functions { IfOk result (λ p. AreLowered typed.unit.structs typed.unit.functions p.functions) }
     ensures globals { IfOk result (λ p. p.globals ≡ typed.unit.globals) }
     ensures weights { IfOk result (λ p. AreWithinWeight typed.unit.structs typed.unit.functions p.functions) }

@@ -4,6 +4,8 @@ use Rattle.std.specs.Global.{Vec}
 use Rattle.alpha_items.specs.Assembly.{Assembly}
 use Rattle.c_tree.specs.declared.declarations.TranslationUnit.{TranslationUnit}
 use Rattle.c_typed_tree.specs.declared.units.TypedUnit.{TypedUnit}
+use Rattle.c_lawful_unit.specs.declared.LawfulUnit.{LawfulUnit}
+use Rattle.suifvm_ir.specs.declared.program.VmProgram.{VmProgram}
 use Rattle.temp_ir.specs.declared.program.TempProgram.{TempProgram}
 use Rattle.alloc_model.specs.declared.allocation.Allocation.{Allocation}
 use Rattle.plain_programs.specs.Allocations.{AreAllocationsOf}
@@ -11,16 +13,27 @@ use Rattle.compile_options.specs.declared.Allocator.{Allocator}
 use Rattle.front_end.specs.Units.{IsUnitWithin}
 use Rattle.compiler.specs.declared.built.AssemblyParts.{AssemblyParts}
 use Rattle.compiler.specs.declared.built.Built.{Built}
+use Rattle.compiler.specs.declared.built.CodeParts.{CodeParts}
 use Rattle.compiler.specs.declared.built.Parts.{Parts}
 use Rattle.compiler.specs.declared.built.Wanted.{Wanted}
 use Rattle.compiler.specs.declared.built.Wanted.TheVariants.{Everything}
 use Rattle.compiler.specs.Made.{Made, AllocatesBy}
-use Rattle.compiler.specs.model.Stages.{IsAssemblyOf}
+use Rattle.compiler.specs.model.Stages.{IsCodeWithin, IsAssemblyOf}
 
 -- a text has this tree, and this is its typed unit, which is within the limits
 pub record UnitHasText (tree : TranslationUnit) (u : TypedUnit) : Type 0 where
   pub text : List ℕ
   pub front : IsUnitWithin text tree u
+
+-- ---- the code
+
+-- there is code of a unit over virtual registers from which this code over temporaries is made; the unit and that code
+-- are kept if everything is wanted
+pub record AreCodePartsOf (u : LawfulUnit) (wanted : Wanted) (p : CodeParts) : Type 0 where
+  pub vm : VmProgram
+  pub code : IsCodeWithin u.unit vm p.temps
+  pub unit : wanted ≡ Everything → p.typed ≡ Some u
+  pub kept : wanted ≡ Everything → p.vm ≡ Some vm
 
 -- ---- the assembly
 

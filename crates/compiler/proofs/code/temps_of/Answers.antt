@@ -1,5 +1,5 @@
 use Rattle.std.proofs.Common.{◌∙◌}
-use Rattle.compiler.proofs.compile.temps_of.Goals as goal
+use Rattle.compiler.proofs.code.temps_of.Goals as goal
 
 pub returns : goal.returns
 returns c = record {
