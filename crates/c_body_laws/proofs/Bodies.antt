@@ -26,10 +26,10 @@ use Rattle.c_judgements.specs.Leaves.{incomplete_struct, tag_named, struct_tagge
 use Rattle.c_judgements.specs.Types.{JudgementState}
 use Rattle.c_expressions.specs.Expressions.{judge}
 use Rattle.c_tag_bodies.specs.declared.members.Members.{Members}
-use Rattle.c_tag_bodies.specs.Enums.{explicit_value, one_above, value_held, constant_meaning, constant_declared, constant_row}
+use Rattle.c_tag_bodies.specs.Enums.{explicit_value, one_above, judge_value_held, constant_meaning, constant_declared, judge_constant_row}
 use Rattle.c_tag_bodies.specs.Members.{no_members, is_member_type, no_member, with_member, with_faulty_member, member_named, member_declared}
 use Rattle.c_tag_bodies.specs.Structs.{DefinedTags, enum_begun, struct_number_of, add_untagged, number_for_tag, no_body, struct_begun, struct_where, tag_name, with_struct, with_untagged, too_large, with_members, finish_struct, struct_ended}
-use Rattle.c_tag_bodies.specs.Bodies.{TagScope, enum_entered, struct_entered, struct_left, type_behind, member_entered, bodies, constants_held, members_held, member_row, declared_type}
+use Rattle.c_tag_bodies.specs.Bodies.{TagScope, enum_entered, struct_entered, struct_left, type_behind, member_entered, bodies, judge_constants_held, judge_members_held, judge_member_row, declared_type}
 use Rattle.c_judgement_laws.specs.Covers.{AreTagsIn, IsTagIn}
 use Rattle.c_expression_laws.specs.Types.{IsTypeIn}
 use Rattle.c_note_laws.specs.Steps.{NoteSteps}
@@ -45,13 +45,13 @@ use Rattle.c_body_laws.proofs.Types.{judge_env, leads_itself, leads_then, leads_
 
 -- ---- enumeration constants
 
-value_leads : (at : ℕ) (value : k.Held-Constant-value) (before : Option (Option ℕ)) (s : JudgementState) → LeadsOn s (value_held at value before s).1
+value_leads : (at : ℕ) (value : k.Held-Constant-value) (before : Option (Option ℕ)) (s : JudgementState) → LeadsOn s (judge_value_held at value before s).1
 value_leads at k.Constant-value-None' None s = leads_itself s
 value_leads at k.Constant-value-None' (Some before) s =
-    leads_steps s (value_held at k.Constant-value-None' (Some before) s).1 refl (each_adds before (one_above at) s.1 (λ word. ruled (next_value at word) s.1))
+    leads_steps s (judge_value_held at k.Constant-value-None' (Some before) s).1 refl (each_adds before (one_above at) s.1 (λ word. ruled (next_value at word) s.1))
 value_leads at (k.Constant-value-Some' x) before s =
     let a = judge x s in
-    leads_steps s (value_held at (k.Constant-value-Some' x) before s).1 (judge_env x s)
+    leads_steps s (judge_value_held at (k.Constant-value-Some' x) before s).1 (judge_env x s)
     (NoteSteps.Follows (judge_adds x s) (each_adds a.0 explicit_value a.1.1 (λ v. ruled (given_value v) a.1.1)))
 
 constant_named : (name : List ℕ) (value : Option ℕ) (s : JudgementState) → LeadsOn s (with_meaning name (constant_meaning value) s.0, s.1)
@@ -65,11 +65,11 @@ constant_leads at name value s = choose (stands_here s.0 (find name s.0.names))
     choose true = leads_steps s (s.0, with_fault at Redeclared s.1) refl (NoteSteps.AddsFault at Redeclared)
     choose false = constant_named name value s
 
-constants_lead : {m : _} (xs : k.Row_of-Constant m) (before : Option (Option ℕ)) (s : JudgementState) → LeadsOn s (constant_row xs before s)
-unfolding constant_row
+constants_lead : {m : _} (xs : k.Row_of-Constant m) (before : Option (Option ℕ)) (s : JudgementState) → LeadsOn s (judge_constant_row xs before s)
+unfolding judge_constant_row
 constants_lead k.end_of-Constant before s = leads_itself s
 constants_lead (k.more_of-Constant at name value rest) before s =
-    let v = value_held at value before s in
+    let v = judge_value_held at value before s in
     let u = constant_declared at name v.0 v.1 in
     leads_then s v.1 _ (value_leads at value before s) (leads_then v.1 u _ (constant_leads at name v.0 v.1) (constants_lead rest (Some v.0) u))
 
@@ -318,19 +318,19 @@ mutual
   bodies_lead (t.Array' _ (k.more_of-TypeNode x k.end_of-TypeNode) size) s = bodies_lead x s
   bodies_lead (t.Takes' _ (k.more_of-TypeNode x k.end_of-TypeNode) _ parameters) s = bodies_lead x s
 
-  constants_held_lead : (at : ℕ) (tag : Option (List ℕ)) (held : k.Held-TypeNode-Enum-2) (s : TagScope) → LeadsOn s.1 (constants_held at tag held s).1
+  constants_held_lead : (at : ℕ) (tag : Option (List ℕ)) (held : k.Held-TypeNode-Enum-2) (s : TagScope) → LeadsOn s.1 (judge_constants_held at tag held s).1
   constants_held_lead at tag k.TypeNode-Enum-2-None' s = leads_itself s.1
   constants_held_lead at tag (k.TypeNode-Enum-2-Some' _ constants) s =
       let u = enum_entered at tag s in
       leads_then s.1 u _ (enum_leads s.0 at tag s.1) (constants_lead constants None u)
 
-  members_held_lead : (at : ℕ) (tag : Option (List ℕ)) (held : k.Held-TypeNode-Struct-2) (s : TagScope) → LeadsOn s.1 (members_held at tag held s).1
+  members_held_lead : (at : ℕ) (tag : Option (List ℕ)) (held : k.Held-TypeNode-Struct-2) (s : TagScope) → LeadsOn s.1 (judge_members_held at tag held s).1
   members_held_lead at tag k.TypeNode-Struct-2-None' s = leads_itself s.1
   members_held_lead at tag (k.TypeNode-Struct-2-Some' _ members) s =
       let start : Members × TagScope = (no_members, (struct_entered at tag s).1) in
-      struct_leads at tag s (member_row members start) (members_lead members start)
+      struct_leads at tag s (judge_member_row members start) (members_lead members start)
 
-  members_lead : {m : _} (xs : k.Row_of-Declaration m) (w : Members × TagScope) → MembersLead w (member_row xs w)
+  members_lead : {m : _} (xs : k.Row_of-Declaration m) (w : Members × TagScope) → MembersLead w (judge_member_row xs w)
   members_lead k.end_of-Declaration w = record { leads = leads_itself w.1.1; types = λ s t. t }
   members_lead (k.more_of-Declaration at name ty rest) w =
       let e = member_entered at name w.0 (type_behind at ty (bodies ty w.1)) in

@@ -74,18 +74,18 @@ next_object false name ty u = u
 next_object true name ty u = set_objects (u.objects ++ record { name = name; ty = ty; cells = [] } ∷ []) u
 
 -- what a name means, if it is an object that the unit defines
-abbrev pub object_by : Option NameMeaning → Option ℕ
-object_by None = None
-object_by (Some m.Faulty) = None
-object_by (Some (m.Undefined number)) = None
-object_by (Some (m.Local number ty)) = None
-object_by (Some (m.Object number ty)) = Some number
-object_by (Some (m.Constant word)) = None
-object_by (Some (m.Function callee result parameters)) = None
-object_by (Some (m.Typedef ty)) = None
+abbrev pub defined_object : Option NameMeaning → Option ℕ
+defined_object None = None
+defined_object (Some m.Faulty) = None
+defined_object (Some (m.Undefined number)) = None
+defined_object (Some (m.Local number ty)) = None
+defined_object (Some (m.Object number ty)) = Some number
+defined_object (Some (m.Constant word)) = None
+defined_object (Some (m.Function callee result parameters)) = None
+defined_object (Some (m.Typedef ty)) = None
 
 abbrev pub object_number : Env → List ℕ → Option ℕ
-object_number env name = object_by (meaning_of env name)
+object_number env name = defined_object (meaning_of env name)
 
 -- an object stands among them from the declaration on that gives it its number
 abbrev pub add_numbered : Option ℕ → List ℕ → CType → UnitSoFar → UnitSoFar

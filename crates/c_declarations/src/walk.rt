@@ -98,8 +98,8 @@ pub(crate) fn check_main(
 }
 
 /// The number of an object that the unit defines.
-fn object_by(meaning: Option<&NameMeaning>) -> Option<u32>
-    ensures { result ≡ spec.object_by (option_copied meaning.entry) }
+fn defined_object(meaning: Option<&NameMeaning>) -> Option<u32>
+    ensures { result ≡ spec.defined_object (option_copied meaning.entry) }
 {
     match meaning {
         None => None,
@@ -119,7 +119,7 @@ fn object_by(meaning: Option<&NameMeaning>) -> Option<u32>
 fn object_at(env: &Env<'_>, name: &[u8]) -> Option<u32>
     ensures { result ≡ spec.object_number env.now name.now }
 {
-    object_by(meaning_of(env, name))
+    defined_object(meaning_of(env, name))
 }
 
 fn add_next(

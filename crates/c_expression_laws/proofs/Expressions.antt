@@ -21,9 +21,9 @@ use Rattle.c_judgements.specs.Leaves.{leaf}
 use Rattle.c_judgements.specs.Types.{JudgementState, in_env, pointer, given_length, array, function, type_named, parameter_declared}
 use Rattle.c_primary_rules.specs.Primary.{integer_constant, character_constant}
 use Rattle.c_checks.specs.Checks.{note_fault}
-use Rattle.c_expressions.specs.Expressions.{judge, judge_row, derive, length_held, parameter_row}
+use Rattle.c_expressions.specs.Expressions.{judge, judge_row, derive, judge_length_held, judge_parameter_row}
 use Rattle.c_tree.specs.declared.types.TypeName.{TypeName}
-use Rattle.c_expressions.specs.Expressions.{type_name}
+use Rattle.c_expressions.specs.Expressions.{judge_type_name}
 use Rattle.c_type_laws.specs.Typed.{IsFitType, IsTypedIn}
 use Rattle.c_judgement_laws.specs.Covers.{HasNames, Knows, Takes, IsLawfulContext, IsJudged, AreJudged}
 use Rattle.c_judgement_laws.proofs.Notes.{Later, later_then, found_itself, found_later}
@@ -149,13 +149,13 @@ module _ (c : Context) (lawful : IsLawfulContext c) where
         let r = derive at x of s in
         walk_one c names (IsFoundType c) (IsFoundType c) s r.0 r.1 (pointer at) (derive_walks names at x of s d f) (λ a l. pointer_found c names at a r.1.1 l)
     derive_walks names at (t.Array' _ (k.more_of-TypeNode x k.end_of-TypeNode) size) of s d f =
-        let count = length_held size s in
+        let count = judge_length_held size s in
         let one = length_walks names size s in
         let r = derive at x of count.1 in
         let two = derive_walks names at x of count.1 (typedefs_after names IsLength s count one d) (λ v k. f v (one.notes.knows k)) in
         walk_two c names IsLength (IsFoundType c) (IsFoundType c) s count.0 count.1 r.0 r.1 (array at) (λ taken later a back l. l) one two (λ a b l m. array_found c names at a b r.1.1 m)
     derive_walks names at (t.Takes' _ (k.more_of-TypeNode x k.end_of-TypeNode) _ list) of s d f =
-        let row = parameter_row list (Some []) (enter s.0, s.1) in
+        let row = judge_parameter_row list (Some []) (enter s.0, s.1) in
         let declares = parameter_row_walks names list (Some []) (enter s.0, s.1) d (λ v k. tt) in
         let outer : JudgementState = (leave s.0.outside row.1.0, row.1.1) in
         let one : Walks c names (AreParameters c) s (row.0, outer) = record { env = left s.0 row.1.0 declares.env; notes = declares.notes } in
@@ -163,7 +163,7 @@ module _ (c : Context) (lawful : IsLawfulContext c) where
         let two = derive_walks names at x of outer (typedefs_after names (AreParameters c) s (row.0, outer) one d) (λ v k. f v (declares.notes.knows k)) in
         walk_two c names (AreParameters c) (IsFoundType c) (IsFoundType c) s row.0 outer r.0 r.1 (function at) (λ taken later a back l. l) one two (λ a b l m. function_found c names at a b r.1.1 l m)
 
-    length_walks : (names : Type 0) (size : k.Held-TypeNode-Array-1) (s : JudgementState) → Walks c names IsLength s (length_held size s)
+    length_walks : (names : Type 0) (size : k.Held-TypeNode-Array-1) (s : JudgementState) → Walks c names IsLength s (judge_length_held size s)
     length_walks names k.TypeNode-Array-1-None' s = record { env = refl; notes = found_itself c names IsLength s.1 None (λ v k. tt) }
     length_walks names (k.TypeNode-Array-1-Some' _ (k.more_of-Expr x k.end_of-Expr)) s =
         let r = judge x s in
@@ -171,7 +171,7 @@ module _ (c : Context) (lawful : IsLawfulContext c) where
         (walk_any c names (IsJudged c) s r.0 r.1 (judge_walks ⊥ x s (λ v. absurd v) (λ v. absurd v))) (λ a f. given_found c names (length_value a) r.1.1)
 
     pub parameter_row_walks : (names : Type 0) {m : _} (xs : k.Row_of-Parameter m) (found : Option (List CType)) (s : JudgementState) → (names → HasTypedefs c s.0.names)
-        → (names → Knows c s.1 → IfSome found (AreTypes c.structs)) → Declares c names (AreParameters c) s (parameter_row xs found s)
+        → (names → Knows c s.1 → IfSome found (AreTypes c.structs)) → Declares c names (AreParameters c) s (judge_parameter_row xs found s)
     parameter_row_walks names k.end_of-Parameter found s d f = record {
       env = extends_same s.0 s.0 refl;
       typedefs = λ h. h;
@@ -189,7 +189,7 @@ module _ (c : Context) (lawful : IsLawfulContext c) where
         let more = parameter_row_walks names rest (append_part found named.0) named.1
         (λ v. declared.typedefs (typedefs_after names (IsFoundType c) (s.0, specified.1) r walk d v))
         (λ v k. parameter_more c found named.0 (f v (behind.knows k)) (declared.notes.found v k)) in
-        let final = parameter_row rest (append_part found named.0) named.1 in
+        let final = judge_parameter_row rest (append_part found named.0) named.1 in
         record {
           env = extends_then s.0 named.1.0 final.1.0 (extends_then s.0 r.1.0 named.1.0 (extends_same s.0 r.1.0 walk.env) declared.env) more.env;
           typedefs = λ h. more.typedefs (declared.typedefs (subst (λ (env : Env). HasTypedefs c env.names) (sym walk.env) h));
@@ -198,7 +198,7 @@ module _ (c : Context) (lawful : IsLawfulContext c) where
 
   -- ---- the laws
 
-  pub type_name_walks : (names : Type 0) (name : TypeName) (s : JudgementState) → (names → HasTypedefs c s.0.names) → Walks c names (λ taken x. IsFitType c x) s (type_name name s)
+  pub type_name_walks : (names : Type 0) (name : TypeName) (s : JudgementState) → (names → HasTypedefs c s.0.names) → Walks c names (λ taken x. IsFitType c x) s (judge_type_name name s)
   type_name_walks names name s d =
       let specified = leaf s.0 name.at name.ty s.1 in
       let specifier = leaf_found c names s.0 name.at name.ty s.1 d in

@@ -6,7 +6,7 @@ use Rattle.c_tree.specs.declared.types.TypeNode as t
 use Rattle.c_typed_tree.specs.Typing.{Context}
 use Rattle.c_declared_types.specs.declared.declared.DeclaredType.{DeclaredType}
 use Rattle.c_judgements.specs.Types.{JudgementState}
-use Rattle.c_expressions.specs.Expressions.{judge, derive, type_name}
+use Rattle.c_expressions.specs.Expressions.{judge, derive, judge_type_name}
 use Rattle.c_type_laws.specs.Typed.{IsTypedIn, IsFitType}
 use Rattle.c_judgement_laws.specs.Covers.{HasNames, Knows, Takes, IsLawfulContext, IsJudged}
 use Rattle.c_expression_laws.specs.Types.{IsTypeIn, HasTypedefs}
@@ -34,7 +34,7 @@ ExpressionWalks =
 abbrev pub TypeNameIsFit : Type 0
 TypeNameIsFit =
     (c : Context) → IsLawfulContext c → (name : TypeName) (s : JudgementState) →
-    Walks c (HasScope c s) (λ taken ty. IsFitType c ty) s (type_name name s)
+    Walks c (HasScope c s) (λ taken ty. IsFitType c ty) s (judge_type_name name s)
 
 -- a declarator makes a type of one
 abbrev pub DeclaratorGivesType : Type 0

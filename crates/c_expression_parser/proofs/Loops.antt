@@ -19,7 +19,7 @@ use Rattle.c_grammar.specs.Tokens.{TypeNames, is_mark, is_keyword, is_text, kind
 use Rattle.c_grammar.specs.Levels as levels
 use Rattle.c_grammar.specs.Parser.{ParseOutcome, Parser, and_then, ◌>>=◌, pure, expect, consts}
 use Rattle.c_expression_parser.specs.model.Suffixes.{array_length}
-use Rattle.c_grammar.specs.ParseExpr.{texts_from, list_from, words_from, extend, start_of, word_or_end, climb, step_by, suffixes, length_of, parameters}
+use Rattle.c_grammar.specs.ParseExpr.{texts_from, list_from, words_from, extend, start_of, word_or_end, climb, step_by, suffixes, length_behind, parameters_behind}
 
 -- a step down of a number that counts the turns left
 pub turn : {X : Type 0} (f : ℕ → X) (n at : ℕ) → at < n → f (n - at) ≡ f (suc (n - (at + 1)))
@@ -85,8 +85,8 @@ then_then (Err r) f g = refl
 
 -- the length of an array is read, and then the shape is put behind the others
 length_by : (s : TypeNames) (e : ℕ → Parser Expr) (d : Naming → Parser Declarator) (found : Declarator) (ts : List Lexeme)
-    → length_of s e d found ts ≡ and_then (array_length e ts) (λ x. pure (with_shape found (h.Array x)))
-unfolding length_of array_length
+    → length_behind s e d found ts ≡ and_then (array_length e ts) (λ x. pure (with_shape found (h.Array x)))
+unfolding length_behind array_length
 length_by s e d found ts = by_test (is_mark p.RightBracket (kind_at ts))
   where
     over : (o : ParseOutcome Expr) → and_then o (λ x. expect p.RightBracket >>= λ _. pure (with_shape found (h.Array (Some x))))
@@ -101,15 +101,15 @@ length_by s e d found ts = by_test (is_mark p.RightBracket (kind_at ts))
 
 suffixes_more : (s : TypeNames) (e : ℕ → Parser Expr) (d : Naming → Parser Declarator) (n : ℕ) (found : Declarator) (ts : List Lexeme)
     → suffixes s e d (suc n) found ts ≡ (if is_mark p.LeftBracket (kind_at ts) then and_then (array_length e (token_tail ts)) (λ x. suffixes s e d n (with_shape found (h.Array x)))
-    else if is_mark p.LeftParen (kind_at ts) then and_then (parameters s e d (token_tail ts)) (λ xs. suffixes s e d n (with_shape found (h.Takes (without_void xs))))
+    else if is_mark p.LeftParen (kind_at ts) then and_then (parameters_behind s e d (token_tail ts)) (λ xs. suffixes s e d n (with_shape found (h.Takes (without_void xs))))
     else Ok (found, ts))
 unfolding suffixes
-suffixes_more s e d n found ts = ap (λ o. if is_mark p.LeftBracket (kind_at ts) then o else if is_mark p.LeftParen (kind_at ts) then and_then (parameters s e d (token_tail ts)) (λ xs. suffixes s e d n (with_shape found (h.Takes (without_void xs)))) else Ok (found, ts))
+suffixes_more s e d n found ts = ap (λ o. if is_mark p.LeftBracket (kind_at ts) then o else if is_mark p.LeftParen (kind_at ts) then and_then (parameters_behind s e d (token_tail ts)) (λ xs. suffixes s e d n (with_shape found (h.Takes (without_void xs)))) else Ok (found, ts))
     (ap (λ o. and_then o (suffixes s e d n)) (length_by s e d found (token_tail ts)) ∙ sym (then_then (array_length e (token_tail ts)) (λ x. pure (with_shape found (h.Array x))) (suffixes s e d n)))
 
 pub suffixes_turn : (s : TypeNames) (e : ℕ → Parser Expr) (d : Naming → Parser Declarator) (n at : ℕ) (found : Declarator) (ts : List Lexeme) → at < n
     → suffixes s e d (n - at) found ts ≡ (if is_mark p.LeftBracket (kind_at ts) then and_then (array_length e (token_tail ts)) (λ x. suffixes s e d (n - (at + 1)) (with_shape found (h.Array x)))
-    else if is_mark p.LeftParen (kind_at ts) then and_then (parameters s e d (token_tail ts)) (λ xs. suffixes s e d (n - (at + 1)) (with_shape found (h.Takes (without_void xs))))
+    else if is_mark p.LeftParen (kind_at ts) then and_then (parameters_behind s e d (token_tail ts)) (λ xs. suffixes s e d (n - (at + 1)) (with_shape found (h.Takes (without_void xs))))
     else Ok (found, ts))
 suffixes_turn s e d n at found ts below = turn (λ m. suffixes s e d m found ts) n at below ∙ suffixes_more s e d (n - (at + 1)) found ts
 

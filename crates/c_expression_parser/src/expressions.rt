@@ -11,7 +11,7 @@ ghost use Rattle.c_expression_parser.specs.Answers.{Answers};
 ghost use Rattle.c_expression_parser.specs.model.Suffixes as suffixes;
 
 use crate::cursor::{ParseStop, Tokens};
-use crate::parts::{core_name, member, no_name, texts};
+use crate::parts::{core_name, member_name, no_name, texts};
 use crate::scope::TypedefScope;
 use crate::specifiers::plain;
 use c_grammar::levels::{self, binding_level, level_of, operand_level, result_level};
@@ -131,14 +131,14 @@ fn parameter_list(
 
 /// Reads parameters behind their bracket, up to the one that closes it.
 #[cycle(expr)]
-#[tactic(auto, unfolding(c_grammar::specs::ParseExpr::parameters))]
-fn parameters(
+#[tactic(auto, unfolding(c_grammar::specs::ParseExpr::parameters_behind))]
+fn parameters_behind(
     alloc: Global,
     scope: &TypedefScope,
     tokens: &mut Tokens<'_>,
     depth: usize,
 ) -> Result<Seq<Parameter>, ParseStop>
-    ensures { Answers (model.parameters scope.now (model.expr scope.now depth)
+    ensures { Answers (model.parameters_behind scope.now (model.expr scope.now depth)
         (model.declarator scope.now depth) tokens.old) result tokens.new }
 {
     if tokens.sees(Punct::RightParen) {
@@ -151,14 +151,14 @@ fn parameters(
 
 /// Reads the arguments of a call behind the bracket, up to the one that closes it.
 #[cycle(expr)]
-#[tactic(auto, unfolding(c_grammar::specs::ParseExpr::arguments))]
-fn arguments(
+#[tactic(auto, unfolding(c_grammar::specs::ParseExpr::arguments_behind))]
+fn arguments_behind(
     alloc: Global,
     scope: &TypedefScope,
     tokens: &mut Tokens<'_>,
     depth: usize,
 ) -> Result<Seq<Expr>, ParseStop>
-    ensures { Answers (model.arguments scope.now (model.expr scope.now depth)
+    ensures { Answers (model.arguments_behind scope.now (model.expr scope.now depth)
         (model.declarator scope.now depth) tokens.old) result tokens.new }
 {
     if tokens.sees(Punct::RightParen) {
@@ -187,7 +187,7 @@ fn behind_name(
         return Ok((Expr::Name { at, name }, levels::PRIMARY));
     }
     tokens.take();
-    let arguments = arguments(alloc, scope, tokens, depth)?;
+    let arguments = arguments_behind(alloc, scope, tokens, depth)?;
     Ok((
         Expr::Call {
             at,
@@ -235,15 +235,15 @@ fn brackets_behind(
 
 /// Reads the type of a `sizeof`, behind the bracket.
 #[cycle(expr)]
-#[tactic(auto, unfolding(c_grammar::specs::ParseExpr::size_of_type))]
-fn size_of_type(
+#[tactic(auto, unfolding(c_grammar::specs::ParseExpr::sizeof_type_name))]
+fn sizeof_type_name(
     alloc: Global,
     scope: &TypedefScope,
     tokens: &mut Tokens<'_>,
     depth: usize,
     at: u32,
 ) -> Result<(Expr, u8), ParseStop>
-    ensures { Answers (model.size_of_type scope.now (model.expr scope.now depth)
+    ensures { Answers (model.sizeof_type_name scope.now (model.expr scope.now depth)
         (model.declarator scope.now depth) at tokens.old) result tokens.new }
 {
     let operand = Box::new(alloc, type_name(alloc, scope, tokens, depth)?)?;
@@ -255,15 +255,15 @@ fn size_of_type(
 
 /// Reads the operand of a `sizeof`, which is no type in brackets.
 #[cycle(expr)]
-#[tactic(auto, unfolding(c_grammar::specs::ParseExpr::size_of_value))]
-fn size_of_value(
+#[tactic(auto, unfolding(c_grammar::specs::ParseExpr::sizeof_unary))]
+fn sizeof_unary(
     alloc: Global,
     scope: &TypedefScope,
     tokens: &mut Tokens<'_>,
     depth: usize,
     at: u32,
 ) -> Result<(Expr, u8), ParseStop>
-    ensures { Answers (model.size_of_value scope.now (model.expr scope.now depth)
+    ensures { Answers (model.sizeof_unary scope.now (model.expr scope.now depth)
         (model.declarator scope.now depth) at tokens.old) result tokens.new }
 {
     let operand = Box::new(alloc, expr(alloc, scope, tokens, depth, levels::UNARY)?)?;
@@ -272,21 +272,21 @@ fn size_of_value(
 
 /// Reads what stands behind `sizeof`.
 #[cycle(expr)]
-fn size_of(
+fn sizeof_behind(
     alloc: Global,
     scope: &TypedefScope,
     tokens: &mut Tokens<'_>,
     depth: usize,
     at: u32,
 ) -> Result<(Expr, u8), ParseStop>
-    ensures { Answers (model.size_of scope.now (model.expr scope.now depth)
+    ensures { Answers (model.sizeof_behind scope.now (model.expr scope.now depth)
         (model.declarator scope.now depth) at tokens.old) result tokens.new }
 {
     if tokens.sees(Punct::LeftParen) && scope.begins_type(&tokens.behind()) {
         tokens.take();
-        size_of_type(alloc, scope, tokens, depth, at)
+        sizeof_type_name(alloc, scope, tokens, depth, at)
     } else {
-        size_of_value(alloc, scope, tokens, depth, at)
+        sizeof_unary(alloc, scope, tokens, depth, at)
     }
 }
 
@@ -396,7 +396,7 @@ fn operand(
         }
         Prefix::SizeOf => {
             tokens.take();
-            size_of(alloc, scope, tokens, depth, at)
+            sizeof_behind(alloc, scope, tokens, depth, at)
         }
         Prefix::Nothing => Err(ParseStop::Refused),
     }
@@ -420,7 +420,7 @@ fn step(
     match kind {
         Infix::Index => index(alloc, scope, tokens, depth, at, left),
         Infix::Field => {
-            let name = member(alloc, tokens)?;
+            let name = member_name(alloc, tokens)?;
             Ok(Expr::Field {
                 at,
                 operand: left,
@@ -428,7 +428,7 @@ fn step(
             })
         }
         Infix::Arrow => {
-            let name = member(alloc, tokens)?;
+            let name = member_name(alloc, tokens)?;
             Ok(Expr::Arrow {
                 at,
                 operand: left,
@@ -634,7 +634,7 @@ fn suffixes(
             found = with_shape(found, Shape::Array(length))?;
         } else if tokens.sees(Punct::LeftParen) {
             tokens.take();
-            let parameters = parameters(alloc, scope, tokens, depth)?;
+            let parameters = parameters_behind(alloc, scope, tokens, depth)?;
             found = with_shape(found, Shape::Takes(without_void(alloc, parameters)))?;
         } else {
             return Ok(found);

@@ -28,9 +28,9 @@ pub fn texts(alloc: Global, tokens: &mut Tokens<'_>) -> Result<Seq<Name>, ParseS
 }
 
 /// Reads the name of a member.
-#[tactic(auto, unfolding(c_grammar::specs::ParseExpr::member))]
-pub fn member(alloc: Global, tokens: &mut Tokens<'_>) -> Result<Name, ParseStop>
-    ensures { Answers (model.member tokens.old) result tokens.new }
+#[tactic(auto, unfolding(c_grammar::specs::ParseExpr::member_name))]
+pub fn member_name(alloc: Global, tokens: &mut Tokens<'_>) -> Result<Name, ParseStop>
+    ensures { Answers (model.member_name tokens.old) result tokens.new }
 {
     if !tokens.sees_name() {
         return Err(ParseStop::Refused);

@@ -13,7 +13,7 @@ use Rattle.c_checks.specs.Scopes.{enter, leave, meaning_of}
 use Rattle.c_judgements.specs.Operators.{commas}
 use Rattle.c_judgements.specs.Calls.{call_by_meaning}
 use Rattle.c_judgements.specs.Types.{JudgementState, in_env, array, function}
-use Rattle.c_expressions.specs.Expressions.{judge, judge_row, derive, parameter_row}
+use Rattle.c_expressions.specs.Expressions.{judge, judge_row, derive, judge_parameter_row}
 use Rattle.c_expressions.specs.model.Parts.{one_parameter, optional_length}
 use Rattle.c_expressions.specs.model.Opens.{opens}
 
@@ -25,13 +25,13 @@ judge_row_is m (k.more_of-Expr x xs) found s = judge_row_is _ xs (append_part fo
 pub judge_row-hidden : (xs : List e.Expr) (found : Option (List TypedExpression)) (s : JudgementState) → judge_row (k.hidden-the_row-Expr-0 xs) found s ≡ walk judge xs found s
 judge_row-hidden xs found s = judge_row_is _ (k.hidden-the_row-Expr-0 xs) found s ∙ ap (λ l. walk judge l found s) (k.items_hidden-the_row-Expr-0 xs)
 
-parameter_row_is : (m : Count) (xs : k.Row_of-Parameter m) (found : Option (List CType)) (s : JudgementState) → parameter_row xs found s ≡ walk one_parameter (k.items-the_row-Parameter m xs) found s
+parameter_row_is : (m : Count) (xs : k.Row_of-Parameter m) (found : Option (List CType)) (s : JudgementState) → judge_parameter_row xs found s ≡ walk one_parameter (k.items-the_row-Parameter m xs) found s
 unfolding judge
 parameter_row_is m k.end_of-Parameter found s = refl
 parameter_row_is m (k.more_of-Parameter at name ty rest) found s =
     parameter_row_is _ rest (append_part found (one_parameter (record { at = at; name = name; ty = ty }) s).0) (one_parameter (record { at = at; name = name; ty = ty }) s).1
 
-pub parameter_row-hidden : (xs : List Parameter) (found : Option (List CType)) (s : JudgementState) → parameter_row (k.hidden-the_row-Parameter-6 xs) found s ≡ walk one_parameter xs found s
+pub parameter_row-hidden : (xs : List Parameter) (found : Option (List CType)) (s : JudgementState) → judge_parameter_row (k.hidden-the_row-Parameter-6 xs) found s ≡ walk one_parameter xs found s
 parameter_row-hidden xs found s = parameter_row_is _ (k.hidden-the_row-Parameter-6 xs) found s ∙ ap (λ l. walk one_parameter l found s) (k.items_hidden-the_row-Parameter-6 xs)
 
 -- ---- forms with lists, as code sees them

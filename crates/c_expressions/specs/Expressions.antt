@@ -76,28 +76,28 @@ unfoldable mutual
   derive at (t.Pointer' _ (k.more_of-TypeNode x k.end_of-TypeNode)) of s =
       and_then (derive at x of s) (λ ty u. in_env u.0 (each ty (pointer at) u.1))
   derive at (t.Array' _ (k.more_of-TypeNode x k.end_of-TypeNode) length) of s =
-      and_then (length_held length s) (λ count u. and_then (derive at x of u) (λ ty v.
+      and_then (judge_length_held length s) (λ count u. and_then (derive at x of u) (λ ty v.
       in_env v.0 (both_parts count ty (array at) v.1)))
   derive at (t.Takes' _ (k.more_of-TypeNode x k.end_of-TypeNode) _ list) of s =
-      and_then (parameter_row list (Some []) (enter s.0, s.1)) (λ found u.
+      and_then (judge_parameter_row list (Some []) (enter s.0, s.1)) (λ found u.
       and_then (derive at x of (leave s.0.outside u.0, u.1))
       (λ ty v. in_env v.0 (both_parts found ty (function at) v.1)))
 
-  pub length_held : k.Held-TypeNode-Array-1 → JudgementState → Option (Option ℕ) × JudgementState
-  length_held k.TypeNode-Array-1-None' s = (Some None, s)
-  length_held (k.TypeNode-Array-1-Some' _ (k.more_of-Expr x k.end_of-Expr)) s =
+  pub judge_length_held : k.Held-TypeNode-Array-1 → JudgementState → Option (Option ℕ) × JudgementState
+  judge_length_held k.TypeNode-Array-1-None' s = (Some None, s)
+  judge_length_held (k.TypeNode-Array-1-Some' _ (k.more_of-Expr x k.end_of-Expr)) s =
       and_then (judge x s) (λ a u. in_env u.0 (each a given_length u.1))
 
   -- the parameters of a list, whose names are declared as they come
-  pub parameter_row : {m : _} → k.Row_of-Parameter m → Option (List CType) → JudgementState →
+  pub judge_parameter_row : {m : _} → k.Row_of-Parameter m → Option (List CType) → JudgementState →
       Option (List CType) × JudgementState
-  parameter_row k.end_of-Parameter found s = (found, s)
-  parameter_row (k.more_of-Parameter at name ty rest) found s =
+  judge_parameter_row k.end_of-Parameter found s = (found, s)
+  judge_parameter_row (k.more_of-Parameter at name ty rest) found s =
       and_then (and_then (in_env s.0 (leaf s.0 at ty s.1)) (λ of u. and_then (derive at ty of u) (λ r.
-      parameter_declared at name r))) (λ r. parameter_row rest (append_part found r))
+      parameter_declared at name r))) (λ r. judge_parameter_row rest (append_part found r))
 
 -- a type name: the type of its specifier, and what its declarator makes of it
-abbrev pub type_name : TypeName → JudgementState → Option DeclaredType × JudgementState
-type_name name s =
+abbrev pub judge_type_name : TypeName → JudgementState → Option DeclaredType × JudgementState
+judge_type_name name s =
     and_then (in_env s.0 (leaf s.0 name.at name.ty s.1)) (λ of u. and_then (derive name.at name.ty of u) (λ r v.
     in_env v.0 (each r (type_named name.at) v.1)))

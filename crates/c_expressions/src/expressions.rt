@@ -83,7 +83,7 @@ pub fn judge<'a>(
             choice(alloc, notes, *at, c, a, b)
         }
         Expr::Cast { at, to, operand } => {
-            let to = type_name(alloc, to, env, notes)?;
+            let to = judge_type_name(alloc, to, env, notes)?;
             let a = judge(alloc, operand, env, notes)?;
             cast(alloc, notes, *at, to, a)
         }
@@ -94,7 +94,7 @@ pub fn judge<'a>(
             size_of_value(alloc, notes, *at, a)
         }
         Expr::SizeOfType { at, operand } => {
-            let of = type_name(alloc, operand, env, notes)?;
+            let of = judge_type_name(alloc, operand, env, notes)?;
             size_of_name(alloc, notes, *at, of)
         }
         Expr::Index { at, left, right } => {
@@ -233,13 +233,13 @@ pub fn derive<'a>(
 
 /// Judges a type name.
 #[cycle(expression)]
-pub fn type_name<'a>(
+pub fn judge_type_name<'a>(
     alloc: Global,
     name: &'a TypeName,
     env: &mut Env<'a>,
     notes: &mut Notes<'a>,
 ) -> Result<Option<DeclaredType>, AllocError>
-    ensures { Finds (spec.type_name name.now (env.old, notes.old)) result (env.new, notes.new) }
+    ensures { Finds (spec.judge_type_name name.now (env.old, notes.old)) result (env.new, notes.new) }
 {
     let of = leaf(alloc, &name.ty, env, notes, name.at)?;
     let ty = derive(alloc, &name.ty, env, notes, name.at, of)?;

@@ -7,4 +7,4 @@
 
 mod expressions;
 
-pub use expressions::{derive, judge, judges, type_name};
+pub use expressions::{derive, judge, judge_type_name, judges};

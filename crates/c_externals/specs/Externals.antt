@@ -117,9 +117,10 @@ function_typed ds e storage end (Some ty) w = external_function ds e storage end
 -- ---- the type of each comes first
 
 -- what follows a type with the bodies in it
-abbrev pub behind_type : UnitSoFar → Option DeclaredType × TagScope → (Option DeclaredType → UnitWalk → UnitWalk) →
+abbrev pub external_behind_type : UnitSoFar → Option DeclaredType × TagScope →
+    (Option DeclaredType → UnitWalk → UnitWalk) →
     UnitSoFar × TagScope
-behind_type u r rest = ((rest r.0 (u, r.1.1)).0, (r.1.0, (rest r.0 (u, r.1.1)).1))
+external_behind_type u r rest = ((rest r.0 (u, r.1.1)).0, (r.1.0, (rest r.0 (u, r.1.1)).1))
 
 abbrev pub declarator_type : Declaration → TagScope → Option DeclaredType × TagScope
 declarator_type e s = declared_type e.at e.ty s
@@ -129,10 +130,10 @@ abbrev pub tags_declared : UnitSoFar → Option DeclaredType × TagScope → Uni
 tags_declared u r = (u, r.1)
 
 abbrev pub walk_external : Definitions → External → UnitSoFar × TagScope → UnitSoFar × TagScope
-walk_external ds (x.Typedef e) s = behind_type s.0 (declarator_type e s.1) (typedef_declared ds e.at e.name)
-walk_external ds (x.Object e storage init) s = behind_type s.0 (declarator_type e s.1)
+walk_external ds (x.Typedef e) s = external_behind_type s.0 (declarator_type e s.1) (typedef_declared ds e.at e.name)
+walk_external ds (x.Object e storage init) s = external_behind_type s.0 (declarator_type e s.1)
     (object_with ds e.at e.name storage init)
-walk_external ds (x.Function e storage end) s = behind_type s.0 (declarator_type e s.1)
+walk_external ds (x.Function e storage end) s = external_behind_type s.0 (declarator_type e s.1)
     (function_typed ds e storage end)
 walk_external ds (x.Tags storage ty) s = tags_declared s.0 (declared_type 0 ty s.1)
 

@@ -18,7 +18,7 @@ use Rattle.c_judgements.specs.Leaves.{leaf}
 use Rattle.c_judgements.specs.Operators.{apply_prefix, binary_check, assignment_check, subscript_check, cast_check, size_of_value, size_of_name, postfix_check}
 use Rattle.c_judgements.specs.Members.{field_named, arrow_named}
 use Rattle.c_judgements.specs.Types.{JudgementState, in_env, pointer, given_length, array, function, type_named, parameter_declared}
-use Rattle.c_expressions.specs.Expressions.{judge, judge_row, derive, length_held, parameter_row}
+use Rattle.c_expressions.specs.Expressions.{judge, judge_row, derive, judge_length_held, judge_parameter_row}
 use Rattle.c_found_laws.specs.Laws.{Tells, IsFound, YieldsFound}
 use Rattle.c_found_laws.proofs.Forms.{tells_none, tells_as, tells_then, tells_both, tells_kept, ruled, each_tells, both_tells, each_under, both_under, append_found, prefix_tells, choice_tells, commas_tells, name_tells, string_tells, call_tells, field_tells, arrow_tells, leaf_tells, there_tells, type_named_tells, parameter_tells, left_tells}
 
@@ -104,18 +104,18 @@ mutual
       let r = derive at x of s in
       each_under r.1.0 s (IsFound of) r.0 (pointer at) r.1.1 (derive_tells at x of s) (λ a. there_tells r.1.0 at _ r.1.1)
   derive_tells at (t.Array' _ (k.more_of-TypeNode x k.end_of-TypeNode) size) of s =
-      let count = length_held size s in let r = derive at x of count.1 in
+      let count = judge_length_held size s in let r = derive at x of count.1 in
       both_under r.1.0 s (IsFound of) count.0 r.0 (array at) r.1.1 (tells_then s count.1 r.1 (length_held_tells size s) (derive_tells at x of count.1)) (λ a b. there_tells r.1.0 at _ r.1.1)
   derive_tells at (t.Takes' _ (k.more_of-TypeNode x k.end_of-TypeNode) _ list) of s =
-      let row = parameter_row list (Some []) (enter s.0, s.1) in let outer : JudgementState = (leave s.0.outside row.1.0, row.1.1) in let r = derive at x of outer in
+      let row = judge_parameter_row list (Some []) (enter s.0, s.1) in let outer : JudgementState = (leave s.0.outside row.1.0, row.1.1) in let r = derive at x of outer in
       both_under r.1.0 s (IsFound of) row.0 r.0 (function at) r.1.1
       (tells_then s outer r.1 (left_tells s row.1 (parameters_tell list (Some []) (enter s.0, s.1) (enter s.0, s.1) (tells_none (enter s.0, s.1) refl))) (derive_tells at x of outer)) (λ a b. there_tells r.1.0 at _ r.1.1)
 
-  length_held_tells : (size : k.Held-TypeNode-Array-1) (s : JudgementState) → YieldsFound s (length_held size s)
+  length_held_tells : (size : k.Held-TypeNode-Array-1) (s : JudgementState) → YieldsFound s (judge_length_held size s)
   length_held_tells k.TypeNode-Array-1-None' s = tells_none s refl
   length_held_tells (k.TypeNode-Array-1-Some' _ (k.more_of-Expr x k.end_of-Expr)) s = one_part s (judge x s) given_length (judge_tells x s) length_tells
 
-  parameters_tell : {m : _} (xs : k.Row_of-Parameter m) (found : Option (List CType)) (s u : JudgementState) → Tells (IsFound found) s u → YieldsFound s (parameter_row xs found u)
+  parameters_tell : {m : _} (xs : k.Row_of-Parameter m) (found : Option (List CType)) (s u : JudgementState) → Tells (IsFound found) s u → YieldsFound s (judge_parameter_row xs found u)
   parameters_tell k.end_of-Parameter found s u h = h
   parameters_tell (k.more_of-Parameter at name ty rest) found s u h =
       let l = leaf u.0 at ty u.1 in let r = derive at ty l.0 (u.0, l.1) in let named = parameter_declared at name r.0 r.1 in

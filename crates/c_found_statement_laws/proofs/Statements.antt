@@ -18,7 +18,7 @@ use Rattle.c_statement_rules.specs.Labels.{no_labels}
 use Rattle.c_statement_rules.specs.Locals.{BodyState}
 use Rattle.c_statement_rules.specs.Forms.{if_else, while_loop, do_loop, for_loop, switch, section_under, switch_type}
 use Rattle.c_statements.specs.Parts.{condition_of, full_value, operand_of, optional_condition, optional_value, local_of, first_of, label_of}
-use Rattle.c_statements.specs.Statements.{SwitchState, in_scope, beside_locals, statement, statement_row, else_held, section_row}
+use Rattle.c_statements.specs.Statements.{SwitchState, in_scope, beside_locals, statement, statement_row, else_held, judge_section_row}
 use Rattle.c_found_laws.specs.Laws.{Tells, IsFound}
 use Rattle.c_found_laws.proofs.Forms.{no_true, tells_none, tells_as, tells_then, tells_both, append_found, map_found, left_tells}
 use Rattle.c_found_statement_laws.proofs.Parts.{condition_tells, value_tells, operand_tells, optional_condition_tells, optional_value_tells, return_tells, local_tells, first_tells, label_tells, break_tells, continue_tells}
@@ -87,7 +87,7 @@ module _ (of : Option CType) where
         (tells_then (in_scope w).1 r.1 a.1.1 (tells_then (in_scope w).1 q.1 r.1 (tells_then (in_scope w).1 p.1.1 q.1 (first_tells first (in_scope w)) (optional_condition_tells c p.1.1)) (optional_value_tells e q.1))
         (statement_tells in_loop y (p.1.0, r.1))))
     statement_tells j (s.Switch' x _ list) w =
-        let o = operand_of x w.1 in let f = section_row of (in_switch j) (switch_type o.0) list (Some []) (no_labels, (w.0, o.1)) in
+        let o = operand_of x w.1 in let f = judge_section_row of (in_switch j) (switch_type o.0) list (Some []) (no_labels, (w.0, o.1)) in
         tells_both w.1 o.1 f.1.1.1 (λ h g k. switch_found o.0 f.0 h (g k)) (operand_tells x w.1)
         (sections_tell (in_switch j) (switch_type o.0) list (Some []) o.1 (no_labels, (w.0, o.1)) (tells_none o.1 (λ k. refl)))
     statement_tells j (s.Break at) w = tells_as w.1 (w.1.0, (break_statement j at w.1.1).1) (λ h k. h) (break_tells w.1.0 j at w.1.1)
@@ -110,7 +110,7 @@ module _ (of : Option CType) where
         tells_as w.1 r.1.1 (λ h k. map_found Some r.0 (h k)) (statement_tells j x w)
 
     sections_tell : (j : Jumps) (ty : Option IntegerType) {m : _} (xs : b.Row_of-Section m) (found : Option (List TSection)) (v : JudgementState) (u : SwitchState) → Tells (Under found) v u.1.1
-        → Tells (Under (section_row of j ty xs found u).0) v (section_row of j ty xs found u).1.1.1
+        → Tells (Under (judge_section_row of j ty xs found u).0) v (judge_section_row of j ty xs found u).1.1.1
     sections_tell j ty b.end_of-Section found v u h = h
     sections_tell j ty (b.more_of-Section label _ list rest) found v u h =
         let l = beside_locals u (label_of ty label (u.0, u.1.1)) in

@@ -24,10 +24,10 @@ use Rattle.c_judgements.specs.Leaves.{leaf, tagged_enum, tagged_struct}
 use Rattle.c_judgements.specs.Types.{JudgementState, in_env}
 use Rattle.c_expressions.specs.Expressions.{judge, derive}
 use Rattle.c_tag_bodies.specs.declared.members.Members.{Members}
-use Rattle.c_tag_bodies.specs.Enums.{explicit_value, one_above, value_behind, value_held, constant_meaning, constant_declared, constant_row}
+use Rattle.c_tag_bodies.specs.Enums.{explicit_value, one_above, value_behind, judge_value_held, constant_meaning, constant_declared, judge_constant_row}
 use Rattle.c_tag_bodies.specs.Members.{no_members, is_member_type, no_member, member_type, with_member, with_faulty_member, member_named, member_declared}
 use Rattle.c_tag_bodies.specs.Structs.{DefinedTags, with_body, tagged_body, enum_begun, struct_number_of, no_body, number_for_tag, struct_begun, struct_where, with_struct, with_untagged, too_large, with_members, finish_struct, tag_name, struct_ended}
-use Rattle.c_tag_bodies.specs.Bodies.{TagScope, enum_entered, struct_entered, struct_left, type_behind, member_entered, bodies, constants_held, members_held, member_row, declared_type}
+use Rattle.c_tag_bodies.specs.Bodies.{TagScope, enum_entered, struct_entered, struct_left, type_behind, member_entered, bodies, judge_constants_held, judge_members_held, judge_member_row, declared_type}
 use Rattle.c_found_laws.specs.Laws.{are_sound_members, NamesAreSound, Tells, IsFound, YieldsFound}
 use Rattle.c_found_laws.proofs.Forms.{no_true, front, back, also, holds, tells_none, tells_kept, tells_fault, tells_as, tells_then, tells_both, tells_never, tells_named, ruled, each_tells, enum_tells, struct_tells, leaf_tells}
 use Rattle.c_found_laws.proofs.Walks.{one_part, judge_tells, derive_tells}
@@ -42,7 +42,7 @@ value_tells : (env : Env) (s : JudgementState) (at : ℕ) (before : Option (Opti
 value_tells env s at None n h = tells_as s (env, n) (λ x. refl) h
 value_tells env s at (Some last) n h = each_tells env s last (one_above at) n h (λ x. ruled env (next_value at x) n)
 
-value_held_tells : (at : ℕ) (value : k.Held-Constant-value) (before : Option (Option ℕ)) (s u : JudgementState) → Tells (IsTrue (holds is_some before)) s u → YieldsFound s (value_held at value before u)
+value_held_tells : (at : ℕ) (value : k.Held-Constant-value) (before : Option (Option ℕ)) (s u : JudgementState) → Tells (IsTrue (holds is_some before)) s u → YieldsFound s (judge_value_held at value before u)
 value_held_tells at k.Constant-value-None' before s u h = value_tells u.0 s at before u.1 h
 value_held_tells at (k.Constant-value-Some' x) before s u h =
     let r = judge x u in
@@ -62,11 +62,11 @@ constant_tells at name value s u h = choose (stands_here u.0 (find name u.0.name
     choose true = tells_both s u (u.0, with_fault at Redeclared u.1) (λ x y. x) h (tells_fault {X = Unit {0}} u.0 at Redeclared u.1)
     choose false = constant_named name value s u h
 
-constants_tell : {m : _} (xs : k.Row_of-Constant m) (before : Option (Option ℕ)) (s u : JudgementState) → Tells (IsTrue (holds is_some before)) s u → Told s (constant_row xs before u)
-unfolding constant_row
+constants_tell : {m : _} (xs : k.Row_of-Constant m) (before : Option (Option ℕ)) (s u : JudgementState) → Tells (IsTrue (holds is_some before)) s u → Told s (judge_constant_row xs before u)
+unfolding judge_constant_row
 constants_tell k.end_of-Constant before s u h = tells_as s u (λ x. tt) h
 constants_tell (k.more_of-Constant at name value rest) before s u h =
-    let v = value_held at value before u in
+    let v = judge_value_held at value before u in
     constants_tell rest (Some v.0) s (constant_declared at name v.0 v.1) (constant_tells at name v.0 s v.1 (value_held_tells at value before s u h))
 
 -- ---- structs
@@ -203,20 +203,20 @@ mutual
   bodies_tell (t.Array' _ (k.more_of-TypeNode x k.end_of-TypeNode) length) s = bodies_tell x s
   bodies_tell (t.Takes' _ (k.more_of-TypeNode x k.end_of-TypeNode) _ parameters) s = bodies_tell x s
 
-  constants_held_tell : (at : ℕ) (tag : Option (List ℕ)) (x : k.Held-TypeNode-Enum-2) (s : TagScope) → Told s.1 (constants_held at tag x s).1
+  constants_held_tell : (at : ℕ) (tag : Option (List ℕ)) (x : k.Held-TypeNode-Enum-2) (s : TagScope) → Told s.1 (judge_constants_held at tag x s).1
   constants_held_tell at tag k.TypeNode-Enum-2-None' s = tells_none s.1 tt
   constants_held_tell at tag (k.TypeNode-Enum-2-Some' _ constants) s =
       constants_tell constants None s.1 (enum_entered at tag s) (tells_as s.1 (enum_entered at tag s) (λ x. refl) (enum_begun_tells s.1.0 s.0 at tag s.1.1))
 
-  members_held_tell : (at : ℕ) (tag : Option (List ℕ)) (x : k.Held-TypeNode-Struct-2) (s : TagScope) → Told s.1 (members_held at tag x s).1
+  members_held_tell : (at : ℕ) (tag : Option (List ℕ)) (x : k.Held-TypeNode-Struct-2) (s : TagScope) → Told s.1 (judge_members_held at tag x s).1
   members_held_tell at tag k.TypeNode-Struct-2-None' s = tells_none s.1 tt
   members_held_tell at tag (k.TypeNode-Struct-2-Some' _ members) s =
       let u = struct_entered at tag s in
-      let w = member_row members (no_members, u.1) in
+      let w = judge_member_row members (no_members, u.1) in
       ended_tells w.1.1.0 s.1 at tag u.0 w.0 w.1.1.1
       (members_tell members s.1 (no_members, u.1) (tells_as s.1 u.1.1 (λ x. refl) (struct_begun_tells s.1.0 s.0 at tag s.1.1)))
 
-  members_tell : {m : _} (xs : k.Row_of-Declaration m) (s : JudgementState) (w : Members × TagScope) → Tells (AreSound w.0) s w.1.1 → Tells (AreSound (member_row xs w).0) s (member_row xs w).1.1
+  members_tell : {m : _} (xs : k.Row_of-Declaration m) (s : JudgementState) (w : Members × TagScope) → Tells (AreSound w.0) s w.1.1 → Tells (AreSound (judge_member_row xs w).0) s (judge_member_row xs w).1.1
   members_tell k.end_of-Declaration s w h = h
   members_tell (k.more_of-Declaration at name ty rest) s w h =
       let inner = bodies ty w.1 in

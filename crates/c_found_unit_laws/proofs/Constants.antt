@@ -19,9 +19,9 @@ use Rattle.c_judgements.specs.Leaves.{leaf}
 use Rattle.c_judgements.specs.Types.{JudgementState}
 use Rattle.c_expressions.specs.Expressions.{judge, derive}
 use Rattle.c_tag_bodies.specs.declared.members.Members.{Members}
-use Rattle.c_tag_bodies.specs.Enums.{explicit_value, one_above, value_behind, value_held, constant_meaning, constant_declared, constant_row}
+use Rattle.c_tag_bodies.specs.Enums.{explicit_value, one_above, value_behind, judge_value_held, constant_meaning, constant_declared, judge_constant_row}
 use Rattle.c_tag_bodies.specs.Members.{no_members}
-use Rattle.c_tag_bodies.specs.Bodies.{TagScope, enum_entered, struct_entered, type_behind, member_entered, bodies, constants_held, members_held, member_row, declared_type}
+use Rattle.c_tag_bodies.specs.Bodies.{TagScope, enum_entered, struct_entered, type_behind, member_entered, bodies, judge_constants_held, judge_members_held, judge_member_row, declared_type}
 use Rattle.c_found_unit_laws.proofs.Names.{judge_leaves, derive_leaves}
 
 -- names that do not stand in the scope are declared, with values of the type `int`
@@ -51,11 +51,11 @@ explicit_word : (o : Option TypedExpression) (n : Notes) → IsValue (each o exp
 explicit_word None n = tt
 explicit_word (Some a) n = noted_word (given_value a) n (given_word a)
 
-held_word : (at : ℕ) (value : k.Held-Constant-value) (before : Option (Option ℕ)) (s : JudgementState) → IsValue (value_held at value before s).0
+held_word : (at : ℕ) (value : k.Held-Constant-value) (before : Option (Option ℕ)) (s : JudgementState) → IsValue (judge_value_held at value before s).0
 held_word at k.Constant-value-None' before s = behind_word at before s.1
 held_word at (k.Constant-value-Some' x) before s = explicit_word (judge x s).0 (judge x s).1.1
 
-held_leaves : (at : ℕ) (value : k.Held-Constant-value) (before : Option (Option ℕ)) (s : JudgementState) → (value_held at value before s).1.0 ≡ s.0
+held_leaves : (at : ℕ) (value : k.Held-Constant-value) (before : Option (Option ℕ)) (s : JudgementState) → (judge_value_held at value before s).1.0 ≡ s.0
 held_leaves at k.Constant-value-None' before s = refl
 held_leaves at (k.Constant-value-Some' x) before s = judge_leaves x s
 
@@ -74,11 +74,11 @@ constant_enters at name value s h = choose (stands_here s.0 (find name s.0.names
 along_env : {a b c : Env} → b ≡ a → Enters b c → Enters a c
 along_env {c = c} e h = subst (λ x. Enters x c) e h
 
-constants_enter : {m : _} (xs : k.Row_of-Constant m) (before : Option (Option ℕ)) (s : JudgementState) → Enters s.0 (constant_row xs before s).0
-unfolding constant_row
+constants_enter : {m : _} (xs : k.Row_of-Constant m) (before : Option (Option ℕ)) (s : JudgementState) → Enters s.0 (judge_constant_row xs before s).0
+unfolding judge_constant_row
 constants_enter k.end_of-Constant before s = Same
 constants_enter (k.more_of-Constant at name value rest) before s =
-    let v = value_held at value before s in
+    let v = judge_value_held at value before s in
     let w = constant_declared at name v.0 v.1 in
     enters_then (along_env (held_leaves at value before s) (constant_enters at name v.0 v.1 (held_word at value before s))) (constants_enter rest (Some v.0) w)
 
@@ -102,15 +102,15 @@ mutual
   bodies_enter (t.Array' _ (k.more_of-TypeNode x k.end_of-TypeNode) length) s = bodies_enter x s
   bodies_enter (t.Takes' _ (k.more_of-TypeNode x k.end_of-TypeNode) _ parameters) s = bodies_enter x s
 
-  constants_held_enter : (at : ℕ) (tag : Option (List ℕ)) (x : k.Held-TypeNode-Enum-2) (s : TagScope) → Enters s.1.0 (constants_held at tag x s).1.0
+  constants_held_enter : (at : ℕ) (tag : Option (List ℕ)) (x : k.Held-TypeNode-Enum-2) (s : TagScope) → Enters s.1.0 (judge_constants_held at tag x s).1.0
   constants_held_enter at tag k.TypeNode-Enum-2-None' s = Same
   constants_held_enter at tag (k.TypeNode-Enum-2-Some' _ constants) s = constants_enter constants None (enum_entered at tag s)
 
-  members_held_enter : (at : ℕ) (tag : Option (List ℕ)) (x : k.Held-TypeNode-Struct-2) (s : TagScope) → Enters s.1.0 (members_held at tag x s).1.0
+  members_held_enter : (at : ℕ) (tag : Option (List ℕ)) (x : k.Held-TypeNode-Struct-2) (s : TagScope) → Enters s.1.0 (judge_members_held at tag x s).1.0
   members_held_enter at tag k.TypeNode-Struct-2-None' s = Same
   members_held_enter at tag (k.TypeNode-Struct-2-Some' _ members) s = members_enter members (no_members, (struct_entered at tag s).1)
 
-  members_enter : {m : _} (xs : k.Row_of-Declaration m) (w : Members × TagScope) → Enters w.1.1.0 (member_row xs w).1.1.0
+  members_enter : {m : _} (xs : k.Row_of-Declaration m) (w : Members × TagScope) → Enters w.1.1.0 (judge_member_row xs w).1.1.0
   members_enter k.end_of-Declaration w = Same
   members_enter (k.more_of-Declaration at name ty rest) w =
       let inner = bodies ty w.1 in

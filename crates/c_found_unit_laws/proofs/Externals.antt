@@ -48,7 +48,7 @@ use Rattle.c_declarations.specs.declared.walk.UnitSoFar.{UnitSoFar}
 use Rattle.c_declarations.specs.Walk.{UnitWalk, in_notes, with_notes, with_state, declare, with_names, is_main, add_numbered, next_object, object_number, fill_numbered, function_at, add_function, keep_function, body_kept}
 use Rattle.c_declarations.specs.Objects.{object_declared}
 use Rattle.c_declarations.specs.Functions.{init_refused, refusal_of, function_type, function_declared, function_by_type, function_with_type, name_judged, name_row, type_where, defined_type, with_main, main_seen, is_start}
-use Rattle.c_units.specs.Externals.{typedef_of, typedef_declared, prototype, refused_behind, with_init_refused, object_with, main_with, with_main_in, with_definition, type_with, type_of_function, body_judged, definition_with, definition, external_function, end_judged, with_end_judged, function_typed, behind_type, declarator_type, tags_declared, walk_external, externals}
+use Rattle.c_units.specs.Externals.{typedef_of, typedef_declared, prototype, refused_behind, with_init_refused, object_with, main_with, with_main_in, with_definition, type_with, type_of_function, body_judged, definition_with, definition, external_function, end_judged, with_end_judged, function_typed, external_behind_type, declarator_type, tags_declared, walk_external, externals}
 use Rattle.c_found_laws.specs.Laws.{IsClean, is_sound, are_sound_names, NamesAreSound, Tells, IsFound, YieldsFound}
 use Rattle.c_type_laws.proofs.Truth.{three, either_left}
 use Rattle.c_found_laws.proofs.Forms.{no_true, also, front, back, tells_none, tells_fault, tells_as, tells_then, tells_both, each_tells, type_named_tells}

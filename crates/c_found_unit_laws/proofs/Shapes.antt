@@ -14,7 +14,7 @@ use Rattle.c_checks.specs.Checks.{both_parts, append_part}
 use Rattle.c_checks.specs.Scopes.{enter, leave}
 use Rattle.c_judgements.specs.Leaves.{leaf}
 use Rattle.c_judgements.specs.Types.{JudgementState, required_type, function, parameter_declared}
-use Rattle.c_expressions.specs.Expressions.{derive, parameter_row}
+use Rattle.c_expressions.specs.Expressions.{derive, judge_parameter_row}
 use Rattle.c_tag_bodies.specs.Bodies.{TagScope, bodies, declared_type}
 use Rattle.c_statements.specs.declared.functions.FunctionType.{FunctionType}
 use Rattle.c_found_statement_laws.specs.Laws.{are_as_many}
@@ -54,12 +54,12 @@ none_more n = omega arith
 one_over : (b n : ℕ) → b + suc n ≡ suc b + n
 one_over b n = omega arith
 
-row_long : {m : _} (xs : k.Row_of-Parameter m) (n : ℕ) (found : Option (List CType)) (s : JudgementState) → IsLong n found → IsLong (length (k.items-the_row-Parameter m xs) + n) (parameter_row xs found s).0
+row_long : {m : _} (xs : k.Row_of-Parameter m) (n : ℕ) (found : Option (List CType)) (s : JudgementState) → IsLong n found → IsLong (length (k.items-the_row-Parameter m xs) + n) (judge_parameter_row xs found s).0
 unfolding derive
 row_long k.end_of-Parameter n found s h = subst (λ l. IsLong l found) (none_more n) h
 row_long (k.more_of-Parameter at name ty rest) n found s h =
     let l = leaf s.0 at ty s.1 in let r = derive at ty l.0 (s.0, l.1) in let named = parameter_declared at name r.0 r.1 in
-    subst (λ c. IsLong c (parameter_row rest (append_part found named.0) named.1).0) (one_over (length (k.items-the_row-Parameter _ rest)) n) (row_long rest (suc n) (append_part found named.0) named.1 (append_long n found named.0 h))
+    subst (λ c. IsLong c (judge_parameter_row rest (append_part found named.0) named.1).0) (one_over (length (k.items-the_row-Parameter _ rest)) n) (row_long rest (suc n) (append_part found named.0) named.1 (append_long n found named.0 h))
 
 -- a type of a function has so many parameters
 abbrev HasMany : ℕ → DeclaredType → Type 0
@@ -91,10 +91,10 @@ both_many n at (Some tys) (Some x) notes h = there_many n at (function_of x tys)
 
 -- the parameters of a declarator of a function are those of its row
 derive_fits : (at : ℕ) {m : _} (x : t.TypeNode) (list : k.Row_of-Parameter m) (of : Option DeclaredType) (s : JudgementState) →
-    (let row = parameter_row list (Some []) (enter s.0, s.1) in let r = derive at x of (leave s.0.outside row.1.0, row.1.1) in
+    (let row = judge_parameter_row list (Some []) (enter s.0, s.1) in let r = derive at x of (leave s.0.outside row.1.0, row.1.1) in
     IfSome (both_parts row.0 r.0 (function at) r.1.1).0 (HasMany (length (k.items-the_row-Parameter m list))))
 derive_fits at {m} x list of s =
-    let row = parameter_row list (Some []) (enter s.0, s.1) in let r = derive at x of (leave s.0.outside row.1.0, row.1.1) in
+    let row = judge_parameter_row list (Some []) (enter s.0, s.1) in let r = derive at x of (leave s.0.outside row.1.0, row.1.1) in
     both_many (length (k.items-the_row-Parameter m list)) at row.0 r.0 r.1.1 (plain row.0 (row_long list 0 (Some []) (enter s.0, s.1) refl))
   where
     plain : (o : Option (List CType)) → IsLong (length (k.items-the_row-Parameter m list) + 0) o → IsLong (length (k.items-the_row-Parameter m list)) o

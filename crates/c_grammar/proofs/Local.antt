@@ -33,10 +33,10 @@ use Rattle.c_grammar.specs.WordSets.{no_words, basic_of}
 use Rattle.c_grammar.specs.Tokens.{TypeNames, is_mark, is_keyword, is_name_token, is_text, kind_at, spelling_at, token_place, token_tail, is_type_name, begins_type}
 use Rattle.c_grammar.specs.Types.{without_body, takes_name, may_be_nameless, nameless, with_shape, with_shapes, parameter_of, without_void, comma_of}
 use Rattle.c_grammar.specs.Parser.{ParseOutcome, Parser, and_then, pure, expect, expect_word, consts}
-use Rattle.c_grammar.specs.ParseExpr.{extend, start_of, word_or_end, words_from, named_type, tag_type, tag, specifier_behind, specifier_from, plain, texts_from, list_from, member, no_name, core_name, whole, type_name, parameter, arguments, parameters, behind_name, cast_behind, brackets_behind, bracket_operand, size_of_type, size_of_value, size_of, operand_by, operand, step_by, climb, tight, length_of, suffixes, pointer_declarator, group_behind, core_bracket, core, shaping, expr, declarator}
+use Rattle.c_grammar.specs.ParseExpr.{extend, start_of, word_or_end, words_from, named_type, tag_type, tag, specifier_behind, specifier_from, plain, texts_from, list_from, member_name, no_name, core_name, whole, type_name, parameter, arguments_behind, parameters_behind, behind_name, cast_behind, brackets_behind, bracket_operand, sizeof_type_name, sizeof_unary, sizeof_behind, operand_by, operand, step_by, climb, tight, length_behind, suffixes, pointer_declarator, group_behind, core_bracket, core, shaping, expr, declarator}
 use Rattle.c_grammar.specs.Specifiers.{IsSpecifier}
 use Rattle.c_grammar.specs.ParseSpecifiers as specifiers
-use Rattle.c_grammar.specs.ParseSpecifiers.{named_by, declaration, braced_list_from, constant_value, constant, declarators_from, members_from, braces, behind_tag, tag_or_body, specifier}
+use Rattle.c_grammar.specs.ParseSpecifiers.{named_by, declaration, braced_list_from, enumerator_value, enumerator, declarators_from, struct_declarations_from, braces, behind_tag, tag_or_body, specifier}
 use Rattle.c_grammar.proofs.Says.{Says}
 use Rattle.c_grammar.proofs.SoundSpecifiers.{member_says, sound_specifier}
 use Rattle.c_grammar.proofs.ReadSpecifiers.{member_begins}
@@ -307,8 +307,8 @@ module _ (t : Lexeme) (left right : List Lexeme) where
 
   -- ---- expressions and declarators, over what is read a level below
 
-  member_local : (n m : ℕ) → Alike n m member member
-  unfolding member
+  member_local : (n m : ℕ) → Alike n m member_name member_name
+  unfolding member_name
   member_local n m k b c u v h bn cm = test_local (ap is_name_token (same_kind h)) (taken_local (spelling_at u) (spelling_at v) h (same_spelling h)) (err_local h)
 
   module _ (s : TypeNames) (n m : ℕ) (rec rec' : ℕ → Parser Expr) (dec dec' : Naming → Parser Declarator) (rec_local : (least : ℕ) → Alike n m (rec least) (rec' least)) (dec_local : (naming : Naming) → Alike n m (dec naming) (dec' naming))
@@ -327,20 +327,20 @@ module _ (t : Lexeme) (left right : List Lexeme) where
     parameter_local k b c u v h bn cm = bind_local _ _ _ _ (plain_local s n m k b c u v h bn cm) (λ ty k u' v' g. bind_local _ _ _ _ (dec_local nm.Optional k b c u' v' g bn cm) (λ d k u2 v2 g2.
         ok_local _ _ g2 (ap (λ at. parameter_of at ty d) (same_place h))))
 
-    arguments_local : Alike n m (arguments s rec dec) (arguments s rec' dec')
-    unfolding arguments
+    arguments_local : Alike n m (arguments_behind s rec dec) (arguments_behind s rec' dec')
+    unfolding arguments_behind
     arguments_local k b c u v h bn cm = test_local (ap (is_mark p.RightParen) (same_kind h)) (taken_local [] [] h refl)
         (bind_local _ _ _ _ (list_local n m (rec 2) (rec' 2) (rec_local 2) k b c u v h bn cm) (λ xs k u v g. end_local p.RightParen xs xs g refl))
 
-    parameters_local : Alike n m (parameters s rec dec) (parameters s rec' dec')
-    unfolding parameters
+    parameters_local : Alike n m (parameters_behind s rec dec) (parameters_behind s rec' dec')
+    unfolding parameters_behind
     parameters_local k b c u v h bn cm = test_local (ap (is_mark p.RightParen) (same_kind h)) (taken_local [] [] h refl)
         (bind_local _ _ _ _ (list_local n m (parameter s rec dec) (parameter s rec' dec') parameter_local k b c u v h bn cm) (λ xs k u v g. end_local p.RightParen xs xs g refl))
 
     name_local : (at : ℕ) (name : List ℕ) → Alike n m (behind_name s rec dec at name) (behind_name s rec' dec' at name)
     unfolding behind_name
     name_local at name k b c u v h bn cm = test_local (ap (is_mark p.LeftParen) (same_kind h))
-        (bind_local _ _ _ _ (behind_local (arguments s rec dec) (arguments s rec' dec') arguments_local h (omega arith) (omega arith)) (λ xs k u v g. ok_local _ _ g refl)) (ok_local _ _ h refl)
+        (bind_local _ _ _ _ (behind_local (arguments_behind s rec dec) (arguments_behind s rec' dec') arguments_local h (omega arith) (omega arith)) (λ xs k u v g. ok_local _ _ g refl)) (ok_local _ _ h refl)
 
     cast_local : (at : ℕ) → Alike n m (cast_behind s rec dec at) (cast_behind s rec' dec' at)
     unfolding cast_behind
@@ -356,31 +356,31 @@ module _ (t : Lexeme) (left right : List Lexeme) where
     bracket_local : (least at : ℕ) → Alike n m (bracket_operand s rec dec least at) (bracket_operand s rec' dec' least at)
     bracket_local least at k b c u v h bn cm = test_local (begins_same h) (test_local refl (cast_local at k b c u v h bn cm) (err_local h)) (brackets_local k b c u v h bn cm)
 
-    size_type_local : (at : ℕ) → Alike n m (size_of_type s rec dec at) (size_of_type s rec' dec' at)
-    unfolding size_of_type
+    size_type_local : (at : ℕ) → Alike n m (sizeof_type_name s rec dec at) (sizeof_type_name s rec' dec' at)
+    unfolding sizeof_type_name
     size_type_local at k b c u v h bn cm = bind_local _ _ _ _ (type_local k b c u v h bn cm) (λ ty k u v g. end_local p.RightParen _ _ g refl)
 
-    size_value_local : (at : ℕ) → Alike n m (size_of_value s rec dec at) (size_of_value s rec' dec' at)
-    unfolding size_of_value
+    size_value_local : (at : ℕ) → Alike n m (sizeof_unary s rec dec at) (sizeof_unary s rec' dec' at)
+    unfolding sizeof_unary
     size_value_local at k b c u v h bn cm = bind_local _ _ _ _ (rec_local 17 k b c u v h bn cm) (λ x k u v g. ok_local _ _ g refl)
 
     -- at the bracket that is the last of the same tokens, what is read takes it
-    size_value_lost : (at : ℕ) (l : Lexeme) (u : List Lexeme) → l.kind ≡ kd.Mark p.LeftParen → length (l ∷ u) ≤ n → length u ≤ length left → Agrees Mode.past (length u) 0 (size_of_value s rec dec at (l ∷ u)) (size_of_value s rec dec at (l ∷ u))
-    unfolding size_of_value
+    size_value_lost : (at : ℕ) (l : Lexeme) (u : List Lexeme) → l.kind ≡ kd.Mark p.LeftParen → length (l ∷ u) ≤ n → length u ≤ length left → Agrees Mode.past (length u) 0 (sizeof_unary s rec dec at (l ∷ u)) (sizeof_unary s rec dec at (l ∷ u))
+    unfolding sizeof_unary
     size_value_lost at l u kind len le = bind_local _ _ _ _ (takes l u kind len le) (λ x k u v g. ok_local _ _ g refl)
 
     size_lost : (at b : ℕ) (x : Bool) → t.kind ≡ kd.Mark p.LeftParen → length left ≤ b → suc (length left) ≤ n
-        → {k : Mode} {c : ℕ} {o : ParseOutcome (Expr × ℕ)} → Agrees k b c (cond x (size_of_type s rec dec at left) (size_of_value s rec dec at (t ∷ left))) o
+        → {k : Mode} {c : ℕ} {o : ParseOutcome (Expr × ℕ)} → Agrees k b c (cond x (sizeof_type_name s rec dec at left) (sizeof_unary s rec dec at (t ∷ left))) o
     size_lost at b true kind lb len = forget (omega arith) (size_type_local at Mode.past (length left) 0 left left (State.past (omega arith) (omega arith)) (omega arith) (omega arith))
     size_lost at b false kind lb len = forget lb (size_value_lost at t left kind len (omega arith))
 
     size_here : (at b c : ℕ) (x : Bool) → is_mark p.LeftParen t.kind ≡ x → State Mode.near b c (t ∷ left) (t ∷ right) → b ≤ n → c ≤ m
-        → Agrees Mode.near b c (cond x (cond (begins_type s left) (size_of_type s rec dec at left) (size_of_value s rec dec at (t ∷ left))) (size_of_value s rec dec at (t ∷ left)))
-        (cond x (cond (begins_type s right) (size_of_type s rec' dec' at right) (size_of_value s rec' dec' at (t ∷ right))) (size_of_value s rec' dec' at (t ∷ right)))
+        → Agrees Mode.near b c (cond x (cond (begins_type s left) (sizeof_type_name s rec dec at left) (sizeof_unary s rec dec at (t ∷ left))) (sizeof_unary s rec dec at (t ∷ left)))
+        (cond x (cond (begins_type s right) (sizeof_type_name s rec' dec' at right) (sizeof_unary s rec' dec' at (t ∷ right))) (sizeof_unary s rec' dec' at (t ∷ right)))
     size_here at b c true e (State.near h lb lc) bn cm = size_lost at b (begins_type s left) (mark_is p.LeftParen t.kind e) (omega arith) (omega arith)
     size_here at b c false e h bn cm = size_value_local at Mode.near b c (t ∷ left) (t ∷ right) h bn cm
 
-    size_local : (at : ℕ) → Alike n m (size_of s rec dec at) (size_of s rec' dec' at)
+    size_local : (at : ℕ) → Alike n m (sizeof_behind s rec dec at) (sizeof_behind s rec' dec' at)
     size_local at k b c u v (State.near Same.here lb lc) bn cm = size_here at b c (is_mark p.LeftParen t.kind) refl (State.near Same.here lb lc) bn cm
     size_local at k b c u v (State.near (Same.there x {u = u2} {v = v2} h) lb lc) bn cm =
         let st : State Mode.near b c (x ∷ u2) (x ∷ v2) = State.near (Same.there x h) lb lc in
@@ -388,7 +388,7 @@ module _ (t : Lexeme) (left right : List Lexeme) where
         test_local refl (test_local (begins_same st2) (size_type_local at Mode.near b c u2 v2 st2 bn cm) (size_value_local at Mode.near b c (x ∷ u2) (x ∷ v2) st bn cm)) (size_value_local at Mode.near b c (x ∷ u2) (x ∷ v2) st bn cm)
     size_local at k b c u v (State.past l lb) bn cm =
         let st : State Mode.past b c u u = State.past l lb in
-        test_local refl (test_local refl (behind_local (size_of_type s rec dec at) (size_of_type s rec' dec' at) (size_type_local at) st (omega arith) (omega arith)) (size_value_local at Mode.past b c u u st bn cm)) (size_value_local at Mode.past b c u u st bn cm)
+        test_local refl (test_local refl (behind_local (sizeof_type_name s rec dec at) (sizeof_type_name s rec' dec' at) (size_type_local at) st (omega arith) (omega arith)) (size_value_local at Mode.past b c u u st bn cm)) (size_value_local at Mode.past b c u u st bn cm)
 
     operand_by_local : (least : ℕ) (class : Prefix) → Alike (suc n) (suc m) (operand_by s rec dec least class) (operand_by s rec' dec' least class)
     operand_by_local least px.Name k b c u v h bn cm = test_local (ap (is_type_name s) (same_spelling h)) (err_local h)
@@ -399,7 +399,7 @@ module _ (t : Lexeme) (left right : List Lexeme) where
     operand_by_local least px.Bracket k b c u v h bn cm = rw (same_place h) (behind_local (bracket_operand s rec dec least (token_place v)) (bracket_operand s rec' dec' least (token_place v)) (bracket_local least (token_place v)) h bn cm)
     operand_by_local least (px.Step op) k b c u v h bn cm = rw (same_place h) (bind_local _ _ _ _ (behind_local (rec 17) (rec' 17) (rec_local 17) h bn cm) (λ x k u v g. ok_local _ _ g refl))
     operand_by_local least (px.Unary op) k b c u v h bn cm = rw (same_place h) (bind_local _ _ _ _ (behind_local (rec 16) (rec' 16) (rec_local 16) h bn cm) (λ x k u v g. ok_local _ _ g refl))
-    operand_by_local least px.SizeOf k b c u v h bn cm = rw (same_place h) (behind_local (size_of s rec dec (token_place v)) (size_of s rec' dec' (token_place v)) (size_local (token_place v)) h bn cm)
+    operand_by_local least px.SizeOf k b c u v h bn cm = rw (same_place h) (behind_local (sizeof_behind s rec dec (token_place v)) (sizeof_behind s rec' dec' (token_place v)) (size_local (token_place v)) h bn cm)
     operand_by_local least px.Nothing k b c u v h bn cm = err_local h
 
     operand_local : (least : ℕ) → Alike (suc n) (suc m) (operand s rec dec least) (operand s rec' dec' least)
@@ -446,8 +446,8 @@ module _ (t : Lexeme) (left right : List Lexeme) where
 
     -- ---- declarators
 
-    length_local : (d : Declarator) → Alike n m (length_of s rec dec d) (length_of s rec' dec' d)
-    unfolding length_of
+    length_local : (d : Declarator) → Alike n m (length_behind s rec dec d) (length_behind s rec' dec' d)
+    unfolding length_behind
     length_local d k b c u v h bn cm = test_local (ap (is_mark p.RightBracket) (same_kind h)) (taken_local _ _ h refl)
         (bind_local _ _ _ _ (rec_local 4 k b c u v h bn cm) (λ x k u v g. end_local p.RightBracket _ _ g refl))
 
@@ -456,10 +456,10 @@ module _ (t : Lexeme) (left right : List Lexeme) where
     suffixes_loop = loop_local (suc n) (suc m) (suffixes s rec dec) (suffixes s rec' dec') (λ d k b c u v h. ok_local d d h refl)
         (λ j i next d k b c u v h bn cm bj ci.
         test_local (ap (is_mark p.LeftBracket) (same_kind h))
-        (take_local (λ ts. and_then (length_of s rec dec d ts) (suffixes s rec dec j)) (λ ts. and_then (length_of s rec' dec' d ts) (suffixes s rec' dec' i)) h
+        (take_local (λ ts. and_then (length_behind s rec dec d ts) (suffixes s rec dec j)) (λ ts. and_then (length_behind s rec' dec' d ts) (suffixes s rec' dec' i)) h
         (λ k u v g. bind_local _ _ _ _ (length_local d k (b - 1) (c - 1) u v g (omega arith) (omega arith)) (λ z k u v g. next z k (b - 1) (c - 1) u v g (omega arith) (omega arith) (omega arith) (omega arith))))
         (test_local (ap (is_mark p.LeftParen) (same_kind h))
-        (take_local (λ ts. and_then (parameters s rec dec ts) (λ xs. suffixes s rec dec j (with_shape d (sh.Takes (without_void xs))))) (λ ts. and_then (parameters s rec' dec' ts) (λ xs. suffixes s rec' dec' i (with_shape d (sh.Takes (without_void xs))))) h
+        (take_local (λ ts. and_then (parameters_behind s rec dec ts) (λ xs. suffixes s rec dec j (with_shape d (sh.Takes (without_void xs))))) (λ ts. and_then (parameters_behind s rec' dec' ts) (λ xs. suffixes s rec' dec' i (with_shape d (sh.Takes (without_void xs))))) h
         (λ k u v g. bind_local _ _ _ _ (parameters_local k (b - 1) (c - 1) u v g (omega arith) (omega arith)) (λ xs k u v g. next (with_shape d (sh.Takes (without_void xs))) k (b - 1) (c - 1) u v g (omega arith) (omega arith) (omega arith) (omega arith))))
         (ok_local d d h refl)))
 
@@ -611,14 +611,14 @@ module _ (t : Lexeme) (left right : List Lexeme) where
     unfolding declaration
     declaration_local naming ty k b c u v h bn cm = bind_local _ _ _ _ (declarator_local s n m naming k b c u v h bn cm) (λ d k u v g. named_local ty d.name d.shapes g)
 
-    value_local : (at : ℕ) (name : List ℕ) → Alike n m (constant_value s n at name) (constant_value s m at name)
+    value_local : (at : ℕ) (name : List ℕ) → Alike n m (enumerator_value s n at name) (enumerator_value s m at name)
     value_local at name k b c u v h bn cm = test_local (ap (is_mark p.Assign) (same_kind h))
         (bind_local _ _ _ _ (behind_local (expr s n 4) (expr s m 4) (expr_local s n m 4) h (omega arith) (omega arith)) (λ x k u v g. ok_local _ _ g refl)) (ok_local _ _ h refl)
 
-    constant_local : Alike n m (constant s n) (constant s m)
-    unfolding constant
+    constant_local : Alike n m (enumerator s n) (enumerator s m)
+    unfolding enumerator
     constant_local k b c u v h bn cm = test_local (ap is_name_token (same_kind h)) (test_local (ap (is_type_name s) (same_spelling h)) (err_local h)
-        (rw (same_place h, same_spelling h) (behind_local (constant_value s n (token_place v) (spelling_at v)) (constant_value s m (token_place v) (spelling_at v)) (value_local (token_place v) (spelling_at v)) h (omega arith) (omega arith)))) (err_local h)
+        (rw (same_place h, same_spelling h) (behind_local (enumerator_value s n (token_place v) (spelling_at v)) (enumerator_value s m (token_place v) (spelling_at v)) (value_local (token_place v) (spelling_at v)) h (omega arith) (omega arith)))) (err_local h)
 
     abbrev declarators : ℕ → ℕ → TypeNode × List Declaration → Parser (List Declaration)
     declarators n j q = declarators_from s n j q.0 q.1
@@ -634,16 +634,16 @@ module _ (t : Lexeme) (left right : List Lexeme) where
     declarators_local ty = turns_local n m (declarators n) (declarators m) declarators_loop (ty, [])
 
     module _ (spec spec' : Parser TypeNode) (spec_local : Alike n m spec spec') (spec_says : (ts : List Lexeme) → Says (spec ts) ts (λ a ty. IsSpecifier s a ty)) where
-      member_of_local : Alike n m (specifiers.member s n spec) (specifiers.member s m spec')
-      unfolding specifiers.member
+      member_of_local : Alike n m (specifiers.struct_declaration s n spec) (specifiers.struct_declaration s m spec')
+      unfolding specifiers.struct_declaration
       member_of_local k b c u v h bn cm = bind_local _ _ _ _ (spec_local k b c u v h bn cm) (λ ty k u v g. bind_local _ _ _ _ (declarators_local ty k b c u v g bn cm) (λ ds k u v g. end_local p.Semicolon _ _ g refl))
 
-      member_some : (u u' : List Lexeme) (ds : List Declaration) → specifiers.member s n spec u ≡ Ok (ds, u') → length u' < length u
+      member_some : (u u' : List Lexeme) (ds : List Declaration) → specifiers.struct_declaration s n spec u ≡ Ok (ds, u') → length u' < length u
       member_some u u' ds e = let z = (member_says s n spec spec_says u).by (ds, u') e in let o = (member_begins s z.2).0 in let q = ap length z.1 in omega (arith, length-append z.0 u')
 
-      members_loop : (j i : ℕ) (found : List Declaration) → Loop n m (members_from s n spec) (members_from s m spec') j i found
-      unfolding members_from
-      members_loop = loop_local n m (members_from s n spec) (members_from s m spec') (λ found k b c u v h. err_local h)
+      members_loop : (j i : ℕ) (found : List Declaration) → Loop n m (struct_declarations_from s n spec) (struct_declarations_from s m spec') j i found
+      unfolding struct_declarations_from
+      members_loop = loop_local n m (struct_declarations_from s n spec) (struct_declarations_from s m spec') (λ found k b c u v h. err_local h)
           (λ j i next found k b c u v h bn cm bj ci. bind_some _ _ _ _ h (member_of_local k b c u v h bn cm) (λ ds u' e. member_some u u' ds e) (λ ds k u v g. test_local (ap (is_mark p.RightBrace) (same_kind g))
           (ok_local _ _ g refl) (next (found ++ ds) k (b - 1) (c - 1) u v g (omega arith) (omega arith) (omega arith) (omega arith))))
 
@@ -652,8 +652,8 @@ module _ (t : Lexeme) (left right : List Lexeme) where
       closed_local x {b = b} {c} h = then_expect p.RightBrace _ _ h (λ k u v g. bind_local _ _ _ _ (consts_local b c k b c u v g (omega arith) (omega arith)) (λ _ k u v g. ok_local x x g refl))
 
       body_local : (class : Specifier) (at : ℕ) (name : Option (List ℕ)) → Alike n m (specifiers.body s n spec class at name) (specifiers.body s m spec' class at name)
-      body_local cs.Struct at name k b c u v h bn cm = bind_local _ _ _ _ (turns_local n m (members_from s n spec) (members_from s m spec') members_loop [] k b c u v h bn cm) (λ ds k u v g. closed_local (y.Struct at name (Some ds)) g)
-      body_local _ at name k b c u v h bn cm = bind_local _ _ _ _ (braced_local n m (constant s n) (constant s m) constant_local k b c u v h bn cm) (λ xs k u v g. closed_local (y.Enum at name (Some xs)) g)
+      body_local cs.Struct at name k b c u v h bn cm = bind_local _ _ _ _ (turns_local n m (struct_declarations_from s n spec) (struct_declarations_from s m spec') members_loop [] k b c u v h bn cm) (λ ds k u v g. closed_local (y.Struct at name (Some ds)) g)
+      body_local _ at name k b c u v h bn cm = bind_local _ _ _ _ (braced_local n m (enumerator s n) (enumerator s m) constant_local k b c u v h bn cm) (λ xs k u v g. closed_local (y.Enum at name (Some xs)) g)
 
       braces_local : (class : Specifier) (at : ℕ) (name : Option (List ℕ)) → Alike n m (braces s n spec class at name) (braces s m spec' class at name)
       unfolding braces

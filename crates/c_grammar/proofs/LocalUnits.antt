@@ -31,7 +31,7 @@ use Rattle.c_grammar.specs.Statements.{locals_of}
 use Rattle.c_grammar.specs.Units.{with_type}
 use Rattle.c_grammar.specs.Parser.{Parser, and_then, pure, expect}
 use Rattle.c_grammar.specs.ParseExpr.{expr, declarator}
-use Rattle.c_grammar.specs.ParseStatements.{expression, local_by, local, line, optional, condition, first_value, first, case_label, label, return, value, items_from, ends_section, stmts_from, section, sections_from, alternative, if_else, while, do_while, for, switch, stmt_by, stmt}
+use Rattle.c_grammar.specs.ParseStatements.{expression, local_by, local_declarator, line, optional_expression, controlling_expression, first_expression, first_clause, case_behind, label, return_behind, value_line, items_from, ends_section, stmts_from, section, sections_from, alternative, if_behind, while_behind, do_behind, for_behind, switch_behind, stmt_by, stmt}
 use Rattle.c_grammar.specs.ParseUnits.{init_list, init_value, init_by, init, typedefs_from, typedefs, object_by, object_named, objects_from, objects_behind, body_behind, objects_named, objects_by, behind_type, behind_storage, external_at, external}
 use Rattle.c_grammar.proofs.SoundStmt.{SoundS, line_says, section_says, sound_stmt}
 use Rattle.c_grammar.proofs.ReadStatements.{line_begins, stmt_starts, label_word}
@@ -47,49 +47,49 @@ module _ (t : Lexeme) (left right : List Lexeme) where
     local_by_local d k b c u v h bn cm = test_local t left right (ap (is_mark p.Assign) (same_kind t left right h))
         (bind_local t left right _ _ _ _ (behind_local t left right (expr s n 2) (expr s m 2) (expr_local t left right s n m 2) h (omega arith) (omega arith)) (λ x k u v g. ok_local t left right _ _ g refl)) (ok_local t left right _ _ h refl)
 
-    local_local : (ty : TypeNode) → Alike t left right n m (local s n ty) (local s m ty)
-    unfolding local
+    local_local : (ty : TypeNode) → Alike t left right n m (local_declarator s n ty) (local_declarator s m ty)
+    unfolding local_declarator
     local_local ty k b c u v h bn cm = bind_local t left right _ _ _ _ (declaration_local t left right s n m nm.Required ty k b c u v h bn cm) (λ d k u v g. local_by_local d k b c u v g bn cm)
 
     line_local : Alike t left right n m (line s n) (line s m)
     unfolding line
-    line_local k b c u v h bn cm = bind_local t left right _ _ _ _ (plain_local t left right s n m k b c u v h bn cm) (λ ty k u v g. bind_local t left right _ _ _ _ (list_local t left right n m (local s n ty) (local s m ty) (local_local ty) k b c u v g bn cm) (λ xs k u v g. end_local t left right p.Semicolon _ _ g refl))
+    line_local k b c u v h bn cm = bind_local t left right _ _ _ _ (plain_local t left right s n m k b c u v h bn cm) (λ ty k u v g. bind_local t left right _ _ _ _ (list_local t left right n m (local_declarator s n ty) (local_declarator s m ty) (local_local ty) k b c u v g bn cm) (λ xs k u v g. end_local t left right p.Semicolon _ _ g refl))
 
     line_some : (u u' : List Lexeme) (vs : List LocalDeclarator) → line s n u ≡ Ok (vs, u') → length u' < length u
     line_some u u' vs e = let z = (line_says s n u).by (vs, u') e in let o = (line_begins s z.2).0 in let q = ap length z.1 in omega (arith, length-append z.0 u')
 
-    optional_local : (mark : Punct) → Alike t left right n m (optional s n mark) (optional s m mark)
-    unfolding optional
+    optional_local : (mark : Punct) → Alike t left right n m (optional_expression s n mark) (optional_expression s m mark)
+    unfolding optional_expression
     optional_local mark k b c u v h bn cm = test_local t left right (ap (is_mark mark) (same_kind t left right h)) (ok_local t left right _ _ h refl) (bind_local t left right _ _ _ _ (expression_local k b c u v h bn cm) (λ x k u v g. ok_local t left right _ _ g refl))
 
-    condition_local : Alike t left right n m (condition s n) (condition s m)
-    unfolding condition
+    condition_local : Alike t left right n m (controlling_expression s n) (controlling_expression s m)
+    unfolding controlling_expression
     condition_local k b c u v h bn cm = then_expect t left right p.LeftParen _ _ h (λ k u v g. bind_local t left right _ _ _ _ (expression_local k b c u v g bn cm) (λ x k u v g. end_local t left right p.RightParen x x g refl))
 
-    first_value_local : Alike t left right n m (first_value s n) (first_value s m)
-    unfolding first_value
+    first_value_local : Alike t left right n m (first_expression s n) (first_expression s m)
+    unfolding first_expression
     first_value_local k b c u v h bn cm = bind_local t left right _ _ _ _ (expression_local k b c u v h bn cm) (λ x k u v g. end_local t left right p.Semicolon _ _ g refl)
 
-    first_local : Alike t left right n m (first s n) (first s m)
-    unfolding first
+    first_local : Alike t left right n m (first_clause s n) (first_clause s m)
+    unfolding first_clause
     first_local k b c u v h bn cm = test_local t left right (ap (is_mark p.Semicolon) (same_kind t left right h)) (taken_local t left right _ _ h refl)
         (test_local t left right (begins_at t left right s h) (bind_local t left right _ _ _ _ (line_local k b c u v h bn cm) (λ xs k u v g. ok_local t left right _ _ g refl)) (first_value_local k b c u v h bn cm))
 
-    case_local : (at : ℕ) → Alike t left right n m (case_label s n at) (case_label s m at)
-    unfolding case_label
+    case_local : (at : ℕ) → Alike t left right n m (case_behind s n at) (case_behind s m at)
+    unfolding case_behind
     case_local at k b c u v h bn cm = bind_local t left right _ _ _ _ (expr_local t left right s n m 4 k b c u v h bn cm) (λ x k u v g. end_local t left right p.Colon _ _ g refl)
 
     label_local : Alike t left right n m (label s n) (label s m)
     unfolding label
-    label_local k b c u v h bn cm = rw (same_place t left right h) (test_local t left right (ap (is_keyword w.Case) (same_kind t left right h)) (behind_local t left right (case_label s n (token_place v)) (case_label s m (token_place v)) (case_local (token_place v)) h (omega arith) (omega arith))
+    label_local k b c u v h bn cm = rw (same_place t left right h) (test_local t left right (ap (is_keyword w.Case) (same_kind t left right h)) (behind_local t left right (case_behind s n (token_place v)) (case_behind s m (token_place v)) (case_local (token_place v)) h (omega arith) (omega arith))
         (bind_local t left right _ _ _ _ (expect_word_local t left right n m w.Default k b c u v h bn cm) (λ x k u v g. end_local t left right p.Colon _ _ g refl)))
 
-    return_local : (at : ℕ) → Alike t left right n m (return s n at) (return s m at)
-    unfolding return
+    return_local : (at : ℕ) → Alike t left right n m (return_behind s n at) (return_behind s m at)
+    unfolding return_behind
     return_local at k b c u v h bn cm = bind_local t left right _ _ _ _ (optional_local p.Semicolon k b c u v h bn cm) (λ x k u v g. end_local t left right p.Semicolon _ _ g refl)
 
-    value_local : Alike t left right n m (value s n) (value s m)
-    unfolding value
+    value_local : Alike t left right n m (value_line s n) (value_line s m)
+    unfolding value_line
     value_local k b c u v h bn cm = bind_local t left right _ _ _ _ (expression_local k b c u v h bn cm) (λ x k u v g. end_local t left right p.Semicolon _ _ g refl)
 
     module _ (n2 m2 : ℕ) (le : n2 ≤ n) (le' : m2 ≤ m) (rec rec' : Parser Stmt) (rec_local : Alike t left right n2 m2 rec rec') (rec_says : SoundS s rec) where
@@ -138,27 +138,27 @@ module _ (t : Lexeme) (left right : List Lexeme) where
       unfolding alternative
       alternative_local x y k b c u v h bn cm = test_local t left right (ap (is_keyword w.Else) (same_kind t left right h)) (bind_local t left right _ _ _ _ (behind_local t left right rec rec' rec_local h (omega arith) (omega arith)) (λ z k u v g. ok_local t left right _ _ g refl)) (ok_local t left right _ _ h refl)
 
-      if_else_local : Alike t left right n2 m2 (if_else s n rec) (if_else s m rec')
-      unfolding if_else
+      if_else_local : Alike t left right n2 m2 (if_behind s n rec) (if_behind s m rec')
+      unfolding if_behind
       if_else_local k b c u v h bn cm = bind_local t left right _ _ _ _ (condition_local k b c u v h (omega arith) (omega arith)) (λ x k u v g. bind_local t left right _ _ _ _ (rec_local k b c u v g bn cm) (λ y k u v g. alternative_local x y k b c u v g bn cm))
 
-      while_local : Alike t left right n2 m2 (while s n rec) (while s m rec')
-      unfolding while
+      while_local : Alike t left right n2 m2 (while_behind s n rec) (while_behind s m rec')
+      unfolding while_behind
       while_local k b c u v h bn cm = bind_local t left right _ _ _ _ (condition_local k b c u v h (omega arith) (omega arith)) (λ x k u v g. bind_local t left right _ _ _ _ (rec_local k b c u v g bn cm) (λ y k u v g. ok_local t left right _ _ g refl))
 
-      do_while_local : Alike t left right n2 m2 (do_while s n rec) (do_while s m rec')
-      unfolding do_while
+      do_while_local : Alike t left right n2 m2 (do_behind s n rec) (do_behind s m rec')
+      unfolding do_behind
       do_while_local k b c u v h bn cm = bind_local t left right _ _ _ _ (rec_local k b c u v h bn cm) (λ y k u v g. bind_local t left right _ _ _ _ (expect_word_local t left right n m w.While k b c u v g (omega arith) (omega arith))
           (λ _ k u v g. bind_local t left right _ _ _ _ (condition_local k b c u v g (omega arith) (omega arith)) (λ x k u v g. end_local t left right p.Semicolon _ _ g refl)))
 
-      for_local : Alike t left right n2 m2 (for s n rec) (for s m rec')
-      unfolding for
+      for_local : Alike t left right n2 m2 (for_behind s n rec) (for_behind s m rec')
+      unfolding for_behind
       for_local k b c u v h bn cm = then_expect t left right p.LeftParen _ _ h (λ k u v g. bind_local t left right _ _ _ _ (first_local k b c u v g (omega arith) (omega arith)) (λ x k u v g. bind_local t left right _ _ _ _ (optional_local p.Semicolon k b c u v g (omega arith) (omega arith)) (λ y k u v g.
           then_expect t left right p.Semicolon _ _ g (λ k u v g. bind_local t left right _ _ _ _ (optional_local p.RightParen k b c u v g (omega arith) (omega arith)) (λ z k u v g. then_expect t left right p.RightParen _ _ g (λ k u v g.
           bind_local t left right _ _ _ _ (rec_local k b c u v g bn cm) (λ w' k u v g. ok_local t left right _ _ g refl)))))))
 
-      switch_local : Alike t left right n2 m2 (switch s n rec) (switch s m rec')
-      unfolding switch
+      switch_local : Alike t left right n2 m2 (switch_behind s n rec) (switch_behind s m rec')
+      unfolding switch_behind
       switch_local k b c u v h bn cm = bind_local t left right _ _ _ _ (condition_local k b c u v h (omega arith) (omega arith)) (λ x k u v g. then_expect t left right p.LeftBrace _ _ g (λ k u v g.
           bind_local t left right _ _ _ _ (turns_local t left right n2 m2 (sections_from s n rec) (sections_from s m rec') sections_loop [] k b c u v g bn cm) (λ xs k u v g. ok_local t left right _ _ g refl)))
 
@@ -168,14 +168,14 @@ module _ (t : Lexeme) (left right : List Lexeme) where
       stmt_by_local : suc n2 ≤ n → suc m2 ≤ m → (head : Head) → Alike t left right (suc n2) (suc m2) (stmt_by s n rec head) (stmt_by s m rec' head)
       stmt_by_local ln lm hd.Block k b c u v h bn cm = bind_local t left right _ _ _ _ (behind_local t left right (λ ts. items_from s n rec (length ts) [] ts) (λ ts. items_from s m rec' (length ts) [] ts) items_local h bn cm) (λ xs k u v g. ok_local t left right _ _ g refl)
       stmt_by_local ln lm hd.Empty k b c u v h bn cm = taken_local t left right _ _ h refl
-      stmt_by_local ln lm hd.If k b c u v h bn cm = behind_local t left right (if_else s n rec) (if_else s m rec') if_else_local h bn cm
-      stmt_by_local ln lm hd.While k b c u v h bn cm = behind_local t left right (while s n rec) (while s m rec') while_local h bn cm
-      stmt_by_local ln lm hd.Do k b c u v h bn cm = behind_local t left right (do_while s n rec) (do_while s m rec') do_while_local h bn cm
-      stmt_by_local ln lm hd.For k b c u v h bn cm = behind_local t left right (for s n rec) (for s m rec') for_local h bn cm
-      stmt_by_local ln lm hd.Switch k b c u v h bn cm = behind_local t left right (switch s n rec) (switch s m rec') switch_local h bn cm
+      stmt_by_local ln lm hd.If k b c u v h bn cm = behind_local t left right (if_behind s n rec) (if_behind s m rec') if_else_local h bn cm
+      stmt_by_local ln lm hd.While k b c u v h bn cm = behind_local t left right (while_behind s n rec) (while_behind s m rec') while_local h bn cm
+      stmt_by_local ln lm hd.Do k b c u v h bn cm = behind_local t left right (do_behind s n rec) (do_behind s m rec') do_while_local h bn cm
+      stmt_by_local ln lm hd.For k b c u v h bn cm = behind_local t left right (for_behind s n rec) (for_behind s m rec') for_local h bn cm
+      stmt_by_local ln lm hd.Switch k b c u v h bn cm = behind_local t left right (switch_behind s n rec) (switch_behind s m rec') switch_local h bn cm
       stmt_by_local ln lm hd.Break k b c u v h bn cm = rw (same_place t left right h) (behind_local t left right (λ ts. and_then (expect p.Semicolon ts) (λ _. pure (st.Break (token_place v)))) (λ ts. and_then (expect p.Semicolon ts) (λ _. pure (st.Break (token_place v)))) (last_local (st.Break (token_place v))) h bn cm)
       stmt_by_local ln lm hd.Continue k b c u v h bn cm = rw (same_place t left right h) (behind_local t left right (λ ts. and_then (expect p.Semicolon ts) (λ _. pure (st.Continue (token_place v)))) (λ ts. and_then (expect p.Semicolon ts) (λ _. pure (st.Continue (token_place v)))) (last_local (st.Continue (token_place v))) h bn cm)
-      stmt_by_local ln lm hd.Return k b c u v h bn cm = rw (same_place t left right h) (behind_local t left right (return s n (token_place v)) (return s m (token_place v)) (return_local (token_place v)) h (omega arith) (omega arith))
+      stmt_by_local ln lm hd.Return k b c u v h bn cm = rw (same_place t left right h) (behind_local t left right (return_behind s n (token_place v)) (return_behind s m (token_place v)) (return_local (token_place v)) h (omega arith) (omega arith))
       stmt_by_local ln lm hd.Other k b c u v h bn cm = value_local k b c u v h (omega arith) (omega arith)
 
   stmt_local : (s : TypeNames) (n m : ℕ) → Alike t left right n m (stmt s n) (stmt s m)

@@ -22,7 +22,7 @@ use Rattle.c_grammar.specs.Grammar.{AreConsts, IsPlain, IsDeclarator}
 use Rattle.c_grammar.specs.Specifiers.{IsTag, IsDeclared, AreDeclared, IsConstant, AreConstants, IsSpecifier, AreMembers, IsMember}
 use Rattle.c_grammar.specs.Parser.{Parser}
 use Rattle.c_grammar.specs.ParseExpr.{tag_type}
-use Rattle.c_grammar.specs.ParseSpecifiers.{declaration, braced_list_from, constant, declarators_from, member, members_from, body, braces, tag_or_body, specifier}
+use Rattle.c_grammar.specs.ParseSpecifiers.{declaration, braced_list_from, enumerator, declarators_from, struct_declaration, struct_declarations_from, body, braces, tag_or_body, specifier}
 use Rattle.c_grammar.proofs.Outcomes.{no_true, is_mark_of, expect_at}
 use Rattle.c_grammar.proofs.Facts.{infix_at, weak, type_no_mark}
 use Rattle.c_grammar.proofs.Words.{turn}
@@ -102,8 +102,8 @@ constant_name : (s : TypeNames) {a : List Lexeme} {x : Constant} → IsConstant 
 constant_name s (IsConstant.plain t kind listed) = (omega arith, λ r. ap (is_mark p.RightBrace) kind)
 constant_name s (IsConstant.with_value t u a x kind listed uk h) = (omega arith, λ r. ap (is_mark p.RightBrace) kind)
 
-constant_read : (s : TypeNames) {a : List Lexeme} {x : Constant} → IsConstant s a x → (n : ℕ) (r : List Lexeme) → length (a ++ r) ≤ n → binding_level (infix_at r) < 2 → is_mark p.Assign (kind_at r) ≡ false → constant s n (a ++ r) ≡ Ok (x, r)
-unfolding constant
+constant_read : (s : TypeNames) {a : List Lexeme} {x : Constant} → IsConstant s a x → (n : ℕ) (r : List Lexeme) → length (a ++ r) ≤ n → binding_level (infix_at r) < 2 → is_mark p.Assign (kind_at r) ≡ false → enumerator s n (a ++ r) ≡ Ok (x, r)
+unfolding enumerator
 constant_read s (IsConstant.plain t kind listed) n r len under other = let nk = ap is_name_token kind in rw (nk, listed, other) refl
 constant_read s (IsConstant.with_value t u a x kind listed uk h) n r len under other =
     let nk = ap is_name_token kind in
@@ -141,17 +141,17 @@ constants_first s (AreConstants.last a t x h kind) = let g = constant_name s h i
 constants_first s (AreConstants.more a t b x xs h kind o) = let g = constant_name s h in (omega (arith, length-append a (t ∷ b), g.0), λ r. ap (λ z. is_mark p.RightBrace (kind_at z)) (append_assoc a (t ∷ b) r) ∙ g.1 (t ∷ b ++ r))
 
 constants_read : (s : TypeNames) {a : List Lexeme} {xs : List Constant} → AreConstants s a xs → (n j : ℕ) (found : List Constant) (r : Lexeme) (u : List Lexeme) → r.kind ≡ k.Mark p.RightBrace → length (a ++ r ∷ u) ≤ n → length (a ++ r ∷ u) ≤ j
-    → braced_list_from (constant s n) j found (a ++ r ∷ u) ≡ Ok (found ++ xs, r ∷ u)
+    → braced_list_from (enumerator s n) j found (a ++ r ∷ u) ≡ Ok (found ++ xs, r ∷ u)
 constants_read s (AreConstants.one a x h) n j found r u rk len le =
     let b = brace_constant r u rk in
     let g = constant_read s h n (r ∷ u) len b.0 b.1 in
-    braced_last (constant s n) j found (a ++ r ∷ u) (r ∷ u) x (omega (arith, length-append a (r ∷ u))) g (ap (is_mark p.Comma) rk)
+    braced_last (enumerator s n) j found (a ++ r ∷ u) (r ∷ u) x (omega (arith, length-append a (r ∷ u))) g (ap (is_mark p.Comma) rk)
 constants_read s (AreConstants.last a t x h kind) n j found r u rk len le =
     let q = append_assoc a (t ∷ []) (r ∷ u) in
     let all : length (a ++ (t ∷ r ∷ u)) ≤ n = subst (λ z. length z ≤ n) q len in
     let c = comma_constant t (r ∷ u) kind in
     let g = constant_read s h n (t ∷ r ∷ u) all c.0 c.1 in
-    ap (braced_list_from (constant s n) j found) q ∙ braced_comma (constant s n) j found (a ++ (t ∷ r ∷ u)) t (r ∷ u) x (omega (arith, length-append (a ++ t ∷ []) (r ∷ u))) g kind (is_mark_of p.RightBrace r.kind rk)
+    ap (braced_list_from (enumerator s n) j found) q ∙ braced_comma (enumerator s n) j found (a ++ (t ∷ r ∷ u)) t (r ∷ u) x (omega (arith, length-append (a ++ t ∷ []) (r ∷ u))) g kind (is_mark_of p.RightBrace r.kind rk)
 constants_read s (AreConstants.more a t b x xs h kind o) n zero found r u rk len le = absurd (omega (arith, length-append (a ++ t ∷ b) (r ∷ u)))
 constants_read s (AreConstants.more a t b x xs h kind o) n (suc j) found r u rk len le =
     let q = append_assoc a (t ∷ b) (r ∷ u) in
@@ -160,7 +160,7 @@ constants_read s (AreConstants.more a t b x xs h kind o) n (suc j) found r u rk 
     let fit : length (a ++ (t ∷ b ++ r ∷ u)) ≤ suc j = subst (λ z. length z ≤ suc j) q le in
     let c = comma_constant t (b ++ r ∷ u) kind in
     let g = constant_read s h n (t ∷ b ++ r ∷ u) all c.0 c.1 in
-    ap (braced_list_from (constant s n) (suc j) found) q ∙ braced_more (constant s n) j found (a ++ (t ∷ b ++ r ∷ u)) t (b ++ r ∷ u) x g kind ((constants_first s o).1 (r ∷ u))
+    ap (braced_list_from (enumerator s n) (suc j) found) q ∙ braced_more (enumerator s n) j found (a ++ (t ∷ b ++ r ∷ u)) t (b ++ r ∷ u) x g kind ((constants_first s o).1 (r ∷ u))
     ∙ constants_read s o n j (found ++ x ∷ []) r u rk (omega arith) (omega arith) ∙ ap (λ z. Ok (z, r ∷ u)) (append_assoc found (x ∷ []) xs)
 
 -- ---- specifiers
@@ -169,11 +169,11 @@ abbrev pub ReadsSpec : TypeNames → List Lexeme → TypeNode → Type 0
 ReadsSpec s a ty = (n : ℕ) (r : List Lexeme) → length (a ++ r) ≤ n → Follows r → specifier s n (a ++ r) ≡ Ok (ty, r)
 
 abbrev ReadsMember : TypeNames → List Lexeme → List Declaration → Type 0
-ReadsMember s a ds = (n : ℕ) (r : List Lexeme) → length (a ++ r) < n → member s n (specifier s n) (a ++ r) ≡ Ok (ds, r)
+ReadsMember s a ds = (n : ℕ) (r : List Lexeme) → length (a ++ r) < n → struct_declaration s n (specifier s n) (a ++ r) ≡ Ok (ds, r)
 
 abbrev ReadsMembers : TypeNames → List Lexeme → List Declaration → Type 0
 ReadsMembers s a ds = (n j : ℕ) (found : List Declaration) (r : Lexeme) (u : List Lexeme) → r.kind ≡ k.Mark p.RightBrace → length (a ++ r ∷ u) < n → length (a ++ r ∷ u) ≤ j
-    → members_from s n (specifier s n) j found (a ++ r ∷ u) ≡ Ok (found ++ ds, r ∷ u)
+    → struct_declarations_from s n (specifier s n) j found (a ++ r ∷ u) ≡ Ok (found ++ ds, r ∷ u)
 
 consts_no_brace : {b : List Lexeme} → AreConsts b → (r : List Lexeme) → is_mark p.LeftBrace (kind_at r) ≡ false → is_mark p.LeftBrace (kind_at (b ++ r)) ≡ false
 consts_no_brace AreConsts.none r h = h
@@ -258,7 +258,7 @@ module _ (s : TypeNames) where
   members_begin (AreMembers.more a b ds es h g) = let o = member_begins h in (omega (arith, length-append a b, o.0), λ r. ap (begins_type s) (append_assoc a b r) ∙ o.1 (b ++ r))
 
   member_rule : (a b : List Lexeme) (t : Lexeme) (ty : TypeNode) (ds : List Declaration) → 0 < length a → ReadsSpec s a ty → AreDeclared s ty b ds → t.kind ≡ k.Mark p.Semicolon → ReadsMember s (a ++ (b ++ t ∷ [])) ds
-  unfolding member
+  unfolding struct_declaration
   member_rule a b t ty ds some h g kind n r len =
       let q : (a ++ (b ++ t ∷ [])) ++ r ≡ a ++ (b ++ (t ∷ r)) = append_assoc a (b ++ t ∷ []) r ∙ ap (λ z. a ++ z) (append_assoc b (t ∷ []) r) in
       let all : length (a ++ (b ++ (t ∷ r))) < n = subst (λ z. length z < n) q len in
@@ -270,12 +270,12 @@ module _ (s : TypeNames) where
       rw (q, o, v, e) refl
 
   one_member : (a : List Lexeme) (ds : List Declaration) → 0 < length a → ReadsMember s a ds → ReadsMembers s a ds
-  unfolding members_from
+  unfolding struct_declarations_from
   one_member a ds some h n zero found r u rk len le = absurd (omega (arith, length-append a (r ∷ u)))
   one_member a ds some h n (suc j) found r u rk len le = let o = h n (r ∷ u) len in let v = is_mark_of p.RightBrace r.kind rk in rw (o, v) refl
 
   more_members : (a b : List Lexeme) (ds es : List Declaration) → 0 < length a → ReadsMember s a ds → BeginsType s b → ReadsMembers s b es → ReadsMembers s (a ++ b) (ds ++ es)
-  unfolding members_from
+  unfolding struct_declarations_from
   more_members a b ds es some h c g n zero found r u rk len le = absurd (omega (arith, length-append (a ++ b) (r ∷ u)))
   more_members a b ds es some h c g n (suc j) found r u rk len le =
       let q = append_assoc a b (r ∷ u) in

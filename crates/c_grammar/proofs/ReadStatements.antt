@@ -22,7 +22,7 @@ use Rattle.c_grammar.specs.model.Begins.{begins, begins_by}
 use Rattle.c_grammar.specs.Grammar.{IsWhole}
 use Rattle.c_grammar.specs.Statements.{IsLocalDeclarator, AreLocals, IsLine, IsOptional, IsFirst, IsLabel, IsStmt}
 use Rattle.c_grammar.specs.ParseExpr.{list_from}
-use Rattle.c_grammar.specs.ParseStatements.{expression, local, line, optional, condition, first_value, first, case_label, label, ends_section}
+use Rattle.c_grammar.specs.ParseStatements.{expression, local_declarator, line, optional_expression, controlling_expression, first_expression, first_clause, case_behind, label, ends_section}
 use Rattle.c_grammar.proofs.Outcomes.{no_true, fails, is_mark_of, word_is, is_word_of, expect_at, expect_word_at}
 use Rattle.c_grammar.proofs.Facts.{infix_at, weak, no_type, begins_no_mark, type_no_mark}
 use Rattle.c_grammar.proofs.ReadPlain.{plain_read, plain_begins, BeginsType}
@@ -114,8 +114,8 @@ module _ (s : TypeNames) where
   whole_read : {a : List Lexeme} {v : Expr} → IsWhole s a v → (n : ℕ) (t : Lexeme) (r : List Lexeme) (m : Punct) → t.kind ≡ k.Mark m → binding_level (infix_of (k.Mark m)) < 1 → length (a ++ t ∷ r) ≤ n → expression s n (a ++ t ∷ r) ≡ Ok (v, t ∷ r)
   whole_read h n t r m kind b len = reach_whole s h n (t ∷ r) len (weak t r m 1 kind b)
 
-  pub condition_read : {a : List Lexeme} {v : Expr} → IsWhole s a v → (n : ℕ) (l r : Lexeme) (u : List Lexeme) → l.kind ≡ k.Mark p.LeftParen → r.kind ≡ k.Mark p.RightParen → length (a ++ r ∷ u) ≤ n → condition s n (l ∷ (a ++ r ∷ u)) ≡ Ok (v, u)
-  unfolding condition
+  pub condition_read : {a : List Lexeme} {v : Expr} → IsWhole s a v → (n : ℕ) (l r : Lexeme) (u : List Lexeme) → l.kind ≡ k.Mark p.LeftParen → r.kind ≡ k.Mark p.RightParen → length (a ++ r ∷ u) ≤ n → controlling_expression s n (l ∷ (a ++ r ∷ u)) ≡ Ok (v, u)
+  unfolding controlling_expression
   condition_read {a} h n l r u lk rk len =
       let o = expect_at l (a ++ r ∷ u) p.LeftParen lk in
       let e = whole_read h n r u p.RightParen rk (omega arith) len in
@@ -123,8 +123,8 @@ module _ (s : TypeNames) where
       rw (o, e, c) refl
 
   pub optional_read : {a : List Lexeme} {v : Option Expr} → IsOptional s a v → (n : ℕ) (t : Lexeme) (r : List Lexeme) (m : Punct) → t.kind ≡ k.Mark m → binding_level (infix_of (k.Mark m)) < 1 → ((listed : Bool) → begins_by (prefix_of (k.Mark m)) listed ≡ false)
-      → length (a ++ t ∷ r) ≤ n → optional s n m (a ++ t ∷ r) ≡ Ok (v, t ∷ r)
-  unfolding optional
+      → length (a ++ t ∷ r) ≤ n → optional_expression s n m (a ++ t ∷ r) ≡ Ok (v, t ∷ r)
+  unfolding optional_expression
   optional_read IsOptional.none n t r m kind b f len = let o = is_mark_of m t.kind kind in rw o refl
   optional_read (IsOptional.some a v h) n t r m kind b f len =
       let o = begins_no_mark s (a ++ t ∷ r) m (f (is_type_at s (a ++ t ∷ r))) ((first_whole s h).1 (t ∷ r)) in
@@ -132,8 +132,8 @@ module _ (s : TypeNames) where
       rw (o, e) refl
 
   -- a declarator in a block, up to a comma or a semicolon
-  local_read : {ty : TypeNode} {a : List Lexeme} {v : LocalDeclarator} → IsLocalDeclarator s ty a v → (n : ℕ) (r : List Lexeme) → length (a ++ r) < n → EndsKind (kind_at r) → binding_level (infix_at r) < 2 → is_mark p.Assign (kind_at r) ≡ false → local s n ty (a ++ r) ≡ Ok (v, r)
-  unfolding local
+  local_read : {ty : TypeNode} {a : List Lexeme} {v : LocalDeclarator} → IsLocalDeclarator s ty a v → (n : ℕ) (r : List Lexeme) → length (a ++ r) < n → EndsKind (kind_at r) → binding_level (infix_at r) < 2 → is_mark p.Assign (kind_at r) ≡ false → local_declarator s n ty (a ++ r) ≡ Ok (v, r)
+  unfolding local_declarator
   local_read (IsLocalDeclarator.plain a d h) n r len ends under other = let g = declared_read s h n r len ends in rw (g, other) refl
   local_read (IsLocalDeclarator.with_init a t b d v h kind g) n r len ends under other =
       let q = append_assoc a (t ∷ b) r in
@@ -152,9 +152,9 @@ module _ (s : TypeNames) where
   locals_fronts (AreLocals.more a t b v vs h kind g) = wider a (t ∷ b) (local_fronts h)
 
   locals_read : {ty : TypeNode} {a : List Lexeme} {vs : List LocalDeclarator} → AreLocals s ty a vs → (n j : ℕ) (found : List LocalDeclarator) (t : Lexeme) (r : List Lexeme) → t.kind ≡ k.Mark p.Semicolon → length (a ++ t ∷ r) < n → length (a ++ t ∷ r) ≤ j
-      → list_from (local s n ty) j found (a ++ t ∷ r) ≡ Ok (found ++ vs, t ∷ r)
+      → list_from (local_declarator s n ty) j found (a ++ t ∷ r) ≡ Ok (found ++ vs, t ∷ r)
   locals_read {ty} (AreLocals.one a v h) n j found t r kind len le =
-      list_last (local s n ty) j found (a ++ t ∷ r) (t ∷ r) v (omega (arith, length-append a (t ∷ r))) (local_read h n (t ∷ r) len (semicolon_ends t.kind kind) (weak t r p.Semicolon 2 kind (omega arith)) (ap (is_mark p.Assign) kind)) (ap (is_mark p.Comma) kind)
+      list_last (local_declarator s n ty) j found (a ++ t ∷ r) (t ∷ r) v (omega (arith, length-append a (t ∷ r))) (local_read h n (t ∷ r) len (semicolon_ends t.kind kind) (weak t r p.Semicolon 2 kind (omega arith)) (ap (is_mark p.Assign) kind)) (ap (is_mark p.Comma) kind)
   locals_read (AreLocals.more a o b v vs h ok g) n zero found t r kind len le = absurd (omega (arith, length-append (a ++ o ∷ b) (t ∷ r)))
   locals_read {ty} (AreLocals.more a o b v vs h ok g) n (suc j) found t r kind len le =
       let q = append_assoc a (o ∷ b) (t ∷ r) in
@@ -162,7 +162,7 @@ module _ (s : TypeNames) where
       let all : length (a ++ (o ∷ b ++ t ∷ r)) < n = subst (λ z. length z < n) q len in
       let fit : length (a ++ (o ∷ b ++ t ∷ r)) ≤ suc j = subst (λ z. length z ≤ suc j) q le in
       let e = local_read h n (o ∷ b ++ t ∷ r) all (comma_ends o.kind ok) (weak o (b ++ t ∷ r) p.Comma 2 ok (omega arith)) (ap (is_mark p.Assign) ok) in
-      ap (list_from (local s n ty) (suc j) found) q ∙ list_more (local s n ty) j found (a ++ (o ∷ b ++ t ∷ r)) o (b ++ t ∷ r) v e ok ∙ locals_read g n j (found ++ v ∷ []) t r kind (omega arith) (omega arith)
+      ap (list_from (local_declarator s n ty) (suc j) found) q ∙ list_more (local_declarator s n ty) j found (a ++ (o ∷ b ++ t ∷ r)) o (b ++ t ∷ r) v e ok ∙ locals_read g n j (found ++ v ∷ []) t r kind (omega arith) (omega arith)
       ∙ ap (λ z. Ok (z, t ∷ r)) (append_assoc found (v ∷ []) vs)
 
   pub line_read : {a : List Lexeme} {vs : List LocalDeclarator} → IsLine s a vs → (n : ℕ) (r : List Lexeme) → length (a ++ r) ≤ n → line s n (a ++ r) ≡ Ok (vs, r)
@@ -180,8 +180,8 @@ module _ (s : TypeNames) where
   pub line_begins : {a : List Lexeme} {vs : List LocalDeclarator} → IsLine s a vs → BeginsType s a
   line_begins (IsLine.line a b t ty vs h g kind) = let o = plain_begins s h in (omega (arith, length-append a (b ++ t ∷ []), o.0), λ r. ap (begins_type s) (append_assoc a (b ++ t ∷ []) r) ∙ o.1 ((b ++ t ∷ []) ++ r))
 
-  pub first_read : {a : List Lexeme} {v : ForFirst} → IsFirst s a v → (n : ℕ) (r : List Lexeme) → length (a ++ r) ≤ n → first s n (a ++ r) ≡ Ok (v, r)
-  unfolding first first_value
+  pub first_read : {a : List Lexeme} {v : ForFirst} → IsFirst s a v → (n : ℕ) (r : List Lexeme) → length (a ++ r) ≤ n → first_clause s n (a ++ r) ≡ Ok (v, r)
+  unfolding first_clause first_expression
   first_read (IsFirst.nothing t kind) n r len = let o = is_mark_of p.Semicolon t.kind kind in rw o refl
   first_read (IsFirst.value a t v h kind) n r len =
       let q = append_assoc a (t ∷ []) r in
@@ -198,7 +198,7 @@ module _ (s : TypeNames) where
       rw (o, b, e) refl
 
   pub label_read : {a : List Lexeme} {v : Label} → IsLabel s a v → (n : ℕ) (r : List Lexeme) → length (a ++ r) ≤ n → label s n (a ++ r) ≡ Ok (v, r)
-  unfolding label case_label
+  unfolding label case_behind
   label_read (IsLabel.«case» t a r v kind h rk) n z len =
       let q = append_assoc a (r ∷ []) z in
       let o = is_word_of w.Case t.kind kind in

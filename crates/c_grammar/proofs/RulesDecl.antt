@@ -16,7 +16,7 @@ use Rattle.c_grammar.specs.Tokens.{TypeNames, is_type, token_place, is_mark, is_
 use Rattle.c_grammar.specs.Types.{takes_name, may_be_nameless, nameless, with_shape, with_shapes, parameter_of, without_void}
 use Rattle.c_grammar.specs.Grammar.{AreConsts, IsPlain}
 use Rattle.c_grammar.specs.Parser.{ParseOutcome, and_then}
-use Rattle.c_grammar.specs.ParseExpr.{list_from, type_name, parameter, parameters, length_of, suffixes, group_behind, core, pointer_declarator, expr, declarator}
+use Rattle.c_grammar.specs.ParseExpr.{list_from, type_name, parameter, parameters_behind, length_behind, suffixes, group_behind, core, pointer_declarator, expr, declarator}
 use Rattle.c_grammar.proofs.Outcomes.{no_true, is_mark_of, expect_at}
 use Rattle.c_grammar.proofs.Facts.{weak, begins_no_mark, type_no_mark}
 use Rattle.c_grammar.proofs.ReadPlain.{Stops, no_const, consts_all, plain_read, BeginsType, plain_begins}
@@ -51,7 +51,7 @@ ReadsPListed s a xs = (n j : ℕ) (found : List Parameter) (r : List Lexeme) →
 -- parameters up to the bracket that closes them
 pub record ReadsParameters (s : TypeNames) (a : List Lexeme) (xs : List Parameter) : Type 0 where
   pub no_star : (r : Lexeme) (u : List Lexeme) → r.kind ≡ k.Mark p.RightParen → is_mark p.Star (kind_at (a ++ r ∷ u)) ≡ false
-  pub gives : (n : ℕ) (r : Lexeme) (u : List Lexeme) → r.kind ≡ k.Mark p.RightParen → length (a ++ r ∷ u) ≤ n → parameters s (expr s n) (declarator s n) (a ++ r ∷ u) ≡ Ok (xs, u)
+  pub gives : (n : ℕ) (r : Lexeme) (u : List Lexeme) → r.kind ≡ k.Mark p.RightParen → length (a ++ r ∷ u) ≤ n → parameters_behind s (expr s n) (declarator s n) (a ++ r ∷ u) ≡ Ok (xs, u)
 
 ends_open : (r : List Lexeme) → EndsKind (kind_at r) → Opens r
 ends_open r h = record { no_star = h.no_star; no_name = h.no_name; no_group = λ e. no_true (sym h.no_paren ∙ e) }
@@ -157,7 +157,7 @@ module _ (s : TypeNames) where
 
   pub open_array_rule : (naming : Naming) (a : List Lexeme) (l r : Lexeme) (d : Declarator) → ReachesD s naming a d → l.kind ≡ k.Mark p.LeftBracket → r.kind ≡ k.Mark p.RightBracket
       → ReachesD s naming (a ++ l ∷ r ∷ []) (with_shape d (sh.Array None))
-  unfolding suffixes length_of
+  unfolding suffixes length_behind
   open_array_rule naming a l r d h lk rk = suffix_rule naming a (r ∷ []) l d (with_shape d (sh.Array None)) h (λ u. bracket_opens l (r ∷ u) lk) (λ n j u len le.
       let lb = is_mark_of p.LeftBracket l.kind lk in
       let rb = is_mark_of p.RightBracket r.kind rk in
@@ -165,7 +165,7 @@ module _ (s : TypeNames) where
 
   pub array_rule : (naming : Naming) (a : List Lexeme) (l : Lexeme) (b : List Lexeme) (r : Lexeme) (d : Declarator) (x : Expr) → ReachesD s naming a d → l.kind ≡ k.Mark p.LeftBracket → Begins s b → Reads s 4 b x → r.kind ≡ k.Mark p.RightBracket
       → ReachesD s naming (a ++ (l ∷ b ++ r ∷ [])) (with_shape d (sh.Array (Some x)))
-  unfolding suffixes length_of
+  unfolding suffixes length_behind
   array_rule naming a l b r d x h lk f g rk = suffix_rule naming a (b ++ r ∷ []) l d (with_shape d (sh.Array (Some x))) h (λ u. bracket_opens l ((b ++ r ∷ []) ++ u) lk) (λ n j u len le.
       let q = append_assoc b (r ∷ []) u in
       let lb = is_mark_of p.LeftBracket l.kind lk in
@@ -187,11 +187,11 @@ module _ (s : TypeNames) where
       rw (no, lp, q, o) refl)
 
   pub no_parameter_rule : ReadsParameters s [] []
-  unfolding parameters
+  unfolding parameters_behind
   no_parameter_rule = record { no_star = λ r u e. ap (is_mark p.Star) e; gives = λ n r u e len. let rp = is_mark_of p.RightParen r.kind e in rw rp refl }
 
   pub parameters_rule : (a : List Lexeme) (xs : List Parameter) → BeginsType s a → ReadsPListed s a xs → ReadsParameters s a xs
-  unfolding parameters
+  unfolding parameters_behind
   parameters_rule a xs b h = record {
     no_star = λ r u e. type_no_mark s (a ++ r ∷ u) p.Star (b.1 (r ∷ u));
     gives = λ n r u e len.

@@ -20,7 +20,7 @@ use Rattle.c_grammar.specs.Tokens.{TypeNames, is_type, token_place, is_mark, is_
 use Rattle.c_grammar.specs.Types.{comma_of}
 use Rattle.c_grammar.specs.Grammar.{AreTexts}
 use Rattle.c_grammar.specs.Parser.{Parser}
-use Rattle.c_grammar.specs.ParseExpr.{texts_from, list_from, whole, type_name, arguments, behind_name, cast_behind, brackets_behind, size_of_type, size_of_value, operand_by, operand, member, expr, declarator}
+use Rattle.c_grammar.specs.ParseExpr.{texts_from, list_from, whole, type_name, arguments_behind, behind_name, cast_behind, brackets_behind, sizeof_type_name, sizeof_unary, operand_by, operand, member_name, expr, declarator}
 use Rattle.c_grammar.proofs.Outcomes.{is_mark_of, expect_at}
 use Rattle.c_grammar.proofs.Facts.{infix_at, gap, no_two, no_four, no_tight, no_comma, weak, no_type, begins_no_mark}
 use Rattle.c_grammar.proofs.ReadPlain.{ends_by, BeginsType}
@@ -142,16 +142,16 @@ module _ (s : TypeNames) where
       ap (λ cl. operand_by s (expr s n) (declarator s n) least cl (t ∷ a ++ r)) kind ∙ rw g refl)
 
   pub size_rule : (m : ℕ) (t : Lexeme) (a : List Lexeme) (x : Expr) → m ≤ 17 → t.kind ≡ k.Word w.Sizeof → ((r : List Lexeme) → NoCast s (a ++ r)) → Reads s 17 a x → Reaches s m (t ∷ a) (e.SizeOfValue t.at x)
-  unfolding operand size_of_value
+  unfolding operand sizeof_unary
   size_rule m t a x low kind c h = start s m 17 (t ∷ a) (e.SizeOfValue t.at x) low (omega arith) (λ n least r len under next.
       let g = h n r (omega arith) (let l = gap (infix_at r) (omega arith) in omega arith) in
       ap (λ kd. operand_by s (expr s n) (declarator s n) least (prefix_of kd) (t ∷ a ++ r)) kind
-      ∙ either (is_mark p.LeftParen (kind_at (a ++ r))) _ (size_of_value s (expr s n) (declarator s n) t.at (a ++ r)) (λ yes. ap (λ b. cond b (size_of_type s (expr s n) (declarator s n) t.at (token_tail (a ++ r))) (size_of_value s (expr s n) (declarator s n) t.at (a ++ r))) (c r yes))
+      ∙ either (is_mark p.LeftParen (kind_at (a ++ r))) _ (sizeof_unary s (expr s n) (declarator s n) t.at (a ++ r)) (λ yes. ap (λ b. cond b (sizeof_type_name s (expr s n) (declarator s n) t.at (token_tail (a ++ r))) (sizeof_unary s (expr s n) (declarator s n) t.at (a ++ r))) (c r yes))
       ∙ rw g refl)
 
   pub size_type_rule : (m : ℕ) (t l : Lexeme) (a : List Lexeme) (r : Lexeme) (ty : TypeName) → m ≤ 17 → t.kind ≡ k.Word w.Sizeof → l.kind ≡ k.Mark p.LeftParen → BeginsType s a → ReadsType s a ty → r.kind ≡ k.Mark p.RightParen
       → Reaches s m (t ∷ l ∷ a ++ r ∷ []) (e.SizeOfType t.at ty)
-  unfolding operand size_of_type
+  unfolding operand sizeof_type_name
   size_type_rule m t l a r ty low kind lk c h rk = start s m 17 (t ∷ l ∷ a ++ r ∷ []) (e.SizeOfType t.at ty) low (omega arith) (λ n least u len under next.
       let q = append_assoc a (r ∷ []) u in
       let o = h n (r ∷ u) (subst (λ z. length z ≤ n) q (omega arith)) (paren_ends r.kind rk) in
@@ -162,7 +162,7 @@ module _ (s : TypeNames) where
 
   pub empty_call_rule : (m : ℕ) (t l r : Lexeme) → m ≤ 19 → t.kind ≡ k.Name → is_type s t ≡ false → l.kind ≡ k.Mark p.LeftParen → r.kind ≡ k.Mark p.RightParen
       → Reaches s m (t ∷ l ∷ r ∷ []) (e.Call t.at t.spelling [])
-  unfolding operand behind_name arguments
+  unfolding operand behind_name arguments_behind
   empty_call_rule m t l r low kind listed lk rk = start s m 19 (t ∷ l ∷ r ∷ []) (e.Call t.at t.spelling []) low (omega arith) (λ n least u len under next.
       let v = is_mark_of p.LeftParen l.kind lk in
       let d = is_mark_of p.RightParen r.kind rk in
@@ -170,7 +170,7 @@ module _ (s : TypeNames) where
 
   pub call_rule : (m : ℕ) (t l : Lexeme) (a : List Lexeme) (r : Lexeme) (xs : List Expr) → m ≤ 19 → t.kind ≡ k.Name → is_type s t ≡ false → l.kind ≡ k.Mark p.LeftParen → Begins s a → ReadsListed s a xs → r.kind ≡ k.Mark p.RightParen
       → Reaches s m (t ∷ l ∷ a ++ r ∷ []) (e.Call t.at t.spelling xs)
-  unfolding operand behind_name arguments
+  unfolding operand behind_name arguments_behind
   call_rule m t l a r xs low kind listed lk b h rk = start s m 19 (t ∷ l ∷ a ++ r ∷ []) (e.Call t.at t.spelling xs) low (omega arith) (λ n least u len under next.
       let q = append_assoc a (r ∷ []) u in
       let g = h n (length (a ++ r ∷ u)) [] (r ∷ u) (subst (λ z. length z ≤ n) q (omega arith)) (omega arith) (weak r u p.RightParen 1 rk (omega arith)) in
@@ -189,12 +189,12 @@ module _ (s : TypeNames) where
       rw (q, o, d) refl)
 
   pub field_rule : (m : ℕ) (a : List Lexeme) (t n : Lexeme) (x : Expr) → m ≤ 18 → 0 < length a → Reaches s 18 a x → t.kind ≡ k.Mark p.Dot → n.kind ≡ k.Name → Reaches s m (a ++ t ∷ n ∷ []) (e.Field (token_place a) x n.spelling)
-  unfolding member
+  unfolding member_name
   field_rule m a t n x low some h tk nk =
       advance_by s m 18 i.Field t a (n ∷ []) x (e.Field (token_place a) x n.spelling) (ap infix_of tk) (record { low = low; under = omega arith; high = omega arith; demand = omega arith }) some h (λ d u len next. rw nk refl)
 
   pub arrow_rule : (m : ℕ) (a : List Lexeme) (t n : Lexeme) (x : Expr) → m ≤ 18 → 0 < length a → Reaches s 18 a x → t.kind ≡ k.Mark p.Arrow → n.kind ≡ k.Name → Reaches s m (a ++ t ∷ n ∷ []) (e.Arrow (token_place a) x n.spelling)
-  unfolding member
+  unfolding member_name
   arrow_rule m a t n x low some h tk nk =
       advance_by s m 18 i.Arrow t a (n ∷ []) x (e.Arrow (token_place a) x n.spelling) (ap infix_of tk) (record { low = low; under = omega arith; high = omega arith; demand = omega arith }) some h (λ d u len next. rw nk refl)
 

@@ -16,7 +16,7 @@ use Rattle.c_grammar.specs.Classes.{head_of}
 use Rattle.c_grammar.specs.Tokens.{TypeNames, is_mark, is_keyword, kind_at, is_type_at}
 use Rattle.c_grammar.specs.Grammar.{IsWhole}
 use Rattle.c_grammar.specs.Statements.{IsLine, IsOptional, IsFirst, IsLabel, locals_of, IsStmt, AreItems, AreSections, AreStmts}
-use Rattle.c_grammar.specs.ParseStatements.{items_from, ends_section, stmts_from, section, sections_from, alternative, if_else, while, do_while, for, switch, return, value, stmt_by, stmt}
+use Rattle.c_grammar.specs.ParseStatements.{items_from, ends_section, stmts_from, section, sections_from, alternative, if_behind, while_behind, do_behind, for_behind, switch_behind, return_behind, value_line, stmt_by, stmt}
 use Rattle.c_grammar.proofs.Outcomes.{no_true, is_mark_of, is_word_of, expect_at, expect_word_at}
 use Rattle.c_grammar.proofs.Facts.{weak, type_no_mark}
 use Rattle.c_grammar.proofs.First.{first_whole}
@@ -59,7 +59,7 @@ module _ (s : TypeNames) where
   empty_rule m t kind (suc n) z len next = ap (λ kd. stmt_by s (suc n) (stmt s n) (head_of kd) (t ∷ z)) kind
 
   value_rule : (m : ℕ) (a : List Lexeme) (t : Lexeme) (v : Expr) → IsWhole s a v → t.kind ≡ k.Mark p.Semicolon → ReadsStmt s m (a ++ t ∷ []) (u.Expression v)
-  unfolding stmt value
+  unfolding stmt value_line
   value_rule m a t v h kind zero z len next = absurd (omega (arith, length-append (a ++ t ∷ []) z, length-append a (t ∷ [])))
   value_rule m a t v h kind (suc n) z len next =
       let q = append_assoc a (t ∷ []) z in
@@ -71,7 +71,7 @@ module _ (s : TypeNames) where
 
   if_only_rule : (m : ℕ) (t l : Lexeme) (a : List Lexeme) (r : Lexeme) (b : List Lexeme) (v : Expr) (z : Stmt) → m ≤ 0 → t.kind ≡ k.Word w.If → l.kind ≡ k.Mark p.LeftParen → IsWhole s a v → r.kind ≡ k.Mark p.RightParen
       → ReadsStmt s 0 b z → ReadsStmt s m (t ∷ l ∷ a ++ r ∷ b) (u.If v z None)
-  unfolding stmt if_else alternative
+  unfolding stmt if_behind alternative
   if_only_rule m t l a r b v z low kind lk h rk g zero y len next = absurd (omega arith)
   if_only_rule m t l a r b v z low kind lk h rk g (suc n) y len next =
       let q = append_assoc a (r ∷ b) y in
@@ -83,7 +83,7 @@ module _ (s : TypeNames) where
 
   if_else_rule : (m : ℕ) (t l : Lexeme) (a : List Lexeme) (r : Lexeme) (b : List Lexeme) (o : Lexeme) (c : List Lexeme) (v : Expr) (z q : Stmt) → t.kind ≡ k.Word w.If → l.kind ≡ k.Mark p.LeftParen → IsWhole s a v → r.kind ≡ k.Mark p.RightParen
       → ReadsStmt s 1 b z → o.kind ≡ k.Word w.Else → ReadsStmt s m c q → ReadsStmt s m (t ∷ l ∷ a ++ (r ∷ b ++ o ∷ c)) (u.If v z (Some q))
-  unfolding stmt if_else alternative
+  unfolding stmt if_behind alternative
   if_else_rule m t l a r b o c v z q kind lk h rk g ok j zero y len next = absurd (omega arith)
   if_else_rule m t l a r b o c v z q kind lk h rk g ok j (suc n) y len next =
       let x : (a ++ (r ∷ b ++ o ∷ c)) ++ y ≡ a ++ (r ∷ (b ++ (o ∷ (c ++ y)))) = append_assoc a (r ∷ b ++ o ∷ c) y ∙ ap (λ z. a ++ (r ∷ z)) (append_assoc b (o ∷ c) y) in
@@ -98,7 +98,7 @@ module _ (s : TypeNames) where
 
   while_rule : (m : ℕ) (t l : Lexeme) (a : List Lexeme) (r : Lexeme) (b : List Lexeme) (v : Expr) (z : Stmt) → t.kind ≡ k.Word w.While → l.kind ≡ k.Mark p.LeftParen → IsWhole s a v → r.kind ≡ k.Mark p.RightParen
       → ReadsStmt s m b z → ReadsStmt s m (t ∷ l ∷ a ++ r ∷ b) (u.While v z)
-  unfolding stmt while
+  unfolding stmt while_behind
   while_rule m t l a r b v z kind lk h rk g zero y len next = absurd (omega arith)
   while_rule m t l a r b v z kind lk h rk g (suc n) y len next =
       let q = append_assoc a (r ∷ b) y in
@@ -109,7 +109,7 @@ module _ (s : TypeNames) where
 
   do_while_rule : (m : ℕ) (t : Lexeme) (a : List Lexeme) (o l : Lexeme) (b : List Lexeme) (r e : Lexeme) (v : Expr) (z : Stmt) → t.kind ≡ k.Word w.Do → ReadsStmt s 0 a z → o.kind ≡ k.Word w.While → l.kind ≡ k.Mark p.LeftParen → IsWhole s b v
       → r.kind ≡ k.Mark p.RightParen → e.kind ≡ k.Mark p.Semicolon → ReadsStmt s m (t ∷ a ++ (o ∷ l ∷ b ++ r ∷ e ∷ [])) (u.Do z v)
-  unfolding stmt do_while
+  unfolding stmt do_behind
   do_while_rule m t a o l b r e v z kind h ok lk g rk ek zero y len next = absurd (omega arith)
   do_while_rule m t a o l b r e v z kind h ok lk g rk ek (suc n) y len next =
       let q : (a ++ (o ∷ l ∷ b ++ r ∷ e ∷ [])) ++ y ≡ a ++ (o ∷ l ∷ (b ++ (r ∷ e ∷ y))) = append_assoc a (o ∷ l ∷ b ++ r ∷ e ∷ []) y ∙ ap (λ z. a ++ (o ∷ l ∷ z)) (append_assoc b (r ∷ e ∷ []) y) in
@@ -123,7 +123,7 @@ module _ (s : TypeNames) where
 
   for_rule : (m : ℕ) (t l : Lexeme) (a b : List Lexeme) (e : Lexeme) (c : List Lexeme) (r : Lexeme) (d : List Lexeme) (v : ForFirst) (y z : Option Expr) (q : Stmt) → t.kind ≡ k.Word w.For → l.kind ≡ k.Mark p.LeftParen → IsFirst s a v
       → IsOptional s b y → e.kind ≡ k.Mark p.Semicolon → IsOptional s c z → r.kind ≡ k.Mark p.RightParen → ReadsStmt s m d q → ReadsStmt s m (t ∷ l ∷ a ++ (b ++ (e ∷ c ++ r ∷ d))) (u.For v y z q)
-  unfolding stmt for
+  unfolding stmt for_behind
   for_rule m t l a b e c r d v y z q kind lk h g ek o rk j zero i len next = absurd (omega arith)
   for_rule m t l a b e c r d v y z q kind lk h g ek o rk j (suc n) i len next =
       let x : (a ++ (b ++ (e ∷ c ++ r ∷ d))) ++ i ≡ a ++ (b ++ (e ∷ (c ++ (r ∷ (d ++ i))))) = append_assoc a (b ++ (e ∷ c ++ r ∷ d)) i ∙ ap (λ z. a ++ z) (append_assoc b (e ∷ c ++ r ∷ d) i ∙ ap (λ z. b ++ (e ∷ z)) (append_assoc c (r ∷ d) i)) in
@@ -142,7 +142,7 @@ module _ (s : TypeNames) where
 
   switch_rule : (m : ℕ) (t l : Lexeme) (a : List Lexeme) (r o : Lexeme) (b : List Lexeme) (e : Lexeme) (v : Expr) (vs : List Section) → t.kind ≡ k.Word w.Switch → l.kind ≡ k.Mark p.LeftParen → IsWhole s a v → r.kind ≡ k.Mark p.RightParen
       → o.kind ≡ k.Mark p.LeftBrace → ReadsSections s b vs → e.kind ≡ k.Mark p.RightBrace → ReadsStmt s m (t ∷ l ∷ a ++ (r ∷ o ∷ b ++ e ∷ [])) (u.Switch v vs)
-  unfolding stmt switch
+  unfolding stmt switch_behind
   switch_rule m t l a r o b e v vs kind lk h rk ok g ek zero y len next = absurd (omega arith)
   switch_rule m t l a r o b e v vs kind lk h rk ok g ek (suc n) y len next =
       let q : (a ++ (r ∷ o ∷ b ++ e ∷ [])) ++ y ≡ a ++ (r ∷ o ∷ (b ++ (e ∷ y))) = append_assoc a (r ∷ o ∷ b ++ e ∷ []) y ∙ ap (λ z. a ++ (r ∷ o ∷ z)) (append_assoc b (e ∷ []) y) in
@@ -164,7 +164,7 @@ module _ (s : TypeNames) where
   continue_rule m t r kind rk (suc n) y len next = let o = expect_at r y p.Semicolon rk in ap (λ kd. stmt_by s (suc n) (stmt s n) (head_of kd) (t ∷ r ∷ y)) kind ∙ rw o refl
 
   return_rule : (m : ℕ) (t : Lexeme) (a : List Lexeme) (r : Lexeme) (v : Option Expr) → t.kind ≡ k.Word w.Return → IsOptional s a v → r.kind ≡ k.Mark p.Semicolon → ReadsStmt s m (t ∷ a ++ r ∷ []) (u.Return t.at v)
-  unfolding stmt return
+  unfolding stmt return_behind
   return_rule m t a r v kind h rk zero y len next = absurd (omega arith)
   return_rule m t a r v kind h rk (suc n) y len next =
       let q = append_assoc a (r ∷ []) y in

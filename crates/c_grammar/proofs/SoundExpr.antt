@@ -22,7 +22,7 @@ use Rattle.c_grammar.specs.Tokens.{TypeNames, is_type, token_place, is_mark, is_
 use Rattle.c_grammar.specs.Types.{takes_name, may_be_nameless, nameless, with_shape, with_shapes, parameter_of, without_void, comma_of}
 use Rattle.c_grammar.specs.Grammar.{AreConsts, IsPlain, AreTexts, IsExpr, IsWhole, AreAssignments, AreArguments, IsTypeName, IsDeclarator, AreParameters, AreSomeParameters, IsParameter}
 use Rattle.c_grammar.specs.Parser.{Parser, and_then, pure, consts}
-use Rattle.c_grammar.specs.ParseExpr.{plain, texts_from, list_from, whole, type_name, parameter, arguments, parameters, behind_name, cast_behind, brackets_behind, bracket_operand, size_of_type, size_of_value, size_of, operand_by, operand, member, step_by, climb, tight, length_of, suffixes, group_behind, core_bracket, core, pointer_declarator, shaping, expr, declarator}
+use Rattle.c_grammar.specs.ParseExpr.{plain, texts_from, list_from, whole, type_name, parameter, arguments_behind, parameters_behind, behind_name, cast_behind, brackets_behind, bracket_operand, sizeof_type_name, sizeof_unary, sizeof_behind, operand_by, operand, member_name, step_by, climb, tight, length_behind, suffixes, group_behind, core_bracket, core, pointer_declarator, shaping, expr, declarator}
 use Rattle.std.specs.Prelude.{◌≢◌}
 use Rattle.std.proofs.lemmas.Bool.{ltb-true, ltb-false}
 use Rattle.c_grammar.proofs.Outcomes.{no_true, mark_is, name_is, text_is}
@@ -207,8 +207,8 @@ module _ (s : TypeNames) where
         done_says (comma_of (token_place ts) xs) a r (λ a x. IsWhole s a x) (subst (λ at. IsWhole s a (comma_of at xs)) (sym (ap token_place e ∙ place-append a r (first_listed s h).0)) (IsWhole.commas a xs h)))
         (λ a xs h. ([], comma_of (token_place a) xs, subst (λ c. IsWhole s c (comma_of (token_place a) xs)) (sym (append-nil a)) (IsWhole.commas a xs h)))
 
-    arguments_says : (ts : List Lexeme) → Says (arguments s rec dec ts) ts (λ a xs. (b : List Lexeme) × (r : Lexeme) × (a ≡ b ++ r ∷ []) × AreArguments s b xs × (r.kind ≡ k.Mark p.RightParen))
-    unfolding arguments
+    arguments_says : (ts : List Lexeme) → Says (arguments_behind s rec dec ts) ts (λ a xs. (b : List Lexeme) × (r : Lexeme) × (a ≡ b ++ r ∷ []) × AreArguments s b xs × (r.kind ≡ k.Mark p.RightParen))
+    unfolding arguments_behind
     arguments_says [] = bind_says (list_from (rec 2) 0 [] []) _ [] (λ a xs. AreAssignments s a xs) _ (list_of 0 []) (λ a xs u h. expect_says p.RightParen _ u _ (λ r v kind. ok_says xs v _ (a, r, refl, AreArguments.some a xs h, kind)))
     arguments_says (t ∷ ts) = if_says (is_mark p.RightParen t.kind) (Ok ([], ts)) _ (t ∷ ts) _
         (λ yes. token_says (Ok ([], ts)) t ts _ (ok_says [] ts _ ([], t, refl, AreArguments.none, mark_is p.RightParen t.kind yes)))
@@ -232,8 +232,8 @@ module _ (s : TypeNames) where
     parameters_of j ts = weaker (list_from (parameter s rec dec) j [] ts) ts _ _ (λ a ys q. subst (λ z. AreSomeParameters s a z) (sym q.1) q.2)
         (list_says (parameter s rec dec) (λ a x. IsParameter s a x) (λ a xs. AreSomeParameters s a xs) parameter_says (λ a x h. AreSomeParameters.one_parameter a x h) (λ a t b x xs h kind g. AreSomeParameters.more_parameters a t b x xs h kind g) j [] ts)
 
-    parameters_says : (ts : List Lexeme) → Says (parameters s rec dec ts) ts (λ a xs. (b : List Lexeme) × (r : Lexeme) × (a ≡ b ++ r ∷ []) × AreParameters s b xs × (r.kind ≡ k.Mark p.RightParen))
-    unfolding parameters
+    parameters_says : (ts : List Lexeme) → Says (parameters_behind s rec dec ts) ts (λ a xs. (b : List Lexeme) × (r : Lexeme) × (a ≡ b ++ r ∷ []) × AreParameters s b xs × (r.kind ≡ k.Mark p.RightParen))
+    unfolding parameters_behind
     parameters_says [] = bind_says (list_from (parameter s rec dec) 0 [] []) _ [] (λ a xs. AreSomeParameters s a xs) _ (parameters_of 0 []) (λ a xs u h. expect_says p.RightParen _ u _ (λ r v kind. ok_says xs v _ (a, r, refl, AreParameters.parameters a xs h, kind)))
     parameters_says (t ∷ ts) = if_says (is_mark p.RightParen t.kind) (Ok ([], ts)) _ (t ∷ ts) _
         (λ yes. token_says (Ok ([], ts)) t ts _ (ok_says [] ts _ ([], t, refl, AreParameters.no_parameter, mark_is p.RightParen t.kind yes)))
@@ -248,7 +248,7 @@ module _ (s : TypeNames) where
     unfolding behind_name
     by_name_says least t [] cap kind listed = lone_name least t [] cap kind listed
     by_name_says least t (l ∷ ts) cap kind listed = if_says (is_mark p.LeftParen l.kind) _ _ (l ∷ ts) _
-        (λ yes. token_says _ l ts _ (bind_says (arguments s rec dec ts) _ ts _ _ (arguments_says ts) (λ a xs u q.
+        (λ yes. token_says _ l ts _ (bind_says (arguments_behind s rec dec ts) _ ts _ _ (arguments_says ts) (λ a xs u q.
         let P : List Lexeme → Type 0 = λ a. Says (Ok ((e.Call t.at t.spelling xs, 19), u)) u (λ c z. IsOperand s least (t ∷ l ∷ (a ++ c)) z) in
         subst P (sym q.2) (done_says (e.Call t.at t.spelling xs, 19) (q.0 ++ q.1 ∷ []) u (λ c z. IsOperand s least (t ∷ l ∷ c) z) (record { wanted = omega arith; is = IsExpr.call {m = 19} t l q.0 q.1 xs (omega arith) kind listed (mark_is p.LeftParen l.kind yes) q.3 q.4 })))))
         (λ other. lone_name least t (l ∷ ts) cap kind listed)
@@ -279,17 +279,17 @@ module _ (s : TypeNames) where
         (λ yes. if_says (ltb least 17) (cast_behind s rec dec l.at ts) (Err ts) ts _ (λ low. let h = ltb-true least 17 low in cast_says least l ts (omega arith) lk) (λ high. refused_says ts _ (some_brackets least l cap lk)))
         (λ other. brackets_says least l ts cap lk)
 
-    size_value_says : (least : ℕ) (t : Lexeme) (ts : List Lexeme) → least ≤ 17 → t.kind ≡ k.Word w.Sizeof → Says (size_of_value s rec dec t.at ts) ts (λ b q. IsOperand s least (t ∷ b) q)
-    unfolding size_of_value
+    size_value_says : (least : ℕ) (t : Lexeme) (ts : List Lexeme) → least ≤ 17 → t.kind ≡ k.Word w.Sizeof → Says (sizeof_unary s rec dec t.at ts) ts (λ b q. IsOperand s least (t ∷ b) q)
+    unfolding sizeof_unary
     size_value_says least t ts cap kind = bind_says (rec 17 ts) _ ts (λ a x. IsExpr s 17 a x) _ (sound 17 ts seventeen_wanted) (λ a x u h.
         done_says (e.SizeOfValue t.at x, 17) a u (λ c z. IsOperand s least (t ∷ c) z) (record { wanted = omega arith; is = IsExpr.size_of {m = 17} t a x (omega arith) kind h }))
 
-    size_type_says : (least : ℕ) (t l : Lexeme) (ts : List Lexeme) → least ≤ 17 → t.kind ≡ k.Word w.Sizeof → l.kind ≡ k.Mark p.LeftParen → Says (size_of_type s rec dec t.at ts) ts (λ b q. IsOperand s least (t ∷ l ∷ b) q)
-    unfolding size_of_type
+    size_type_says : (least : ℕ) (t l : Lexeme) (ts : List Lexeme) → least ≤ 17 → t.kind ≡ k.Word w.Sizeof → l.kind ≡ k.Mark p.LeftParen → Says (sizeof_type_name s rec dec t.at ts) ts (λ b q. IsOperand s least (t ∷ l ∷ b) q)
+    unfolding sizeof_type_name
     size_type_says least t l ts cap kind lk = bind_says (type_name s rec dec ts) _ ts (λ a ty. IsTypeName s a ty) _ (type_says ts) (λ a ty u h. expect_says p.RightParen _ u _ (λ r v rk.
         ok_says (e.SizeOfType t.at ty, 17) v _ (record { wanted = omega arith; is = IsExpr.size_of_type {m = 17} t l a r ty (omega arith) kind lk h rk })))
 
-    size_says : (least : ℕ) (t : Lexeme) (ts : List Lexeme) → least ≤ 17 → t.kind ≡ k.Word w.Sizeof → Says (size_of s rec dec t.at ts) ts (λ b q. IsOperand s least (t ∷ b) q)
+    size_says : (least : ℕ) (t : Lexeme) (ts : List Lexeme) → least ≤ 17 → t.kind ≡ k.Word w.Sizeof → Says (sizeof_behind s rec dec t.at ts) ts (λ b q. IsOperand s least (t ∷ b) q)
     size_says least t [] cap kind = size_value_says least t [] cap kind
     size_says least t (l ∷ ts) cap kind = if_says (is_mark p.LeftParen l.kind) _ _ (l ∷ ts) _
         (λ yes. if_says (begins_type s ts) _ _ (l ∷ ts) _ (λ type. token_says _ l ts _ (size_type_says least t l ts cap kind (mark_is p.LeftParen l.kind yes))) (λ value. size_value_says least t (l ∷ ts) cap kind))
@@ -336,10 +336,10 @@ module _ (s : TypeNames) where
 
     -- ---- the loop over operators
 
-    member_says : (make : List ℕ → Expr) (ts : List Lexeme) (T : List Lexeme → Expr → Type 0) → ((n : Lexeme) → n.kind ≡ k.Name → T (n ∷ []) (make n.spelling)) → Says (and_then (member ts) (λ name. pure (make name))) ts T
-    unfolding member
+    member_says : (make : List ℕ → Expr) (ts : List Lexeme) (T : List Lexeme → Expr → Type 0) → ((n : Lexeme) → n.kind ≡ k.Name → T (n ∷ []) (make n.spelling)) → Says (and_then (member_name ts) (λ name. pure (make name))) ts T
+    unfolding member_name
     member_says make [] T h = refused_says [] T (lexeme_of k.Name ∷ [], make [], h (lexeme_of k.Name) refl)
-    member_says make (n ∷ r) T h = bind_says (member (n ∷ r)) _ (n ∷ r) (λ a name. T a (make name)) T
+    member_says make (n ∷ r) T h = bind_says (member_name (n ∷ r)) _ (n ∷ r) (λ a name. T a (make name)) T
         (if_says (is_name_token n.kind) _ _ (n ∷ r) _ (λ yes. token_says _ n r _ (ok_says n.spelling r _ (h n (name_is n.kind yes)))) (λ other. refused_says (n ∷ r) _ (lexeme_of k.Name ∷ [], [], h (lexeme_of k.Name) refl))) (λ a name u g. done_says (make name) a u T g)
 
     step_says : (class : Infix) (t : Lexeme) (level : ℕ) (done : List Lexeme) (x : Expr) (ts : List Lexeme) → infix_of t.kind ≡ class → 2 ≤ binding_level class → operand_level class ≤ level → IsExpr s level done x
@@ -384,8 +384,8 @@ module _ (s : TypeNames) where
 
     -- ---- declarators
 
-    length_says : (naming : Naming) (l : Lexeme) (done : List Lexeme) (d : Declarator) (ts : List Lexeme) → l.kind ≡ k.Mark p.LeftBracket → IsDeclarator s naming 1 done d → Says (length_of s rec dec d ts) ts (λ b z. IsDeclarator s naming 1 (done ++ l ∷ b) z)
-    unfolding length_of
+    length_says : (naming : Naming) (l : Lexeme) (done : List Lexeme) (d : Declarator) (ts : List Lexeme) → l.kind ≡ k.Mark p.LeftBracket → IsDeclarator s naming 1 done d → Says (length_behind s rec dec d ts) ts (λ b z. IsDeclarator s naming 1 (done ++ l ∷ b) z)
+    unfolding length_behind
     length_says naming l done d [] lk h = bind_says (rec 4 []) _ [] (λ a x. IsExpr s 4 a x) _ (sound 4 [] four_wanted) (λ a x u g. expect_says p.RightBracket _ u _ (λ r v rk.
         ok_says (with_shape d (sh.Array (Some x))) v _ (IsDeclarator.array done l a r d x h lk g rk)))
     length_says naming l done d (t ∷ ts) lk h = if_says (is_mark p.RightBracket t.kind) _ _ (t ∷ ts) _
@@ -398,10 +398,10 @@ module _ (s : TypeNames) where
     suffixes_says naming zero done d ts h = done_says d done ts (λ a z. IsDeclarator s naming 1 a z) h
     suffixes_says naming (suc j) done d [] h = done_says d done [] (λ a z. IsDeclarator s naming 1 a z) h
     suffixes_says naming (suc j) done d (t ∷ ts) h = if_says (is_mark p.LeftBracket t.kind) _ _ (t ∷ ts) _
-        (λ yes. token_says _ t ts _ (bind_says (length_of s rec dec d ts) _ ts (λ b z. IsDeclarator s naming 1 (done ++ t ∷ b) z) _ (length_says naming t done d ts (mark_is p.LeftBracket t.kind yes) h) (λ b z r g.
+        (λ yes. token_says _ t ts _ (bind_says (length_behind s rec dec d ts) _ ts (λ b z. IsDeclarator s naming 1 (done ++ t ∷ b) z) _ (length_says naming t done d ts (mark_is p.LeftBracket t.kind yes) h) (λ b z r g.
         weaker _ r _ _ (λ a v q. subst (λ c. IsDeclarator s naming 1 c v) (append_assoc done (t ∷ b) a) q) (suffixes_says naming j (done ++ t ∷ b) z r g))))
         (λ other. if_says (is_mark p.LeftParen t.kind) _ _ (t ∷ ts) _
-        (λ yes. token_says _ t ts _ (bind_says (parameters s rec dec ts) _ ts _ _ (parameters_says ts) (λ a xs u q.
+        (λ yes. token_says _ t ts _ (bind_says (parameters_behind s rec dec ts) _ ts _ _ (parameters_says ts) (λ a xs u q.
         let P : List Lexeme → Type 0 = λ a. Says (suffixes s rec dec j (with_shape d (sh.Takes (without_void xs))) u) u (λ c z. IsDeclarator s naming 1 (done ++ t ∷ (a ++ c)) z) in
         subst P (sym q.2) (weaker _ u _ _ (λ c v o. subst (λ c. IsDeclarator s naming 1 c v) (append_assoc done (t ∷ q.0 ++ q.1 ∷ []) c) o) (suffixes_says naming j (done ++ (t ∷ q.0 ++ q.1 ∷ [])) (with_shape d (sh.Takes (without_void xs))) u (IsDeclarator.function done t q.0 q.1 d xs h (mark_is p.LeftParen t.kind yes) q.3 q.4))))))
         (λ none. done_says d done (t ∷ ts) (λ a z. IsDeclarator s naming 1 a z) h))

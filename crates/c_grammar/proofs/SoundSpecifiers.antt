@@ -21,7 +21,7 @@ use Rattle.c_grammar.specs.Grammar.{AreConsts, IsPlain, IsExpr, IsDeclarator}
 use Rattle.c_grammar.specs.Specifiers.{IsTag, IsDeclared, AreDeclared, IsConstant, AreConstants, IsSpecifier, AreMembers, IsMember}
 use Rattle.c_grammar.specs.Parser.{Parser, consts}
 use Rattle.c_grammar.specs.ParseExpr.{tag_type, plain, specifier_from, expr, declarator}
-use Rattle.c_grammar.specs.ParseSpecifiers.{named_by, declaration, braced_list_from, constant_value, constant, declarators_from, member, members_from, braces, tag_or_body, specifier}
+use Rattle.c_grammar.specs.ParseSpecifiers.{named_by, declaration, braced_list_from, enumerator_value, enumerator, declarators_from, struct_declaration, struct_declarations_from, braces, tag_or_body, specifier}
 use Rattle.c_grammar.proofs.Outcomes.{no_true, mark_is, name_is}
 use Rattle.c_grammar.proofs.Says.{Instance, Says, some_of, ok_says, refused_says, bind_says, if_says, token_says, done_says, expect_says, consts_says, after_says, weaker}
 use Rattle.c_grammar.proofs.Instances.{a_name, a_name_is, no_type_name, nameless_may}
@@ -74,7 +74,7 @@ braced_list_says item R L h one last more (suc j) found ts = bind_says (item ts)
 
 -- ---- enumeration constants
 
-constant_value_says : (s : TypeNames) (n : ℕ) (t : Lexeme) (ts : List Lexeme) → t.kind ≡ k.Name → is_type s t ≡ false → Says (constant_value s n t.at t.spelling ts) ts (λ b x. IsConstant s (t ∷ b) x)
+constant_value_says : (s : TypeNames) (n : ℕ) (t : Lexeme) (ts : List Lexeme) → t.kind ≡ k.Name → is_type s t ≡ false → Says (enumerator_value s n t.at t.spelling ts) ts (λ b x. IsConstant s (t ∷ b) x)
 constant_value_says s n t [] kind listed = ok_says (record { at = t.at; name = t.spelling; value = None }) [] _ (IsConstant.plain t kind listed)
 constant_value_says s n t (u ∷ r) kind listed = if_says (is_mark p.Assign u.kind) _ _ (u ∷ r) _
     (λ yes. token_says _ u r _ (bind_says (expr s n 4 r) _ r (λ a x. IsExpr s 4 a x) _ (sound_expr s n 4 r four_wanted) (λ a x v h.
@@ -84,8 +84,8 @@ constant_value_says s n t (u ∷ r) kind listed = if_says (is_mark p.Assign u.ki
 some_constant : (s : TypeNames) → Instance (λ a x. IsConstant s a x)
 some_constant s = (a_name s ∷ [], record { at = (a_name s).at; name = (a_name s).spelling; value = None }, IsConstant.plain (a_name s) (a_name_is s) (no_type_name s))
 
-constant_says : (s : TypeNames) (n : ℕ) (ts : List Lexeme) → Says (constant s n ts) ts (λ a x. IsConstant s a x)
-unfolding constant
+constant_says : (s : TypeNames) (n : ℕ) (ts : List Lexeme) → Says (enumerator s n ts) ts (λ a x. IsConstant s a x)
+unfolding enumerator
 constant_says s n [] = refused_says [] _ (some_constant s)
 constant_says s n (t ∷ r) = if_says (is_name_token t.kind) _ _ (t ∷ r) _
     (λ yes. if_says (is_type s t) (Err (t ∷ r)) _ (t ∷ r) _ (λ type. refused_says (t ∷ r) _ (some_constant s)) (λ listed. token_says _ t r _ (constant_value_says s n t r (name_is t.kind yes) listed)))
@@ -110,29 +110,29 @@ is_specifier s (From.tail a u r' ty n c (IsBraced.struct b l e r d at name ds ki
 is_specifier s (From.tail a u r' ty n c (IsBraced.enum b l e r d at name xs kind g lk h rk o)) = IsSpecifier.enum a u b l e r d at name xs c kind g lk h rk o
 
 module _ (s : TypeNames) (n : ℕ) (spec : Parser TypeNode) (sound : (ts : List Lexeme) → Says (spec ts) ts (λ a ty. IsSpecifier s a ty)) where
-  pub member_says : (ts : List Lexeme) → Says (member s n spec ts) ts (λ a ds. IsMember s a ds)
-  unfolding member
+  pub member_says : (ts : List Lexeme) → Says (struct_declaration s n spec ts) ts (λ a ds. IsMember s a ds)
+  unfolding struct_declaration
   member_says ts = bind_says (spec ts) _ ts (λ a ty. IsSpecifier s a ty) _ (sound ts) (λ a ty r h.
       bind_says (declarators_from s n (length r) ty [] r) _ r _ _ (declarators_says s n (length r) ty [] r) (λ b ds u q. expect_says p.Semicolon _ u _ (λ t v kind.
       ok_says ds v _ (subst (λ z. IsMember s (a ++ (b ++ t ∷ [])) z) (sym q.1) (IsMember.member a b t ty q.0 h q.2 kind)))))
 
-  members_says : (j : ℕ) (found : List Declaration) (ts : List Lexeme) → Says (members_from s n spec j found ts) ts (λ a ys. (xs : List Declaration) × (ys ≡ found ++ xs) × AreMembers s a xs)
-  unfolding members_from
-  members_says zero found ts = let q = some_of (member s n spec []) [] (λ a ds. IsMember s a ds) (member_says []) in refused_says ts _ (q.0, found ++ q.1, (q.1, refl, AreMembers.one q.0 q.1 q.2))
-  members_says (suc j) found ts = bind_says (member s n spec ts) _ ts (λ a ds. IsMember s a ds) _ (member_says ts) (λ a ds r h. if_says (is_mark p.RightBrace (kind_at r)) (Ok (found ++ ds, r)) (members_from s n spec j (found ++ ds) r) r _
+  members_says : (j : ℕ) (found : List Declaration) (ts : List Lexeme) → Says (struct_declarations_from s n spec j found ts) ts (λ a ys. (xs : List Declaration) × (ys ≡ found ++ xs) × AreMembers s a xs)
+  unfolding struct_declarations_from
+  members_says zero found ts = let q = some_of (struct_declaration s n spec []) [] (λ a ds. IsMember s a ds) (member_says []) in refused_says ts _ (q.0, found ++ q.1, (q.1, refl, AreMembers.one q.0 q.1 q.2))
+  members_says (suc j) found ts = bind_says (struct_declaration s n spec ts) _ ts (λ a ds. IsMember s a ds) _ (member_says ts) (λ a ds r h. if_says (is_mark p.RightBrace (kind_at r)) (Ok (found ++ ds, r)) (struct_declarations_from s n spec j (found ++ ds) r) r _
       (λ brace. done_says (found ++ ds) a r (λ a ys. (xs : List Declaration) × (ys ≡ found ++ xs) × AreMembers s a xs) (ds, refl, AreMembers.one a ds h))
-      (λ other. weaker (members_from s n spec j (found ++ ds) r) r _ _ (λ b ys q. (ds ++ q.0, q.1 ∙ append_assoc found ds q.0, AreMembers.more a b ds q.0 h q.2)) (members_says j (found ++ ds) r)))
+      (λ other. weaker (struct_declarations_from s n spec j (found ++ ds) r) r _ _ (λ b ys q. (ds ++ q.0, q.1 ∙ append_assoc found ds q.0, AreMembers.more a b ds q.0 h q.2)) (members_says j (found ++ ds) r)))
 
   struct_says : (u : Lexeme) (b : List Lexeme) (at : ℕ) (name : Option (List ℕ)) (ts : List Lexeme) → u.kind ≡ k.Word w.Struct → IsTag u b at name → Says (braces s n spec c.Struct at name ts) ts (λ e ty. IsBraced s u (b ++ e) ty)
   unfolding braces
-  struct_says u b at name ts kind g = expect_says p.LeftBrace _ ts _ (λ l r lk. bind_says (members_from s n spec (length r) [] r) _ r _ _ (members_says (length r) [] r) (λ e ds v q. expect_says p.RightBrace _ v _ (λ r' v' rk.
+  struct_says u b at name ts kind g = expect_says p.LeftBrace _ ts _ (λ l r lk. bind_says (struct_declarations_from s n spec (length r) [] r) _ r _ _ (members_says (length r) [] r) (λ e ds v q. expect_says p.RightBrace _ v _ (λ r' v' rk.
       bind_says (consts (length v') v') _ v' (λ a q. AreConsts a) _ (consts_says (length v') v') (λ d x z o.
       done_says (y.Struct at name (Some ds)) d z (λ d ty. IsBraced s u (b ++ (l ∷ (e ++ (r' ∷ d)))) ty) (subst (λ m. IsBraced s u (b ++ (l ∷ (e ++ (r' ∷ d)))) (y.Struct at name (Some m))) (sym q.1) (IsBraced.struct b l e r' d at name q.0 kind g lk q.2 rk o))))))
 
   enum_says : (u : Lexeme) (b : List Lexeme) (at : ℕ) (name : Option (List ℕ)) (ts : List Lexeme) → u.kind ≡ k.Word w.Enum → IsTag u b at name → Says (braces s n spec c.Enum at name ts) ts (λ e ty. IsBraced s u (b ++ e) ty)
   unfolding braces
-  enum_says u b at name ts kind g = expect_says p.LeftBrace _ ts _ (λ l r lk. bind_says (braced_list_from (constant s n) (length r) [] r) _ r _ _
-      (braced_list_says (constant s n) (λ a x. IsConstant s a x) (λ a xs. AreConstants s a xs) (constant_says s n) (λ a x h. AreConstants.one a x h) (λ a t x h kind. AreConstants.last a t x h kind) (λ a t b x xs h kind g. AreConstants.more a t b x xs h kind g) (length r) [] r) (λ e xs v q. expect_says p.RightBrace _ v _ (λ r' v' rk.
+  enum_says u b at name ts kind g = expect_says p.LeftBrace _ ts _ (λ l r lk. bind_says (braced_list_from (enumerator s n) (length r) [] r) _ r _ _
+      (braced_list_says (enumerator s n) (λ a x. IsConstant s a x) (λ a xs. AreConstants s a xs) (constant_says s n) (λ a x h. AreConstants.one a x h) (λ a t x h kind. AreConstants.last a t x h kind) (λ a t b x xs h kind g. AreConstants.more a t b x xs h kind g) (length r) [] r) (λ e xs v q. expect_says p.RightBrace _ v _ (λ r' v' rk.
       bind_says (consts (length v') v') _ v' (λ a q. AreConsts a) _ (consts_says (length v') v') (λ d x z o.
       done_says (y.Enum at name (Some xs)) d z (λ d ty. IsBraced s u (b ++ (l ∷ (e ++ (r' ∷ d)))) ty) (subst (λ m. IsBraced s u (b ++ (l ∷ (e ++ (r' ∷ d)))) (y.Enum at name (Some m))) (sym q.1) (IsBraced.enum b l e r' d at name q.0 kind g lk q.2 rk o))))))
 

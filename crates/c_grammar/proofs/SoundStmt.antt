@@ -24,7 +24,7 @@ use Rattle.c_grammar.specs.Statements.{IsLocalDeclarator, AreLocals, IsLine, IsO
 use Rattle.c_grammar.specs.Parser.{Parser, and_then, ◌>>=◌, pure, expect, expect_word}
 use Rattle.c_grammar.specs.ParseExpr.{plain, list_from, expr, declarator}
 use Rattle.c_grammar.specs.ParseSpecifiers.{declaration}
-use Rattle.c_grammar.specs.ParseStatements.{expression, local_by, local, line, optional, condition, first_value, first, case_label, label, items_from, ends_section, stmts_from, section, sections_from, alternative, if_else, while, do_while, for, switch, return, value, stmt_by, stmt}
+use Rattle.c_grammar.specs.ParseStatements.{expression, local_by, local_declarator, line, optional_expression, controlling_expression, first_expression, first_clause, case_behind, label, items_from, ends_section, stmts_from, section, sections_from, alternative, if_behind, while_behind, do_behind, for_behind, switch_behind, return_behind, value_line, stmt_by, stmt}
 use Rattle.c_grammar.proofs.Outcomes.{mark_is, word_is}
 use Rattle.c_grammar.proofs.Says.{Instance, Says, lexeme_of, ok_says, refused_says, bind_says, if_says, token_says, done_says, expect_says, expect_word_first, list_says, weaker}
 use Rattle.c_grammar.proofs.SaysRest.{SaysR, ok_r, refused_r, bind_r, then_r, drop, weaker_r, if_r, token_r, done_r, expect_r, expect_word_r}
@@ -45,18 +45,18 @@ module _ (s : TypeNames) (n : ℕ) where
       done_says (record { declaration = d; init = Some v }) b z (λ b w'. IsLocalDeclarator s ty (a ++ t ∷ b) w') (IsLocalDeclarator.with_init a t b d v h (mark_is p.Assign t.kind yes) g))))
       (λ other. done_says (record { declaration = d; init = None }) a (t ∷ r) (λ a v. IsLocalDeclarator s ty a v) (IsLocalDeclarator.plain a d h))
 
-  local_says : (ty : TypeNode) (ts : List Lexeme) → Says (local s n ty ts) ts (λ a v. IsLocalDeclarator s ty a v)
-  unfolding local
+  local_says : (ty : TypeNode) (ts : List Lexeme) → Says (local_declarator s n ty ts) ts (λ a v. IsLocalDeclarator s ty a v)
+  unfolding local_declarator
   local_says ty ts = bind_says (declaration s n nm.Required ty ts) _ ts (λ a d. IsDeclared s nm.Required ty a d) _ (declaration_says s n nm.Required ty ts refl) (λ a d r h. local_by_says ty a d r h)
 
   pub line_says : (ts : List Lexeme) → Says (line s n ts) ts (λ a vs. IsLine s a vs)
   unfolding line
   line_says ts = bind_says (plain s ts) _ ts (λ a ty. IsPlain s a ty) _ (plain_says s ts) (λ a ty r h.
-      bind_says (list_from (local s n ty) (length r) [] r) _ r _ _ (list_says (local s n ty) (λ a v. IsLocalDeclarator s ty a v) (λ a vs. AreLocals s ty a vs) (local_says ty) (λ a v g. AreLocals.one a v g) (λ a t b v vs g kind o. AreLocals.more a t b v vs g kind o) (length r) [] r) (λ b vs z q.
+      bind_says (list_from (local_declarator s n ty) (length r) [] r) _ r _ _ (list_says (local_declarator s n ty) (λ a v. IsLocalDeclarator s ty a v) (λ a vs. AreLocals s ty a vs) (local_says ty) (λ a v g. AreLocals.one a v g) (λ a t b v vs g kind o. AreLocals.more a t b v vs g kind o) (length r) [] r) (λ b vs z q.
       expect_says p.Semicolon _ z _ (λ t r' kind. ok_says vs r' _ (subst (λ w'. IsLine s (a ++ (b ++ t ∷ [])) w') (sym q.1) (IsLine.line a b t ty q.0 h q.2 kind)))))
 
-  optional_says : (m : Punct) (ts : List Lexeme) → Says (optional s n m ts) ts (λ a v. IsOptional s a v)
-  unfolding optional
+  optional_says : (m : Punct) (ts : List Lexeme) → Says (optional_expression s n m ts) ts (λ a v. IsOptional s a v)
+  unfolding optional_expression
   optional_says m ts = if_says (is_mark m (kind_at ts)) (Ok (None, ts)) _ ts _ (λ yes. ok_says None ts _ IsOptional.none)
       (λ other. bind_says (expression s n ts) _ ts (λ a v. IsWhole s a v) _ (expression_says ts) (λ a v r h. done_says (Some v) a r (λ a v. IsOptional s a v) (IsOptional.some a v h)))
 
@@ -70,13 +70,13 @@ module _ (s : TypeNames) (n : ℕ) where
     is : IsWhole s inner v
     close_is : right.kind ≡ k.Mark p.RightParen
 
-  condition_says : (ts : List Lexeme) → Says (condition s n ts) ts InBrackets
-  unfolding condition
+  condition_says : (ts : List Lexeme) → Says (controlling_expression s n ts) ts InBrackets
+  unfolding controlling_expression
   condition_says ts = expect_says p.LeftParen _ ts _ (λ l r lk. bind_says (expression s n r) _ r (λ a v. IsWhole s a v) _ (expression_says r) (λ a v z h. expect_says p.RightParen _ z _ (λ r' y rk.
       ok_says v y _ (record { left = l; inner = a; right = r'; whole_is = refl; open_is = lk; is = h; close_is = rk }))))
 
-  first_says : (ts : List Lexeme) → Says (first s n ts) ts (λ a v. IsFirst s a v)
-  unfolding first first_value
+  first_says : (ts : List Lexeme) → Says (first_clause s n ts) ts (λ a v. IsFirst s a v)
+  unfolding first_clause first_expression
   first_says [] = if_says (begins_type s []) _ _ [] _
       (λ yes. bind_says (line s n []) _ [] (λ a vs. IsLine s a vs) _ (line_says []) (λ a vs r h. done_says (f.Locals vs) a r (λ a v. IsFirst s a v) (IsFirst.locals a vs h)))
       (λ other. bind_says (expression s n []) _ [] (λ a v. IsWhole s a v) _ (expression_says []) (λ a v r h. expect_says p.Semicolon _ r _ (λ t z kind. ok_says (f.Value v) z _ (IsFirst.value a t v h kind))))
@@ -97,7 +97,7 @@ module _ (s : TypeNames) (n : ℕ) where
   default_says (t ∷ ts) = expect_word_first w.Default _ t ts _ (λ kind. expect_says p.Colon _ ts _ (λ c z ck. ok_says (l.Default t.at) z _ (IsLabel.«default» t c kind ck))) some_label
 
   label_says : (ts : List Lexeme) → Says (label s n ts) ts (λ a v. IsLabel s a v)
-  unfolding label case_label
+  unfolding label case_behind
   label_says [] = default_says []
   label_says (t ∷ ts) = if_says (is_keyword w.Case t.kind) _ _ (t ∷ ts) _
       (λ yes. token_says _ t ts _ (bind_says (expr s n 4 ts) _ ts (λ a v. IsExpr s 4 a v) _ (sound_expr s n 4 ts four_wanted) (λ a v r h. expect_says p.Colon _ r _ (λ c z ck.
@@ -233,39 +233,39 @@ module _ (s : TypeNames) (n : ℕ) (rec : Parser Stmt) (sound : SoundS s rec) wh
       (long_of t a b o c v z q y kind h (subst (λ x. IsStmt s x b z) (ap (λ b. cond b 1 0) yes) g) (word_is w.Else o.kind yes) j))))
       (λ other. done_r (u.If v z None) b (o ∷ r) (λ c q y. IsStmt s (else_at y) (t ∷ (a ++ c)) q) (short_of t a b v z (o ∷ r) kind h g other))
 
-  if_else_says : (t : Lexeme) (ts : List Lexeme) → t.kind ≡ k.Word w.If → SaysR (if_else s n rec ts) ts (λ a v r. Made (t ∷ a) v r)
-  unfolding if_else
-  if_else_says t ts kind = then_r (condition s n ts) _ ts (InBrackets s n) _ (condition_says s n ts) (λ a v r h. bind_r (rec r) _ r Made _ (sound r) (λ b z y g. alternative_says t a b v z y kind h g))
+  if_else_says : (t : Lexeme) (ts : List Lexeme) → t.kind ≡ k.Word w.If → SaysR (if_behind s n rec ts) ts (λ a v r. Made (t ∷ a) v r)
+  unfolding if_behind
+  if_else_says t ts kind = then_r (controlling_expression s n ts) _ ts (InBrackets s n) _ (condition_says s n ts) (λ a v r h. bind_r (rec r) _ r Made _ (sound r) (λ b z y g. alternative_says t a b v z y kind h g))
 
-  while_says : (t : Lexeme) (ts : List Lexeme) → t.kind ≡ k.Word w.While → SaysR (while s n rec ts) ts (λ a v r. Made (t ∷ a) v r)
-  unfolding while
-  while_says t ts kind = then_r (condition s n ts) _ ts (InBrackets s n) _ (condition_says s n ts) (λ a v r h. bind_r (rec r) _ r Made _ (sound r) (λ b z y g.
+  while_says : (t : Lexeme) (ts : List Lexeme) → t.kind ≡ k.Word w.While → SaysR (while_behind s n rec ts) ts (λ a v r. Made (t ∷ a) v r)
+  unfolding while_behind
+  while_says t ts kind = then_r (controlling_expression s n ts) _ ts (InBrackets s n) _ (condition_says s n ts) (λ a v r h. bind_r (rec r) _ r Made _ (sound r) (λ b z y g.
       done_r (u.While v z) b y (λ b q y. Made (t ∷ (a ++ b)) q y) (subst (λ c. IsStmt s (else_at y) c (u.While v z)) (sym (ap (λ c. t ∷ (c ++ b)) h.whole_is ∙ group_tokens t h.left h.inner h.right b)) (IsStmt.while t h.left h.inner h.right b v z kind h.open_is h.is h.close_is g))))
 
-  do_while_says : (t : Lexeme) (ts : List Lexeme) → t.kind ≡ k.Word w.Do → SaysR (do_while s n rec ts) ts (λ a v r. Made (t ∷ a) v r)
-  unfolding do_while
-  do_while_says t ts kind = then_r (rec ts) _ ts (λ a v. IsStmt s 0 a v) _ (any_says ts) (λ a z r h. expect_word_r w.While _ r _ (λ o y ok. then_r (condition s n y) _ y (InBrackets s n) _ (condition_says s n y) (λ b v x g. expect_r p.Semicolon _ x _ (λ e i ek.
+  do_while_says : (t : Lexeme) (ts : List Lexeme) → t.kind ≡ k.Word w.Do → SaysR (do_behind s n rec ts) ts (λ a v r. Made (t ∷ a) v r)
+  unfolding do_behind
+  do_while_says t ts kind = then_r (rec ts) _ ts (λ a v. IsStmt s 0 a v) _ (any_says ts) (λ a z r h. expect_word_r w.While _ r _ (λ o y ok. then_r (controlling_expression s n y) _ y (InBrackets s n) _ (condition_says s n y) (λ b v x g. expect_r p.Semicolon _ x _ (λ e i ek.
       ok_r (u.Do z v) i _ (subst (λ c. IsStmt s (else_at i) (t ∷ (a ++ (o ∷ (c ++ e ∷ [])))) (u.Do z v)) (sym g.whole_is) (subst (λ c. IsStmt s (else_at i) (t ∷ (a ++ (o ∷ g.left ∷ c))) (u.Do z v)) (sym (append_assoc g.inner (g.right ∷ []) (e ∷ []))) (IsStmt.do_while t a o g.left g.inner g.right e v z kind h ok g.open_is g.is g.close_is ek)))))))
 
-  for_says : (t : Lexeme) (ts : List Lexeme) → t.kind ≡ k.Word w.For → SaysR (for s n rec ts) ts (λ a v r. Made (t ∷ a) v r)
-  unfolding for
-  for_says t ts kind = expect_r p.LeftParen _ ts _ (λ l r1 lk. then_r (first s n r1) _ r1 (λ a v. IsFirst s a v) _ (first_says s n r1) (λ a v r2 h. then_r (optional s n p.Semicolon r2) _ r2 (λ a v. IsOptional s a v) _ (optional_says s n p.Semicolon r2) (λ b y r3 g.
-      expect_r p.Semicolon _ r3 _ (λ e r4 ek. then_r (optional s n p.RightParen r4) _ r4 (λ a v. IsOptional s a v) _ (optional_says s n p.RightParen r4) (λ c z r5 o. expect_r p.RightParen _ r5 _ (λ r r6 rk. bind_r (rec r6) _ r6 Made _ (sound r6) (λ d q r7 j.
+  for_says : (t : Lexeme) (ts : List Lexeme) → t.kind ≡ k.Word w.For → SaysR (for_behind s n rec ts) ts (λ a v r. Made (t ∷ a) v r)
+  unfolding for_behind
+  for_says t ts kind = expect_r p.LeftParen _ ts _ (λ l r1 lk. then_r (first_clause s n r1) _ r1 (λ a v. IsFirst s a v) _ (first_says s n r1) (λ a v r2 h. then_r (optional_expression s n p.Semicolon r2) _ r2 (λ a v. IsOptional s a v) _ (optional_says s n p.Semicolon r2) (λ b y r3 g.
+      expect_r p.Semicolon _ r3 _ (λ e r4 ek. then_r (optional_expression s n p.RightParen r4) _ r4 (λ a v. IsOptional s a v) _ (optional_says s n p.RightParen r4) (λ c z r5 o. expect_r p.RightParen _ r5 _ (λ r r6 rk. bind_r (rec r6) _ r6 Made _ (sound r6) (λ d q r7 j.
       done_r (u.For v y z q) d r7 (λ d w' i. Made (t ∷ (l ∷ (a ++ (b ++ (e ∷ (c ++ (r ∷ d))))))) w' i) (IsStmt.for t l a b e c r d v y z q kind lk h g ek o rk j))))))))
 
-  switch_says : (t : Lexeme) (ts : List Lexeme) → t.kind ≡ k.Word w.Switch → SaysR (switch s n rec ts) ts (λ a v r. Made (t ∷ a) v r)
-  unfolding switch
-  switch_says t ts kind = then_r (condition s n ts) _ ts (InBrackets s n) _ (condition_says s n ts) (λ a v r h. expect_r p.LeftBrace _ r _ (λ o y ok. then_r (sections_from s n rec (length y) [] y) _ y _ _ (sections_says (length y) [] y) (λ b vs i q.
+  switch_says : (t : Lexeme) (ts : List Lexeme) → t.kind ≡ k.Word w.Switch → SaysR (switch_behind s n rec ts) ts (λ a v r. Made (t ∷ a) v r)
+  unfolding switch_behind
+  switch_says t ts kind = then_r (controlling_expression s n ts) _ ts (InBrackets s n) _ (condition_says s n ts) (λ a v r h. expect_r p.LeftBrace _ r _ (λ o y ok. then_r (sections_from s n rec (length y) [] y) _ y _ _ (sections_says (length y) [] y) (λ b vs i q.
       let c = q.2 in
       done_r (u.Switch v vs) b i (λ b w' i. Made (t ∷ (a ++ (o ∷ b))) w' i) (subst (λ d. IsStmt s (else_at i) (t ∷ (a ++ (o ∷ b))) (u.Switch v d)) (sym q.1) (subst (λ d. IsStmt s (else_at i) d (u.Switch v q.0)) (sym (ap (λ d. t ∷ (a ++ (o ∷ d))) c.all_is ∙ ap (λ d. t ∷ (d ++ (o ∷ (c.inner ++ c.close ∷ [])))) h.whole_is ∙ group_tokens t h.left h.inner h.right (o ∷ (c.inner ++ c.close ∷ []))))
       (IsStmt.switch t h.left h.inner h.right o c.inner c.close v q.0 kind h.open_is h.is h.close_is ok c.are c.close_is))))))
 
-  return_says : (t : Lexeme) (ts : List Lexeme) → t.kind ≡ k.Word w.Return → SaysR (return s n t.at ts) ts (λ a v r. Made (t ∷ a) v r)
-  unfolding return
-  return_says t ts kind = then_r (optional s n p.Semicolon ts) _ ts (λ a v. IsOptional s a v) _ (optional_says s n p.Semicolon ts) (λ a v r h. expect_r p.Semicolon _ r _ (λ e i ek. ok_r (u.Return t.at v) i _ (IsStmt.return t a e v kind h ek)))
+  return_says : (t : Lexeme) (ts : List Lexeme) → t.kind ≡ k.Word w.Return → SaysR (return_behind s n t.at ts) ts (λ a v r. Made (t ∷ a) v r)
+  unfolding return_behind
+  return_says t ts kind = then_r (optional_expression s n p.Semicolon ts) _ ts (λ a v. IsOptional s a v) _ (optional_says s n p.Semicolon ts) (λ a v r h. expect_r p.Semicolon _ r _ (λ e i ek. ok_r (u.Return t.at v) i _ (IsStmt.return t a e v kind h ek)))
 
-  value_says : (ts : List Lexeme) → SaysR (value s n ts) ts Made
-  unfolding value
+  value_says : (ts : List Lexeme) → SaysR (value_line s n ts) ts Made
+  unfolding value_line
   value_says ts = then_r (expression s n ts) _ ts (λ a v. IsWhole s a v) _ (expression_says s n ts) (λ a v r h. expect_r p.Semicolon _ r _ (λ e i ek. ok_r (u.Expression v) i _ (IsStmt.expression a e v h ek)))
 
   block_says : (l : Lexeme) (ts : List Lexeme) → l.kind ≡ k.Mark p.LeftBrace → SaysR (and_then (items_from s n rec (length ts) [] ts) (λ vs r. Ok (u.Block vs, r))) ts (λ a v r. Made (l ∷ a) v r)

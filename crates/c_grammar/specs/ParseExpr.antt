@@ -103,8 +103,8 @@ list_from item (suc j) found ts = and_then (item ts) (λ x r.
     if is_mark p.Comma (kind_at r) then list_from item j (found ++ x ∷ []) (token_tail r) else Ok (found ++ x ∷ [], r))
 
 -- the name of a member
-unfoldable pub member : Parser (List ℕ)
-member ts = if is_name_token (kind_at ts) then Ok (spelling_at ts, token_tail ts) else Err ts
+unfoldable pub member_name : Parser (List ℕ)
+member_name ts = if is_name_token (kind_at ts) then Ok (spelling_at ts, token_tail ts) else Err ts
 
 -- where no name of a declarator stands
 abbrev pub no_name : Naming → Parser Declarator
@@ -131,18 +131,18 @@ module _ (s : TypeNames) (expr : ℕ → Parser Expr) (declarator : Naming → P
   parameter ts = and_then (plain s ts) (λ ty. declarator nm.Optional >>= λ d. pure (parameter_of (token_place ts) ty d))
 
   -- behind the bracket, up to the one that closes it
-  unfoldable pub arguments : Parser (List Expr)
-  arguments ts = if is_mark p.RightParen (kind_at ts) then Ok ([], token_tail ts)
+  unfoldable pub arguments_behind : Parser (List Expr)
+  arguments_behind ts = if is_mark p.RightParen (kind_at ts) then Ok ([], token_tail ts)
       else and_then (list_from (expr levels.assignment) (length ts) [] ts) (λ xs. expect p.RightParen >>= λ _. pure xs)
 
-  unfoldable pub parameters : Parser (List Parameter)
-  parameters ts = if is_mark p.RightParen (kind_at ts) then Ok ([], token_tail ts)
+  unfoldable pub parameters_behind : Parser (List Parameter)
+  parameters_behind ts = if is_mark p.RightParen (kind_at ts) then Ok ([], token_tail ts)
       else and_then (list_from parameter (length ts) [] ts) (λ xs. expect p.RightParen >>= λ _. pure xs)
 
   -- behind a name that is no type
   unfoldable pub behind_name : ℕ → List ℕ → Parser (Expr × ℕ)
   behind_name at name ts =
-      if is_mark p.LeftParen (kind_at ts) then and_then (arguments (token_tail ts))
+      if is_mark p.LeftParen (kind_at ts) then and_then (arguments_behind (token_tail ts))
       (λ xs. pure (e.Call at name xs, levels.primary))
       else Ok ((e.Name at name, levels.primary), ts)
 
@@ -161,18 +161,18 @@ module _ (s : TypeNames) (expr : ℕ → Parser Expr) (declarator : Naming → P
       if begins_type s ts then (if nat_lt least levels.unary then cast_behind at ts else Err ts) else brackets_behind ts
 
   -- behind `sizeof`
-  unfoldable pub size_of_type : ℕ → Parser (Expr × ℕ)
-  size_of_type at ts =
+  unfoldable pub sizeof_type_name : ℕ → Parser (Expr × ℕ)
+  sizeof_type_name at ts =
       and_then (type_name ts) (λ ty. expect p.RightParen >>= λ _. pure (e.SizeOfType at ty, levels.unary))
 
-  unfoldable pub size_of_value : ℕ → Parser (Expr × ℕ)
-  size_of_value at ts = and_then (expr levels.unary ts) (λ x. pure (e.SizeOfValue at x, levels.unary))
+  unfoldable pub sizeof_unary : ℕ → Parser (Expr × ℕ)
+  sizeof_unary at ts = and_then (expr levels.unary ts) (λ x. pure (e.SizeOfValue at x, levels.unary))
 
-  abbrev pub size_of : ℕ → Parser (Expr × ℕ)
-  size_of at ts =
+  abbrev pub sizeof_behind : ℕ → Parser (Expr × ℕ)
+  sizeof_behind at ts =
       if is_mark p.LeftParen (kind_at ts)
-      then (if begins_type s (token_tail ts) then size_of_type at (token_tail ts) else size_of_value at ts)
-      else size_of_value at ts
+      then (if begins_type s (token_tail ts) then sizeof_type_name at (token_tail ts) else sizeof_unary at ts)
+      else sizeof_unary at ts
 
   abbrev pub operand_by : ℕ → Prefix → Parser (Expr × ℕ)
   operand_by least f.Name ts = if is_type_at s ts then Err ts else behind_name (token_place ts) (spelling_at ts)
@@ -186,7 +186,7 @@ module _ (s : TypeNames) (expr : ℕ → Parser Expr) (declarator : Naming → P
       and_then (expr levels.unary (token_tail ts)) (λ x. pure (e.Unary (token_place ts) op x, levels.unary))
   operand_by least (f.Unary op) ts =
       and_then (expr levels.cast (token_tail ts)) (λ x. pure (e.Unary (token_place ts) op x, levels.unary))
-  operand_by least f.SizeOf ts = size_of (token_place ts) (token_tail ts)
+  operand_by least f.SizeOf ts = sizeof_behind (token_place ts) (token_tail ts)
   operand_by least f.Nothing ts = Err ts
 
   -- the front of an expression, and its level, which is no less than the least that is wanted
@@ -196,8 +196,8 @@ module _ (s : TypeNames) (expr : ℕ → Parser Expr) (declarator : Naming → P
   -- behind an operator, its left operand and the place of it
   abbrev pub step_by : Infix → ℕ → Expr → Parser Expr
   step_by i.Index at left ts = and_then (whole ts) (λ z. expect p.RightBracket >>= λ _. pure (e.Index at left z))
-  step_by i.Field at left ts = and_then (member ts) (λ name. pure (e.Field at left name))
-  step_by i.Arrow at left ts = and_then (member ts) (λ name. pure (e.Arrow at left name))
+  step_by i.Field at left ts = and_then (member_name ts) (λ name. pure (e.Field at left name))
+  step_by i.Arrow at left ts = and_then (member_name ts) (λ name. pure (e.Arrow at left name))
   step_by (i.Step op) at left ts = Ok (e.Postfix at op left, ts)
   step_by (i.Binary op) at left ts = and_then (expr (suc (level_of op)) ts) (λ z. pure (e.Binary at op left z))
   step_by i.Conditional at left ts =
@@ -218,15 +218,16 @@ module _ (s : TypeNames) (expr : ℕ → Parser Expr) (declarator : Naming → P
   tight least ts = and_then (operand least ts) (λ q r. climb (token_place ts) least (length r) q.1 q.0 r)
 
   -- behind `[`
-  unfoldable pub length_of : Declarator → Parser Declarator
-  length_of d ts = if is_mark p.RightBracket (kind_at ts) then Ok (with_shape d (h.Array None), token_tail ts)
+  unfoldable pub length_behind : Declarator → Parser Declarator
+  length_behind d ts = if is_mark p.RightBracket (kind_at ts) then Ok (with_shape d (h.Array None), token_tail ts)
       else and_then (expr levels.conditional ts)
       (λ x. expect p.RightBracket >>= λ _. pure (with_shape d (h.Array (Some x))))
 
   unfoldable pub suffixes : ℕ → Declarator → Parser Declarator
   suffixes zero d ts = Ok (d, ts)
-  suffixes (suc j) d ts = if is_mark p.LeftBracket (kind_at ts) then and_then (length_of d (token_tail ts)) (suffixes j)
-      else if is_mark p.LeftParen (kind_at ts) then and_then (parameters (token_tail ts))
+  suffixes (suc j) d ts = if is_mark p.LeftBracket (kind_at ts) then and_then (length_behind d (token_tail ts))
+      (suffixes j)
+      else if is_mark p.LeftParen (kind_at ts) then and_then (parameters_behind (token_tail ts))
       (λ xs. suffixes j (with_shape d (h.Takes (without_void xs))))
       else Ok (d, ts)
 

@@ -35,16 +35,16 @@ braced_list_from item (suc j) found ts = and_then (item ts) (λ x r.
     else Ok (found ++ x ∷ [], r))
 
 module _ (s : TypeNames) (n : ℕ) where
-  abbrev pub constant_value : ℕ → List ℕ → Parser Constant
-  constant_value at name ts =
+  abbrev pub enumerator_value : ℕ → List ℕ → Parser Constant
+  enumerator_value at name ts =
       if is_mark p.Assign (kind_at ts) then and_then (expr s n levels.conditional (token_tail ts))
       (λ x. pure (record { at = at; name = name; value = Some x }))
       else Ok (record { at = at; name = name; value = None }, ts)
 
-  unfoldable pub constant : Parser Constant
-  constant ts =
+  unfoldable pub enumerator : Parser Constant
+  enumerator ts =
       if is_name_token (kind_at ts) then (if is_type_at s ts then Err ts
-      else constant_value (token_place ts) (spelling_at ts)
+      else enumerator_value (token_place ts) (spelling_at ts)
       (token_tail ts)) else Err ts
 
   -- the declarators of members
@@ -56,25 +56,25 @@ module _ (s : TypeNames) (n : ℕ) where
 
   -- over specifiers that are read a level below
   module _ (specifier : Parser TypeNode) where
-    unfoldable pub member : Parser (List Declaration)
-    member ts =
+    unfoldable pub struct_declaration : Parser (List Declaration)
+    struct_declaration ts =
         and_then (specifier ts) (λ ty r. and_then (declarators_from (length r) ty [] r)
         (λ ds. expect p.Semicolon >>= λ _. pure ds))
 
     -- up to the brace that closes
-    unfoldable pub members_from : ℕ → List Declaration → Parser (List Declaration)
-    members_from zero found ts = Err ts
-    members_from (suc j) found ts =
-        and_then (member ts) (λ ds r. if is_mark p.RightBrace (kind_at r) then Ok (found ++ ds, r)
-        else members_from j (found ++ ds) r)
+    unfoldable pub struct_declarations_from : ℕ → List Declaration → Parser (List Declaration)
+    struct_declarations_from zero found ts = Err ts
+    struct_declarations_from (suc j) found ts =
+        and_then (struct_declaration ts) (λ ds r. if is_mark p.RightBrace (kind_at r) then Ok (found ++ ds, r)
+        else struct_declarations_from j (found ++ ds) r)
 
     -- behind the brace that opens
     abbrev pub body : Specifier → ℕ → Option (List ℕ) → Parser TypeNode
     body c.Struct at name ts =
-        and_then (members_from (length ts) [] ts)
+        and_then (struct_declarations_from (length ts) [] ts)
         (λ ds. expect p.RightBrace >>= λ _ r. and_then (consts (length r) r) (λ _. pure (y.Struct at name (Some ds))))
     body _ at name ts =
-        and_then (braced_list_from constant (length ts) [] ts)
+        and_then (braced_list_from enumerator (length ts) [] ts)
         (λ xs. expect p.RightBrace >>= λ _ r. and_then (consts (length r) r) (λ _. pure (y.Enum at name (Some xs))))
 
     unfoldable pub braces : Specifier → ℕ → Option (List ℕ) → Parser TypeNode

@@ -42,41 +42,44 @@ module _ (s : TypeNames) (n : ℕ) where
       (λ x. pure (record { declaration = d; init = Some x }))
       else Ok (record { declaration = d; init = None }, ts)
 
-  unfoldable pub local : TypeNode → Parser LocalDeclarator
-  local ty ts = and_then (declaration s n nm.Required ty ts) local_by
+  unfoldable pub local_declarator : TypeNode → Parser LocalDeclarator
+  local_declarator ty ts = and_then (declaration s n nm.Required ty ts) local_by
 
   unfoldable pub line : Parser (List LocalDeclarator)
   line ts =
-      and_then (plain s ts) (λ ty r. and_then (list_from (local ty) (length r) [] r)
+      and_then (plain s ts) (λ ty r. and_then (list_from (local_declarator ty) (length r) [] r)
       (λ xs. expect p.Semicolon >>= λ _. pure xs))
 
   -- an expression that is missing where this mark stands
-  unfoldable pub optional : Punct → Parser (Option Expr)
-  optional mark ts = if is_mark mark (kind_at ts) then Ok (None, ts) else and_then (expression ts) (λ x. pure (Some x))
+  unfoldable pub optional_expression : Punct → Parser (Option Expr)
+  optional_expression mark ts = if is_mark mark (kind_at ts) then Ok (None, ts) else and_then (expression ts)
+      (λ x. pure (Some x))
 
-  unfoldable pub condition : Parser Expr
-  condition ts = and_then (expect p.LeftParen ts) (λ _. expression >>= λ x. expect p.RightParen >>= λ _. pure x)
+  unfoldable pub controlling_expression : Parser Expr
+  controlling_expression ts = and_then (expect p.LeftParen ts)
+      (λ _. expression >>= λ x. expect p.RightParen >>= λ _. pure x)
 
-  unfoldable pub first_value : Parser ForFirst
-  first_value ts = and_then (expression ts) (λ x. expect p.Semicolon >>= λ _. pure (f.Value x))
+  unfoldable pub first_expression : Parser ForFirst
+  first_expression ts = and_then (expression ts) (λ x. expect p.Semicolon >>= λ _. pure (f.Value x))
 
-  unfoldable pub first : Parser ForFirst
-  first ts = if is_mark p.Semicolon (kind_at ts) then Ok (f.Nothing, token_tail ts)
-      else if begins_type s ts then and_then (line ts) (λ xs. pure (f.Locals xs)) else first_value ts
+  unfoldable pub first_clause : Parser ForFirst
+  first_clause ts = if is_mark p.Semicolon (kind_at ts) then Ok (f.Nothing, token_tail ts)
+      else if begins_type s ts then and_then (line ts) (λ xs. pure (f.Locals xs)) else first_expression ts
 
-  unfoldable pub case_label : ℕ → Parser Label
-  case_label at ts = and_then (expr s n levels.conditional ts) (λ x. expect p.Colon >>= λ _. pure (l.Case at x))
+  unfoldable pub case_behind : ℕ → Parser Label
+  case_behind at ts = and_then (expr s n levels.conditional ts) (λ x. expect p.Colon >>= λ _. pure (l.Case at x))
 
   unfoldable pub label : Parser Label
-  label ts = if is_keyword w.Case (kind_at ts) then case_label (token_place ts) (token_tail ts)
+  label ts = if is_keyword w.Case (kind_at ts) then case_behind (token_place ts) (token_tail ts)
       else and_then (expect_word w.Default ts) (λ _. expect p.Colon >>= λ _. pure (l.Default (token_place ts)))
 
-  -- behind `return`
-  unfoldable pub return : ℕ → Parser Stmt
-  return at ts = and_then (optional p.Semicolon ts) (λ x. expect p.Semicolon >>= λ _. pure (u.Return at x))
+  -- behind `return_behind`
+  unfoldable pub return_behind : ℕ → Parser Stmt
+  return_behind at ts = and_then (optional_expression p.Semicolon ts)
+      (λ x. expect p.Semicolon >>= λ _. pure (u.Return at x))
 
-  unfoldable pub value : Parser Stmt
-  value ts = and_then (expression ts) (λ x. expect p.Semicolon >>= λ _. pure (u.Expression x))
+  unfoldable pub value_line : Parser Stmt
+  value_line ts = and_then (expression ts) (λ x. expect p.Semicolon >>= λ _. pure (u.Expression x))
 
   -- over statements that are read a level below
   module _ (stmt : Parser Stmt) where
@@ -109,39 +112,41 @@ module _ (s : TypeNames) (n : ℕ) where
         if is_keyword w.Else (kind_at ts) then and_then (stmt (token_tail ts)) (λ z. pure (u.If x v (Some z)))
         else Ok (u.If x v None, ts)
 
-    unfoldable pub if_else : Parser Stmt
-    if_else ts = and_then (condition ts) (λ x. stmt >>= λ v. alternative x v)
+    unfoldable pub if_behind : Parser Stmt
+    if_behind ts = and_then (controlling_expression ts) (λ x. stmt >>= λ v. alternative x v)
 
-    unfoldable pub while : Parser Stmt
-    while ts = and_then (condition ts) (λ x. stmt >>= λ v. pure (u.While x v))
+    unfoldable pub while_behind : Parser Stmt
+    while_behind ts = and_then (controlling_expression ts) (λ x. stmt >>= λ v. pure (u.While x v))
 
-    unfoldable pub do_while : Parser Stmt
-    do_while ts =
-        and_then (stmt ts) (λ v. expect_word w.While >>= λ _. condition >>= λ x. expect p.Semicolon
+    unfoldable pub do_behind : Parser Stmt
+    do_behind ts =
+        and_then (stmt ts) (λ v. expect_word w.While >>= λ _. controlling_expression >>= λ x. expect p.Semicolon
         >>= λ _. pure (u.Do v x))
 
-    unfoldable pub for : Parser Stmt
-    for ts =
-        and_then (expect p.LeftParen ts) (λ _. first >>= λ x. optional p.Semicolon >>= λ y. expect p.Semicolon
-        >>= λ _. optional p.RightParen >>= λ z. expect p.RightParen >>= λ _. stmt >>= λ v. pure (u.For x y z v))
+    unfoldable pub for_behind : Parser Stmt
+    for_behind ts =
+        and_then (expect p.LeftParen ts) (λ _. first_clause >>= λ x. optional_expression p.Semicolon
+        >>= λ y. expect p.Semicolon >>= λ _. optional_expression p.RightParen
+        >>= λ z. expect p.RightParen >>= λ _. stmt >>= λ v. pure (u.For x y z v))
 
-    unfoldable pub switch : Parser Stmt
-    switch ts =
-        and_then (condition ts) (λ x. expect p.LeftBrace >>= λ _ r. and_then (sections_from (length r) [] r)
+    unfoldable pub switch_behind : Parser Stmt
+    switch_behind ts =
+        and_then (controlling_expression ts) (λ x. expect p.LeftBrace
+        >>= λ _ r. and_then (sections_from (length r) [] r)
         (λ xs. pure (u.Switch x xs)))
 
     abbrev pub stmt_by : Head → Parser Stmt
     stmt_by h.Block ts = and_then (items_from (length (token_tail ts)) [] (token_tail ts)) (λ xs. pure (u.Block xs))
     stmt_by h.Empty ts = Ok (u.Empty, token_tail ts)
-    stmt_by h.If ts = if_else (token_tail ts)
-    stmt_by h.While ts = while (token_tail ts)
-    stmt_by h.Do ts = do_while (token_tail ts)
-    stmt_by h.For ts = for (token_tail ts)
-    stmt_by h.Switch ts = switch (token_tail ts)
+    stmt_by h.If ts = if_behind (token_tail ts)
+    stmt_by h.While ts = while_behind (token_tail ts)
+    stmt_by h.Do ts = do_behind (token_tail ts)
+    stmt_by h.For ts = for_behind (token_tail ts)
+    stmt_by h.Switch ts = switch_behind (token_tail ts)
     stmt_by h.Break ts = and_then (expect p.Semicolon (token_tail ts)) (λ _. pure (u.Break (token_place ts)))
     stmt_by h.Continue ts = and_then (expect p.Semicolon (token_tail ts)) (λ _. pure (u.Continue (token_place ts)))
-    stmt_by h.Return ts = return (token_place ts) (token_tail ts)
-    stmt_by h.Other ts = value ts
+    stmt_by h.Return ts = return_behind (token_place ts) (token_tail ts)
+    stmt_by h.Other ts = value_line ts
 
 unfoldable pub stmt : TypeNames → ℕ → Parser Stmt
 stmt s zero ts = Err ts

@@ -33,7 +33,7 @@ use Rattle.c_statement_rules.specs.Values.{return_of, bad_return, return_value}
 use Rattle.c_statement_rules.specs.Locals.{BodyState}
 use Rattle.c_statement_rules.specs.Forms.{if_else, while_loop, do_loop, for_loop, switch, section_under, switch_type, block, expression_statement, local_statement}
 use Rattle.c_statements.specs.Parts.{condition_of, full_value, operand_of, optional_condition, optional_value, return_statement, local_of, first_of, label_of}
-use Rattle.c_statements.specs.Statements.{SwitchState, in_scope, statement, statement_row, else_held, section_row}
+use Rattle.c_statements.specs.Statements.{SwitchState, in_scope, statement, statement_row, else_held, judge_section_row}
 use Rattle.c_local_laws.proofs.Numbers.{Declares, Is, plus, declares_on, declares_as, declares_none, count_of, part_count}
 use Rattle.c_local_laws.proofs.Locals.{here, first_here, local_says, first_says}
 
@@ -183,7 +183,7 @@ module _ (k : ℕ) (of : Option CType) where
         declares_as k (length w.0) (length a.1.0) (plus (count_of (first_here k) p.0) (count_of (stmt_here k) a.0)) (count_of (stmt_here k) (for_loop p.0 q.0 r.0 a.0)) (for_count k p.0 q.0 r.0 a.0)
         (declares_on k (length w.0) (length p.1.0) (length a.1.0) (count_of (first_here k) p.0) (count_of (stmt_here k) a.0) (first_says k first (in_scope w)) (statement_says in_loop y (p.1.0, r.1)))
     statement_says j (s.Switch' x _ list) w =
-        let o = operand_of x w.1 in let f = section_row of (in_switch j) (switch_type o.0) list (Some []) (no_labels, (w.0, o.1)) in
+        let o = operand_of x w.1 in let f = judge_section_row of (in_switch j) (switch_type o.0) list (Some []) (no_labels, (w.0, o.1)) in
         declares_as k (length w.0) (length f.1.1.0) (count_of (sections_here k) f.0) (count_of (stmt_here k) (switch o.0 f.0)) (switch_count k o.0 f.0)
         (sections_says (in_switch j) (switch_type o.0) list (Some []) (no_labels, (w.0, o.1)) (length w.0) (declares_none k (length w.0)))
     statement_says j (s.Break at) w = declares_as k (length w.0) (length w.0) (Some 0) _ (break_count k j at w.1.1) (declares_none k (length w.0))
@@ -211,7 +211,7 @@ module _ (k : ℕ) (of : Option CType) where
         declares_as k (length w.0) (length r.1.0) (count_of (stmt_here k) r.0) (count_of (else_here k) (option_map Some r.0)) (else_count k r.0) (statement_says j x w)
 
     sections_says : (j : Jumps) (ty : Option IntegerType) {m : _} (xs : b.Row_of-Section m) (found : Option (List TSection)) (w : SwitchState) (a : ℕ) → Declares k a (length w.1.0) (count_of (sections_here k) found)
-        → Declares k a (length (section_row of j ty xs found w).1.1.0) (count_of (sections_here k) (section_row of j ty xs found w).0)
+        → Declares k a (length (judge_section_row of j ty xs found w).1.1.0) (count_of (sections_here k) (judge_section_row of j ty xs found w).0)
     sections_says j ty b.end_of-Section found w a before = before
     sections_says j ty (b.more_of-Section label _ list rest) found w a before =
         let l = label_of ty label (w.0, w.1.1) in let r = statement_row of j list (Some []) (w.1.0, l.1.1) in let x = section_under l.0 r.0 in

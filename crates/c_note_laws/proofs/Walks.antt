@@ -16,7 +16,7 @@ use Rattle.c_judgements.specs.Leaves.{leaf}
 use Rattle.c_judgements.specs.Operators.{apply_prefix, binary_check, assignment_check, subscript_check, cast_check, size_of_value, size_of_name, postfix_check}
 use Rattle.c_judgements.specs.Members.{field_named, arrow_named}
 use Rattle.c_judgements.specs.Types.{JudgementState, in_env, pointer, given_length, array, function, type_named, parameter_declared}
-use Rattle.c_expressions.specs.Expressions.{judge, judge_row, derive, length_held, parameter_row}
+use Rattle.c_expressions.specs.Expressions.{judge, judge_row, derive, judge_length_held, judge_parameter_row}
 use Rattle.c_note_laws.specs.Steps.{NoteSteps}
 use Rattle.c_note_laws.specs.Steps.NoteSteps.{Stays, Aside}
 use Rattle.c_note_laws.proofs.Forms.{adds_then, ruled, each_adds, both_adds, prefix_adds, choice_adds, commas_adds, name_adds, string_adds, call_adds, field_adds, arrow_adds, leaf_adds, there_adds, named_type_adds, parameter_adds}
@@ -90,19 +90,19 @@ mutual
       let r = derive at x of s in
       one_part s.1 r.1.1 r.0 (pointer at) (derive_adds at x of s) (λ a. there_adds at _ r.1.1)
   derive_adds at (t.Array' _ (k.more_of-TypeNode x k.end_of-TypeNode) size) of s =
-      let count = length_held size s in let r = derive at x of count.1 in
+      let count = judge_length_held size s in let r = derive at x of count.1 in
       adds_then s.1 r.1.1 _ (adds_then s.1 count.1.1 r.1.1 (length_adds size s) (derive_adds at x of count.1)) (both_adds count.0 r.0 (array at) r.1.1 (λ a b. there_adds at _ r.1.1))
   derive_adds at (t.Takes' _ (k.more_of-TypeNode x k.end_of-TypeNode) _ list) of s =
-      let row = parameter_row list (Some []) (enter s.0, s.1) in let outer : JudgementState = (leave s.0.outside row.1.0, row.1.1) in let r = derive at x of outer in
+      let row = judge_parameter_row list (Some []) (enter s.0, s.1) in let outer : JudgementState = (leave s.0.outside row.1.0, row.1.1) in let r = derive at x of outer in
       adds_then s.1 r.1.1 _ (adds_then s.1 row.1.1 r.1.1 (parameters_add list (Some []) (enter s.0, s.1)) (derive_adds at x of outer)) (both_adds row.0 r.0 (function at) r.1.1 (λ a b. there_adds at _ r.1.1))
 
-  pub length_adds : (size : k.Held-TypeNode-Array-1) (s : JudgementState) → NoteSteps s.1 (length_held size s).1.1
+  pub length_adds : (size : k.Held-TypeNode-Array-1) (s : JudgementState) → NoteSteps s.1 (judge_length_held size s).1.1
   length_adds k.TypeNode-Array-1-None' s = Stays
   length_adds (k.TypeNode-Array-1-Some' _ (k.more_of-Expr x k.end_of-Expr)) s =
       let r = judge x s in
       one_part s.1 r.1.1 r.0 given_length (judge_adds x s) (λ a. ruled (length_value a) r.1.1)
 
-  pub parameters_add : {m : _} (xs : k.Row_of-Parameter m) (found : Option (List CType)) (s : JudgementState) → NoteSteps s.1 (parameter_row xs found s).1.1
+  pub parameters_add : {m : _} (xs : k.Row_of-Parameter m) (found : Option (List CType)) (s : JudgementState) → NoteSteps s.1 (judge_parameter_row xs found s).1.1
   parameters_add k.end_of-Parameter found s = Stays
   parameters_add (k.more_of-Parameter at name ty rest) found s =
       let l = leaf s.0 at ty s.1 in let r = derive at ty l.0 (s.0, l.1) in let named = parameter_declared at name r.0 r.1 in

@@ -37,7 +37,7 @@ use Rattle.c_checks.specs.Checks.{each, both_parts}
 use Rattle.c_checks.specs.Scopes.{with_meaning, meaning_of}
 use Rattle.c_judgements.specs.Leaves.{typedef_type, tag_named, enum_tagged, enum_type, struct_numbered, struct_tagged, struct_at, struct_type, leaf, no_type}
 use Rattle.c_judgements.specs.Types.{JudgementState, required_type, pointer, array, type_named}
-use Rattle.c_expressions.specs.Expressions.{derive, length_held}
+use Rattle.c_expressions.specs.Expressions.{derive, judge_length_held}
 use Rattle.c_tag_bodies.specs.Bodies.{TagScope, bodies, declared_type}
 use Rattle.c_tag_bodies.specs.Enums.{constant_meaning}
 use Rattle.c_initialisers.specs.Initialisers.{length_given}
@@ -178,7 +178,7 @@ derived_found ns at (t.Pointer' _ (k.more_of-TypeNode y k.end_of-TypeNode)) env 
     let l = leaf env at y n in let r = derive at y l.0 (env, l.1) in pointer_found at r.0 r.1.1 h
 derived_found ns at (t.Array' _ (k.more_of-TypeNode y k.end_of-TypeNode) size) env n known h =
     let l = leaf env at y n in
-    let count = length_held size (env, l.1) in
+    let count = judge_length_held size (env, l.1) in
     let r = derive at y l.0 count.1 in array_found at count.0 r.0 r.1.1 h
 derived_found ns at (t.Takes' _ (k.more_of-TypeNode y k.end_of-TypeNode) _ list) env n known h = refl
 

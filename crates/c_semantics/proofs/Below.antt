@@ -10,7 +10,7 @@ use Rattle.mem_model.specs.Ending.{Done, Trap, Undefined, More, Evaluation, Give
 use Rattle.c_semantics.specs.Reasons.{Reason}
 use Rattle.c_semantics.specs.Runs.{CallState, in_world, Run, and_then, ◌>>=◌, pure, undefined, trap, exit, no_turn, spend_turn, turn, on_memory, set_memory, use_value, read_register, write_register}
 use Rattle.c_semantics.specs.Objects.{Scope, bind_object, with_local_object}
-use Rattle.c_semantics.specs.Evaluates.{put, get}
+use Rattle.c_semantics.specs.Evaluates.{put_character, get}
 use Rattle.c_semantics.specs.Executes.{enter_function, within_call}
 use Rattle.c_semantics.specs.Refines.{lower_peak, WithPeak, GivesBelow, RunRefines, IsBelow}
 use Rattle.c_semantics.proofs.Forms.{Congruence}
@@ -120,8 +120,8 @@ turn_below : IsBelow turn turn
 unfolding turn
 turn_below = record { by = λ s p l. turned_below s.world.meter.turns p s l }
 
-put_below : (n : ℕ) → IsBelow (put n) (put n)
-unfolding put
+put_below : (n : ℕ) → IsBelow (put_character n) (put_character n)
+unfolding put_character
 put_below n = record { by = λ s p l. record { peak = p; low = l; holds = refl } }
 
 get_below : IsBelow get get

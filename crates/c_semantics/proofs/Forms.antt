@@ -30,8 +30,8 @@ use Rattle.c_typed_tree.specs.declared.units.TypedFn.{TypedFn}
 use Rattle.c_typed_tree.specs.Expressions.{Expr, Number, Global, Call, Unary, Binary, Assign, Conditional, Cast, Convert, Index, Field, Arrow, Postfix, Comma, Exprs, no_exprs, more_exprs, type_of}
 use Rattle.c_typed_tree.specs.Statements.{LocalDeclaration, First, Stmt, Else, no_else, else_stmt, Stmts, no_stmts, more_stmts, Sections, no_sections, more_sections}
 use Rattle.c_typed_tree.specs.View.{type_view, stmt_view}
-use Rattle.c_semantics.specs.Evaluates.{put, get, builtin, Functions, run_call, element_pointer, member_pointer, target_of, update, assign_value, choose, converted_from, eval, place, evals, last_of}
-use Rattle.c_semantics.specs.Executes.{StatementFlow, Goes, Breaks, Continues, Returns, after_body, and_next, after_switch, declared_in, declared_first, is_chosen_label, target_in, with_parameters, value_of_call, body_of, holds, condition, step, initialise, declare, declares, first, return_value, exec, exec_else, execs, exec_sections, exec_from, within_call, Level, call_with_turn}
+use Rattle.c_semantics.specs.Evaluates.{put_character, get, builtin, Functions, run_call, element_pointer, member_pointer, target_of, update, assign_value, choose, converted_from, eval, place, evals, value_of_last}
+use Rattle.c_semantics.specs.Executes.{StatementFlow, Goes, Breaks, Continues, Returns, after_body, and_next, after_switch, declared_in, declared_first, is_chosen_label, target_in, with_parameters, value_of_call, body_of, holds, loop_condition, loop_step, initialise_object, run_declaration, run_declarations, first, flow_of_return, exec, exec_else, execs, exec_sections, exec_from, within_call, Level, call_with_turn}
 use Rattle.c_typed_tree.specs.Lawful.{is_main}
 use Rattle.c_arithmetic.specs.declared.outcome.ArithmeticOutcome.TheVariants as o
 use Rattle.c_tree.specs.declared.expressions.UnaryOp.TheVariants as u
@@ -54,7 +54,7 @@ pub record Congruence (R : (A : Type 0) → Run A → Run A → Type 0) : Type 1
   pub register : (k : ℕ) → R Value (read_register k) (read_register k)
   pub on_memory : {A : Type 0} {k k' : Memory → Run A} → ((m : Memory) → R A (k m) (k' m)) → R A (r.on_memory k) (r.on_memory k')
   pub turn : R (Unit {0}) r.turn r.turn
-  pub put : (n : ℕ) → R Value (w.put n) (w.put n)
+  pub put : (n : ℕ) → R Value (put_character n) (put_character n)
   pub get : R Value w.get w.get
   pub object : {A : Type 0} (size k : ℕ) {run run' : Scope → Run A} (scope : Scope) → ((inner : Scope) → R A (run inner) (run' inner))
       → R A (with_local_object size k run scope) (with_local_object size k run' scope)
@@ -472,7 +472,7 @@ module _ (R : (A : Type 0) → Run A → Run A → Type 0) (kept : Congruence R)
       evals_related scope (more_exprs x xs) =
           kept.bind (kept.bind (eval_related scope x) (steady_used _)) (λ v. kept.bind (evals_related scope xs) (λ vs. kept.pure _))
 
-      pub last_related : (scope : Scope) {a a' : Run Value} → Related a a' → (xs : Exprs) → Related (last_of ds ls f scope a xs) (last_of ds ls f' scope a' xs)
+      pub last_related : (scope : Scope) {a a' : Run Value} → Related a a' → (xs : Exprs) → Related (value_of_last ds ls f scope a xs) (value_of_last ds ls f' scope a' xs)
       last_related scope g no_exprs = g
       last_related scope g (more_exprs x xs) = kept.bind g (λ _. last_related scope (eval_related scope x) xs)
 
@@ -481,24 +481,24 @@ module _ (R : (A : Type 0) → Run A → Run A → Type 0) (kept : Congruence R)
     pub holds_related : (scope : Scope) (x : Expr) → Related (holds ds ls f scope x) (holds ds ls f' scope x)
     holds_related scope x = kept.bind (eval_related scope x) steady_test
 
-    pub condition_related : (scope : Scope) (x : Option Expr) → Related (condition ds ls f scope x) (condition ds ls f' scope x)
+    pub condition_related : (scope : Scope) (x : Option Expr) → Related (loop_condition ds ls f scope x) (loop_condition ds ls f' scope x)
     condition_related scope None = kept.pure true
     condition_related scope (Some x) = holds_related scope x
 
-    pub step_related : (scope : Scope) (x : Option Expr) → Related (step ds ls f scope x) (step ds ls f' scope x)
+    pub step_related : (scope : Scope) (x : Option Expr) → Related (loop_step ds ls f scope x) (loop_step ds ls f' scope x)
     step_related scope None = kept.pure tt
     step_related scope (Some x) = kept.bind (eval_related scope x) (λ _. kept.pure tt)
 
-    pub initialise_related : (scope : Scope) (k : ℕ) (l : Option Local) (init : Option Expr) → Related (initialise ds ls f scope k l init) (initialise ds ls f' scope k l init)
+    pub initialise_related : (scope : Scope) (k : ℕ) (l : Option Local) (init : Option Expr) → Related (initialise_object ds ls f scope k l init) (initialise_object ds ls f' scope k l init)
     initialise_related scope k None init = kept.pure tt
     initialise_related scope k (Some l) None = kept.pure tt
     initialise_related scope k (Some l) (Some x) =
         kept.bind (eval_related scope x) (λ v. kept.bind (steady_local scope k (Some l)) (λ p. steady_write_place ds (type_view l.ty) p v))
 
-    pub declare_related : (scope : Scope) (d : LocalDeclaration) → Related (declare ds ls f scope d) (declare ds ls f' scope d)
+    pub declare_related : (scope : Scope) (d : LocalDeclaration) → Related (run_declaration ds ls f scope d) (run_declaration ds ls f' scope d)
     declare_related scope d = initialise_related scope d.number (slice_get ls d.number) d.init
 
-    pub declares_related : (scope : Scope) (more : List LocalDeclaration) → Related (declares ds ls f scope more) (declares ds ls f' scope more)
+    pub declares_related : (scope : Scope) (more : List LocalDeclaration) → Related (run_declarations ds ls f scope more) (run_declarations ds ls f' scope more)
     declares_related scope [] = kept.pure tt
     declares_related scope (d ∷ more) = kept.bind (declare_related scope d) (λ _. declares_related scope more)
 
@@ -507,7 +507,7 @@ module _ (R : (A : Type 0) → Run A → Run A → Type 0) (kept : Congruence R)
     first_related scope (q.Value x) = kept.bind (eval_related scope x) (λ _. kept.pure tt)
     first_related scope (q.Locals more) = declares_related scope more
 
-    pub returned_related : (scope : Scope) (x : Option Expr) → Related (return_value ds ls f scope x) (return_value ds ls f' scope x)
+    pub returned_related : (scope : Scope) (x : Option Expr) → Related (flow_of_return ds ls f scope x) (flow_of_return ds ls f' scope x)
     returned_related scope None = kept.pure _
     returned_related scope (Some x) = kept.bind (kept.bind (eval_related scope x) (steady_used _)) (λ v. kept.pure _)
 

@@ -21,7 +21,7 @@ use Rattle.c_typed_tree.specs.Weight.{exprs_count, expr_weight, exprs_weight}
 use Rattle.c_semantics.specs.Runs.{Run}
 use Rattle.c_semantics.specs.Objects.{Scope}
 use Rattle.c_semantics.specs.Operators.{apply_binary, operator_of}
-use Rattle.c_semantics.specs.Evaluates.{Functions, element_pointer, member_pointer, target_of, new_value, old_value, assign_value, converted_from, eval, place, evals, last_of}
+use Rattle.c_semantics.specs.Evaluates.{Functions, element_pointer, member_pointer, target_of, new_value, old_value, assign_value, converted_from, eval, place, evals, value_of_last}
 use Rattle.c_semantics.specs.Refines as form
 use Rattle.c_semantics.specs.Refines.{IsBelow, IgnorePeak, RefinesIn, ExprRefines, ExprWithin, ExprsWithin}
 use Rattle.std.proofs.lemmas.Option.{none-some}
@@ -323,7 +323,7 @@ record ListIn (c : Context) (xs ys : Exprs) : Type 0 where
   built : IsTrue (are_built ys) → IsTrue (are_built xs)
   last_constant : (p q : Option ℕ) → Keeps p q → Keeps (last_value p xs) (last_value q ys)
   values : (f : Functions) → IgnorePeak f → (scope : Scope) → IsBelow (evals c.structs c.locals f scope xs) (evals c.structs c.locals f scope ys)
-  last : (f : Functions) → IgnorePeak f → (scope : Scope) {d e : Run Value} → IsBelow d e → IsBelow (last_of c.structs c.locals f scope d xs) (last_of c.structs c.locals f scope e ys)
+  last : (f : Functions) → IgnorePeak f → (scope : Scope) {d e : Run Value} → IsBelow d e → IsBelow (value_of_last c.structs c.locals f scope d xs) (value_of_last c.structs c.locals f scope e ys)
 
 none_refines : (c : Context) → ListIn c no_exprs no_exprs
 unfolding expr_weight

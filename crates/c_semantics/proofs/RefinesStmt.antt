@@ -24,7 +24,7 @@ use Rattle.c_typed_tree.specs.Weight.{copy_weight, expr_weight, optional_weight,
 use Rattle.c_semantics.specs.Runs.{Run, ◌>>=◌, ◌>>◌, pure, turn}
 use Rattle.c_semantics.specs.Objects.{Scope, with_locals}
 use Rattle.c_semantics.specs.Evaluates.{Functions, choose}
-use Rattle.c_semantics.specs.Executes.{StatementFlow, Goes, after_body, declared_by, declared_in, declared_first, is_chosen_label, has_label, target_in, holds, condition, step, initialise, declare, declares, first, return_value, exec, exec_else, execs, exec_sections, exec_from, calls_of, level, function_locals}
+use Rattle.c_semantics.specs.Executes.{StatementFlow, Goes, after_body, declared_by, declared_in, declared_first, is_chosen_label, has_label, target_in, holds, loop_condition, loop_step, initialise_object, run_declaration, run_declarations, first, flow_of_return, exec, exec_else, execs, exec_sections, exec_from, calls_of, level, function_locals}
 use Rattle.c_semantics.specs.Refines as r
 use Rattle.c_semantics.specs.Refines.{IsBelow, IgnorePeak, ExprWithin, OptionWithin, DeclaredWithin, AllDeclaredWithin, FirstWithin, context_at, result_at, IsTypedAt, StmtRefines, StmtWithin, ElseWithin, StmtsWithin, SectionsWithin}
 use Rattle.c_semantics.proofs.Facts.{front, back, also, either_on, along, three, four}
@@ -332,27 +332,27 @@ module _ (c : Context) (f : Functions) (i : IgnorePeak f) where
   holds_below : (scope : Scope) {x y : Expr} → ExprWithin x y → IsTrue (is_condition c y) → IsBelow (holds ds ls f scope x) (holds ds ls f scope y)
   holds_below scope {y = y} h p = kept.bind ((within_below h c (typed_condition c y p)).value f i scope) (forms.steady_test BelowOf kept)
 
-  condition_below : (scope : Scope) {x y : Option Expr} → OptionWithin x y → IsTrue (is_optional_condition c y) → IsBelow (condition ds ls f scope x) (condition ds ls f scope y)
+  condition_below : (scope : Scope) {x y : Option Expr} → OptionWithin x y → IsTrue (is_optional_condition c y) → IsBelow (loop_condition ds ls f scope x) (loop_condition ds ls f scope y)
   condition_below scope r.missing p = kept.pure true
   condition_below scope (r.present h) p = holds_below scope h p
 
-  step_below : (scope : Scope) {x y : Option Expr} → OptionWithin x y → IsTrue (is_optional_value c y) → IsBelow (step ds ls f scope x) (step ds ls f scope y)
+  step_below : (scope : Scope) {x y : Option Expr} → OptionWithin x y → IsTrue (is_optional_value c y) → IsBelow (loop_step ds ls f scope x) (loop_step ds ls f scope y)
   step_below scope r.missing p = kept.pure tt
   step_below scope (r.present {y = y} h) p = kept.bind ((within_below h c (typed_value c y p)).value f i scope) (λ v. kept.pure tt)
 
-  initialise_below : (scope : Scope) (k : ℕ) (l : Option Local) {x y : Option Expr} → OptionWithin x y → IsTrue (is_initialiser c l y) → IsBelow (initialise ds ls f scope k l x) (initialise ds ls f scope k l y)
+  initialise_below : (scope : Scope) (k : ℕ) (l : Option Local) {x y : Option Expr} → OptionWithin x y → IsTrue (is_initialiser c l y) → IsBelow (initialise_object ds ls f scope k l x) (initialise_object ds ls f scope k l y)
   initialise_below scope k None h p = kept.pure tt
   initialise_below scope k (Some l) r.missing p = kept.pure tt
   initialise_below scope k (Some l) (r.present {y = y} h) p =
       kept.bind ((within_below h c (typed_initialiser c (Some l) y p)).value f i scope)
       (λ v. kept.bind (forms.steady_local BelowOf kept scope k (Some l)) (λ at. forms.steady_write_place BelowOf kept ds (type_view l.ty) at v))
 
-  declare_below : (scope : Scope) {d e : LocalDeclaration} → DeclaredWithin d e → IsTrue (is_declared c e) → IsBelow (declare ds ls f scope d) (declare ds ls f scope e)
+  declare_below : (scope : Scope) {d e : LocalDeclaration} → DeclaredWithin d e → IsTrue (is_declared c e) → IsBelow (run_declaration ds ls f scope d) (run_declaration ds ls f scope e)
   declare_below scope {d = d} {e = e} h p =
-      subst (λ z. IsBelow z (declare ds ls f scope e)) (sym (ap (λ k. initialise ds ls f scope k (slice_get ls k) d.init) h.number))
+      subst (λ z. IsBelow z (run_declaration ds ls f scope e)) (sym (ap (λ k. initialise_object ds ls f scope k (slice_get ls k) d.init) h.number))
       (initialise_below scope e.number (slice_get ls e.number) h.init p)
 
-  declares_below : (scope : Scope) {a b : List LocalDeclaration} → AllDeclaredWithin a b → IsTrue (list_all (is_declared c) b) → IsBelow (declares ds ls f scope a) (declares ds ls f scope b)
+  declares_below : (scope : Scope) {a b : List LocalDeclaration} → AllDeclaredWithin a b → IsTrue (list_all (is_declared c) b) → IsBelow (run_declarations ds ls f scope a) (run_declarations ds ls f scope b)
   declares_below scope r.no_more p = kept.pure tt
   declares_below scope (r.one_more {e = e} {es = es} h g) p =
       kept.bind (declare_below scope h (front (is_declared c e) (list_all (is_declared c) es) p)) (λ _. declares_below scope g (back (is_declared c e) (list_all (is_declared c) es) p))
@@ -362,7 +362,7 @@ module _ (c : Context) (f : Functions) (i : IgnorePeak f) where
   first_below scope (r.value_first {y = y} h) p = kept.bind ((within_below h c (typed_value c y p)).value f i scope) (λ v. kept.pure tt)
   first_below scope (r.locals_first h) p = declares_below scope h p
 
-  returned_below : (result : PlainType) (scope : Scope) {x y : Option Expr} → OptionWithin x y → IsTrue (is_returned c result y) → IsBelow (return_value ds ls f scope x) (return_value ds ls f scope y)
+  returned_below : (result : PlainType) (scope : Scope) {x y : Option Expr} → OptionWithin x y → IsTrue (is_returned c result y) → IsBelow (flow_of_return ds ls f scope x) (flow_of_return ds ls f scope y)
   returned_below result scope r.missing p = kept.pure _
   returned_below result scope (r.present {y = y} h) p =
       kept.bind (kept.bind ((within_below h c (typed_returned c result y p)).value f i scope) (forms.steady_used BelowOf kept _)) (λ v. kept.pure _)
@@ -428,8 +428,8 @@ module _ (unit : TypedUnit) (rooms : Rooms) (m n : ℕ)
         let p2 = back (is_first c b) (is_optional_condition c y) q3 in
         subst (λ z. IsBelow (exec c.structs c.locals f again scope (q.For a x v s)) z)
         (ap (λ ks. with_locals c.structs c.locals ks
-        (λ inner. first c.structs c.locals f inner b >> (condition c.structs c.locals f inner y >>= choose
-        (turn >> (exec c.structs c.locals f again inner t >>= after_body (step c.structs c.locals f inner w >> again inner (q.For q.Nothing y w t))))
+        (λ inner. first c.structs c.locals f inner b >> (loop_condition c.structs c.locals f inner y >>= choose
+        (turn >> (exec c.structs c.locals f again inner t >>= after_body (loop_step c.structs c.locals f inner w >> again inner (q.For q.Nothing y w t))))
         (pure Goes))) scope) (first_numbers h))
         (forms.related_locals BelowOf kept c.structs c.locals (declared_first a)
         (λ inner. kept.bind (first_below c f i inner h (front (is_first c b) (is_optional_condition c y) q3)) (λ _. kept.bind (condition_below c f i inner g p2)

@@ -7,13 +7,13 @@ use Rattle.c_typed_tree.specs.declared.types.StructDef.{StructDef}
 use Rattle.c_typed_tree.specs.declared.units.TypedFn.{TypedFn}
 use Rattle.c_typed_tree.specs.declared.units.TypedUnit.{TypedUnit}
 use Rattle.c_semantics.specs.Runs.{CallState, Run, no_turn}
-use Rattle.c_semantics.specs.Evaluates.{put, get}
+use Rattle.c_semantics.specs.Evaluates.{put_character, get}
 use Rattle.c_semantics.specs.Executes.{StatementFlow, Level, body_of, calls_of, function_locals, level_above, level}
 use Rattle.c_semantics.proofs.Grown.{starts_same, later_same, Reaches, Grown, Steady, bind, steady_pure, steady_undefined, steady_trap, steady_exit, steady_memory, steady_write, grown_seen, steady_read, grown_no_turn, steady_turn, grown_object, grown_call}
 use Rattle.c_semantics.proofs.Forms as forms
 
-steady_put : (n : ℕ) → Steady (put n)
-unfolding put
+steady_put : (n : ℕ) → Steady (put_character n)
+unfolding put_character
 steady_put n = record {
   by = λ s d. refl;
   low = λ s. record { output = (_, refl); peak = omega arith };

@@ -26,8 +26,8 @@ use Rattle.c_semantics.specs.Operators.{apply_binary, apply_unary, test, convert
 -- ---- what the world outside does
 
 -- a byte is put, and is the value (C99 7.19.7.9)
-unfoldable pub put : ℕ → Run Value
-put n = λ s. Gives (Word (n % 256)) (with_outer s (put_byte s.world.outer (n % 256)))
+unfoldable pub put_character : ℕ → Run Value
+put_character n = λ s. Gives (Word (n % 256)) (with_outer s (put_byte s.world.outer (n % 256)))
 
 -- the word of -1 at the end of the input
 abbrev pub byte_or_end : Option ℕ → ℕ
@@ -40,7 +40,7 @@ get = λ s. Gives (Word (byte_or_end (next_byte s.world.outer))) (with_outer s (
 
 -- a built-in function on its arguments. The call is a turn
 abbrev pub builtin : Builtin → List Value → Run Value
-builtin i.Putchar (v ∷ []) = use_number v >>= (λ n. turn >> put n)
+builtin i.Putchar (v ∷ []) = use_number v >>= (λ n. turn >> put_character n)
 builtin i.Getchar [] = turn >> get
 builtin i.Abort [] = turn >> trap 2
 builtin i.Exit (v ∷ []) = use_number v >>= (λ n. turn >> exit n)
@@ -145,7 +145,7 @@ module _ (ds : List StructDef) (ls : List Local) (functions : Functions) where
     eval scope (Arrow ty x member) = eval scope x >>= member_pointer ds (target_of (type_of x)) member >>= read_at ty
     eval scope (Postfix ty op x) = place scope x >>= update ds ty (step_value ds op ty) old_value
     eval scope (Comma ty no_exprs) = undefined UsesNoValue
-    eval scope (Comma ty (more_exprs x xs)) = last_of scope (eval scope x) xs
+    eval scope (Comma ty (more_exprs x xs)) = value_of_last scope (eval scope x) xs
 
     -- where an expression stands that is a place (C99 6.3.2.1)
     pub place : Scope → Expr → Run ValuePlace
@@ -166,6 +166,6 @@ module _ (ds : List StructDef) (ls : List Local) (functions : Functions) where
         eval scope x >>= use_value UsesNoValue >>= (λ v. evals scope xs >>= (λ vs. pure (v ∷ vs)))
 
     -- the last of the operands of commas, of which the first one is given (C99 6.5.17)
-    pub last_of : Scope → Run Value → Exprs → Run Value
-    last_of scope first no_exprs = first
-    last_of scope first (more_exprs x xs) = first >> last_of scope (eval scope x) xs
+    pub value_of_last : Scope → Run Value → Exprs → Run Value
+    value_of_last scope first no_exprs = first
+    value_of_last scope first (more_exprs x xs) = first >> value_of_last scope (eval scope x) xs

@@ -141,37 +141,37 @@ module _ (ds : List StructDef) (ls : List Local) (functions : Functions) where
   abbrev pub holds : Scope → Expr → Run Bool
   holds scope x = eval ds ls functions scope x >>= test
 
-  abbrev pub condition : Scope → Option Expr → Run Bool
-  condition scope None = pure true
-  condition scope (Some x) = holds scope x
+  abbrev pub loop_condition : Scope → Option Expr → Run Bool
+  loop_condition scope None = pure true
+  loop_condition scope (Some x) = holds scope x
 
-  abbrev pub step : Scope → Option Expr → Run (Unit {0})
-  step scope None = pure tt
-  step scope (Some x) = eval ds ls functions scope x >> pure tt
+  abbrev pub loop_step : Scope → Option Expr → Run (Unit {0})
+  loop_step scope None = pure tt
+  loop_step scope (Some x) = eval ds ls functions scope x >> pure tt
 
   -- the initialiser of a local is written to it (C99 6.7.8)
-  abbrev pub initialise : Scope → (local : ℕ) → Option Local → Option Expr → Run (Unit {0})
-  initialise scope k None init = pure tt
-  initialise scope k (Some l) None = pure tt
-  initialise scope k (Some l) (Some x) =
+  abbrev pub initialise_object : Scope → (local : ℕ) → Option Local → Option Expr → Run (Unit {0})
+  initialise_object scope k None init = pure tt
+  initialise_object scope k (Some l) None = pure tt
+  initialise_object scope k (Some l) (Some x) =
       eval ds ls functions scope x >>= (λ v. local_place scope k (Some l) >>= (λ p. write ds (type_view l.ty) p v))
 
-  abbrev pub declare : Scope → LocalDeclaration → Run (Unit {0})
-  declare scope d = initialise scope d.number (slice_get ls d.number) d.init
+  abbrev pub run_declaration : Scope → LocalDeclaration → Run (Unit {0})
+  run_declaration scope d = initialise_object scope d.number (slice_get ls d.number) d.init
 
-  abbrev pub declares : Scope → List LocalDeclaration → Run (Unit {0})
-  declares scope [] = pure tt
-  declares scope (d ∷ more) = declare scope d >> declares scope more
+  abbrev pub run_declarations : Scope → List LocalDeclaration → Run (Unit {0})
+  run_declarations scope [] = pure tt
+  run_declarations scope (d ∷ more) = run_declaration scope d >> run_declarations scope more
 
   -- the first part of a `for`
   abbrev pub first : Scope → First → Run (Unit {0})
   first scope q.Nothing = pure tt
   first scope (q.Value x) = eval ds ls functions scope x >> pure tt
-  first scope (q.Locals more) = declares scope more
+  first scope (q.Locals more) = run_declarations scope more
 
-  abbrev pub return_value : Scope → Option Expr → Run StatementFlow
-  return_value scope None = pure (Returns None)
-  return_value scope (Some x) =
+  abbrev pub flow_of_return : Scope → Option Expr → Run StatementFlow
+  flow_of_return scope None = pure (Returns None)
+  flow_of_return scope (Some x) =
       eval ds ls functions scope x >>= use_value UsesNoValue >>= (λ v. pure (Returns (Some v)))
 
   -- again is what a statement does one level down
@@ -186,8 +186,8 @@ module _ (ds : List StructDef) (ls : List Local) (functions : Functions) where
           turn >> (exec scope s >>= after_body (holds scope x >>= choose (again scope (q.Do s x)) (pure Goes)))
       exec scope (q.For start x after s) =
           with_locals ds ls (declared_first start)
-          (λ inner. first inner start >> (condition inner x >>= choose
-          (turn >> (exec inner s >>= after_body (step inner after >> again inner (q.For q.Nothing x after s))))
+          (λ inner. first inner start >> (loop_condition inner x >>= choose
+          (turn >> (exec inner s >>= after_body (loop_step inner after >> again inner (q.For q.Nothing x after s))))
           (pure Goes)))
           scope
       exec scope (q.Switch x sections) =
@@ -195,10 +195,10 @@ module _ (ds : List StructDef) (ls : List Local) (functions : Functions) where
           >>= (λ n. exec_from scope (target_in n sections) sections) >>= after_switch
       exec scope q.Break = pure Breaks
       exec scope q.Continue = pure Continues
-      exec scope (q.Return x) = return_value scope x
+      exec scope (q.Return x) = flow_of_return scope x
       exec scope (q.Expression x) = eval ds ls functions scope x >> pure Goes
       exec scope q.Empty = pure Goes
-      exec scope (q.Declare d) = declare scope d >> pure Goes
+      exec scope (q.Declare d) = run_declaration scope d >> pure Goes
 
       pub exec_else : Scope → Else → Run StatementFlow
       exec_else scope no_else = pure Goes

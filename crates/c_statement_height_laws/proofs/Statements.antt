@@ -105,7 +105,7 @@ module _ (of : Option CType) where
         let p = node_height (expr_node x) in let q = nodes_height (section_row list) in let n = max p q in
         let o = operand_of x w.1 in
         let u : SwitchState = (no_labels, (w.0, o.1)) in
-        let found = j.section_row of (in_switch i) (switch_type o.0) list (Some []) u in
+        let found = j.judge_section_row of (in_switch i) (switch_type o.0) list (Some []) u in
         switch_low n o.0 found.0 (found_lower operand_height p n o.0 (lower_left p q) (operand_low x w.1))
         (found_lower all_sections_height q n found.0 (lower_right p q) (sections_low q (in_switch i) (switch_type o.0) list (Some []) u (no_more q) (nothing_low q)))
     statement_low i (s.Break at) w = break_low 0 i at w.1.1
@@ -134,7 +134,7 @@ module _ (of : Option CType) where
         else_low (max n 0) r.0 (found_lower statement_height n (max n 0) r.0 (lower_left n 0) (statement_low i x w))
 
     sections_low : {m : _} (n : ℕ) (i : Jumps) (ty : Option IntegerType) (xs : b.Row_of-Section m) (found : Option (List TSection)) (w : SwitchState) → nodes_height (section_row xs) ≤ n → IfSome found (IsLow all_sections_height n)
-        → IfSome (j.section_row of i ty xs found w).0 (IsLow all_sections_height n)
+        → IfSome (j.judge_section_row of i ty xs found w).0 (IsLow all_sections_height n)
     sections_low n i ty b.end_of-Section found w g h = h
     sections_low n i ty (b.more_of-Section label _ list rest) found w g h =
         let inner = nodes_height (stmt_row list) in let all = nodes_height (append_nodes (label_nodes label) (stmt_row list)) in let after = nodes_height (section_row rest) in

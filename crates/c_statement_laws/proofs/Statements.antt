@@ -15,7 +15,7 @@ use Rattle.c_statement_rules.specs.Labels.{no_labels}
 use Rattle.c_statement_rules.specs.Locals.{BodyState}
 use Rattle.c_statement_rules.specs.Forms.{section_under, switch_type}
 use Rattle.c_statements.specs.Parts.{condition_of, full_value, operand_of, optional_condition, optional_value, local_of, first_of, label_of}
-use Rattle.c_statements.specs.Statements.{SwitchState, in_scope, statement, statement_row, else_held, section_row}
+use Rattle.c_statements.specs.Statements.{SwitchState, in_scope, statement, statement_row, else_held, judge_section_row}
 use Rattle.c_judgement_laws.specs.Covers.{IsLawfulContext}
 use Rattle.c_statement_laws.proofs.Moves.{Moves, moves_none, moves_as, moves_then, moves_both, moves_noted, scope_moves, part_more}
 use Rattle.c_statement_laws.proofs.Parts.{result_type, condition_moves, value_moves, operand_moves, optional_condition_moves, optional_value_moves, return_moves}
@@ -60,7 +60,7 @@ module _ (c : Context) (lawful : IsLawfulContext c) (of : Option CType) where
         (moves_then c known (in_scope w) p.1 (p.1.0, q.1) (first_moves c known lawful first (in_scope w)) (optional_condition_moves c lawful known x p.1)) (optional_value_moves c lawful known e (p.1.0, q.1)))
         (statement_moves in_loop y (p.1.0, r.1)))
     statement_moves j (s.Switch' x _ list) w =
-        let o = operand_of x w.1 in let u : BodyState = (w.0, o.1) in let f = section_row of (in_switch j) (switch_type o.0) list (Some []) (no_labels, u) in
+        let o = operand_of x w.1 in let u : BodyState = (w.0, o.1) in let f = judge_section_row of (in_switch j) (switch_type o.0) list (Some []) (no_labels, u) in
         moves_both c known w u f.1.1 (λ h k. form.switch_typed c lawful known (result_type of) j (in_switch j) o.0 f.1.0 f.0 refl h k) (operand_moves c lawful known x w)
         (sections_moves (in_switch j) (switch_type o.0) list (Some []) (no_labels, u) u (moves_none c known u (form.none_yet c lawful known (result_type of) (in_switch j) (switch_type o.0) no_labels)))
     statement_moves j (s.Break at) w =
@@ -92,7 +92,7 @@ module _ (c : Context) (lawful : IsLawfulContext c) (of : Option CType) where
 
     sections_moves : (j : Jumps) (ty : Option IntegerType) {m : _} (xs : b.Row_of-Section m) (found : Option (List TSection)) (v : SwitchState) (w : BodyState)
         → Moves c known (IfSome found (AreSections c lawful known (result_type of) j ty v.0)) w v.1
-        → Moves c known (IfSome (section_row of j ty xs found v).0 (AreSections c lawful known (result_type of) j ty (section_row of j ty xs found v).1.0)) w (section_row of j ty xs found v).1.1
+        → Moves c known (IfSome (judge_section_row of j ty xs found v).0 (AreSections c lawful known (result_type of) j ty (judge_section_row of j ty xs found v).1.0)) w (judge_section_row of j ty xs found v).1.1
     sections_moves j ty b.end_of-Section found v w m = m
     sections_moves j ty (b.more_of-Section label _ list rest) found v w m =
         let l = label_of ty label (v.0, v.1.1) in let u : BodyState = (v.1.0, l.1.1) in let r = statement_row of j list (Some []) u in

@@ -9,7 +9,7 @@ use Rattle.c_grammar.specs.declared.shapes.Naming.TheVariants as nm
 use Rattle.c_grammar.specs.Types.{without_body}
 use Rattle.c_grammar.specs.Tokens.{TypeNames, is_mark, kind_at, token_tail, begins_type}
 use Rattle.c_grammar.specs.Parser.{Parser, and_then}
-use Rattle.c_grammar.specs.ParseSpecifiers.{declaration, braced_list_from, declarators_from, member, members_from}
+use Rattle.c_grammar.specs.ParseSpecifiers.{declaration, braced_list_from, declarators_from, struct_declaration, struct_declarations_from}
 use Rattle.c_tree.specs.declared.statements.Stmt.{Stmt}
 use Rattle.c_tree.specs.declared.statements.Section.{Section}
 use Rattle.c_grammar.specs.Statements.{locals_of}
@@ -37,14 +37,14 @@ unfolding declarators_from
 declarators_end s depth n at ty found ts = end (λ m. declarators_from s depth m ty found ts) n at
 
 pub members_turn : (s : TypeNames) (depth : ℕ) (specifier : Parser TypeNode) (n at : ℕ) (found : List Declaration) (ts : List Lexeme) → at < n
-    → members_from s depth specifier (n - at) found ts ≡ and_then (member s depth specifier ts) (λ ds r. if is_mark p.RightBrace (kind_at r) then Ok (found ++ ds, r) else members_from s depth specifier (n - (at + 1)) (found ++ ds) r)
-unfolding members_from
-members_turn s depth specifier n at found ts = turn (λ m. members_from s depth specifier m found ts) n at
+    → struct_declarations_from s depth specifier (n - at) found ts ≡ and_then (struct_declaration s depth specifier ts) (λ ds r. if is_mark p.RightBrace (kind_at r) then Ok (found ++ ds, r) else struct_declarations_from s depth specifier (n - (at + 1)) (found ++ ds) r)
+unfolding struct_declarations_from
+members_turn s depth specifier n at found ts = turn (λ m. struct_declarations_from s depth specifier m found ts) n at
 
 pub members_end : (s : TypeNames) (depth : ℕ) (specifier : Parser TypeNode) (n at : ℕ) (found : List Declaration) (ts : List Lexeme) → n ≤ at
-    → members_from s depth specifier (n - at) found ts ≡ Err ts
-unfolding members_from
-members_end s depth specifier n at found ts = end (λ m. members_from s depth specifier m found ts) n at
+    → struct_declarations_from s depth specifier (n - at) found ts ≡ Err ts
+unfolding struct_declarations_from
+members_end s depth specifier n at found ts = end (λ m. struct_declarations_from s depth specifier m found ts) n at
 
 pub items_turn : (s : TypeNames) (depth : ℕ) (stmt : Parser Stmt) (n at : ℕ) (found : List Stmt) (ts : List Lexeme) → at < n
     → items_from s depth stmt (n - at) found ts ≡ (if is_mark p.RightBrace (kind_at ts) then Ok (found, token_tail ts)

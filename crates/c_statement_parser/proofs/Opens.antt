@@ -1,19 +1,7 @@
--- Functions of the grammar that have the names of keywords, under names that attributes can write.
-use Rattle.c_grammar.specs.ParseStatements.{while, for, return, value, stmt}
-
-unfoldable pub while_loop : Unit {0}
-unfolding while
-while_loop = tt
-
-unfoldable pub for_loop : Unit {0}
-unfolding for
-for_loop = tt
-
-unfoldable pub return_behind : Unit {0}
-unfolding return
-return_behind = tt
+-- A name for several functions of the grammar that one attribute opens together.
+use Rattle.c_grammar.specs.ParseStatements.{return_behind, value_line, stmt}
 
 -- the parts of a statement
 unfoldable pub statement : Unit {0}
-unfolding stmt return value
+unfolding stmt return_behind value_line
 statement = tt

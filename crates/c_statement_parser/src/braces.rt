@@ -54,14 +54,14 @@ pub fn declaration(
 }
 
 /// Reads an enumeration constant.
-#[tactic(auto, unfolding(c_grammar::specs::ParseSpecifiers::constant))]
-fn constant(
+#[tactic(auto, unfolding(c_grammar::specs::ParseSpecifiers::enumerator))]
+fn enumerator(
     alloc: Global,
     scope: &TypedefScope,
     tokens: &mut Tokens<'_>,
     depth: usize,
 ) -> Result<Constant, ParseStop>
-    ensures { Answers (model.constant scope.now depth tokens.old) result tokens.new }
+    ensures { Answers (model.enumerator scope.now depth tokens.old) result tokens.new }
 {
     if !tokens.sees_name() {
         return Err(ParseStop::Refused);
@@ -90,18 +90,18 @@ fn constant(
 
 /// Reads enumeration constants with commas between them, one or more, and perhaps a comma behind.
 #[tactic(auto, using(crate::proofs::Loops::braced_turn, crate::proofs::Loops::braced_end))]
-fn constants(
+fn enumerators(
     alloc: Global,
     scope: &TypedefScope,
     tokens: &mut Tokens<'_>,
     depth: usize,
 ) -> Result<Seq<Constant>, ParseStop>
-    ensures { Answers (model.braced_list_from (model.constant scope.now depth) (length tokens.old) []
+    ensures { Answers (model.braced_list_from (model.enumerator scope.now depth) (length tokens.old) []
         tokens.old) result tokens.new }
 {
     let mut found = Seq::new(alloc);
     for _turn in 0..tokens.left() {
-        found.push(constant(alloc, scope, tokens, depth)?)?;
+        found.push(enumerator(alloc, scope, tokens, depth)?)?;
         if !tokens.sees(Punct::Comma) {
             return Ok(found);
         }
@@ -142,14 +142,14 @@ fn member_declarators(
 
 /// Reads one declaration of members.
 #[cycle(specifier)]
-#[tactic(auto, unfolding(c_grammar::specs::ParseSpecifiers::member))]
-fn member(
+#[tactic(auto, unfolding(c_grammar::specs::ParseSpecifiers::struct_declaration))]
+fn struct_declaration(
     alloc: Global,
     scope: &TypedefScope,
     tokens: &mut Tokens<'_>,
     depth: usize,
 ) -> Result<Seq<Declaration>, ParseStop>
-    ensures { Answers (model.member scope.now depth (model.specifier scope.now depth) tokens.old) result
+    ensures { Answers (model.struct_declaration scope.now depth (model.specifier scope.now depth) tokens.old) result
         tokens.new }
 {
     let base = specifier(alloc, scope, tokens, depth)?;
@@ -160,18 +160,18 @@ fn member(
 /// Reads the declarations of members, one or more, up to the brace that closes them.
 #[cycle(specifier)]
 #[tactic(auto, using(crate::proofs::Loops::members_turn, crate::proofs::Loops::members_end))]
-fn members(
+fn struct_declarations(
     alloc: Global,
     scope: &TypedefScope,
     tokens: &mut Tokens<'_>,
     depth: usize,
 ) -> Result<Seq<Declaration>, ParseStop>
-    ensures { Answers (model.members_from scope.now depth (model.specifier scope.now depth)
+    ensures { Answers (model.struct_declarations_from scope.now depth (model.specifier scope.now depth)
         (length tokens.old) [] tokens.old) result tokens.new }
 {
     let mut found = Seq::new(alloc);
     for _turn in 0..tokens.left() {
-        found = append(found, member(alloc, scope, tokens, depth)?)?;
+        found = append(found, struct_declaration(alloc, scope, tokens, depth)?)?;
         if tokens.sees(Punct::RightBrace) {
             return Ok(found);
         }
@@ -197,13 +197,13 @@ fn braces(
     tokens.expect(Punct::LeftBrace)?;
     match word {
         Specifier::Struct => {
-            let found = members(alloc, scope, tokens, depth)?;
+            let found = struct_declarations(alloc, scope, tokens, depth)?;
             tokens.expect(Punct::RightBrace)?;
             tokens.consts();
             Ok(SpecifierType::structure(at, tag, Some(found)))
         }
         _ => {
-            let found = constants(alloc, scope, tokens, depth)?;
+            let found = enumerators(alloc, scope, tokens, depth)?;
             tokens.expect(Punct::RightBrace)?;
             tokens.consts();
             Ok(SpecifierType::enumeration(at, tag, Some(found)))

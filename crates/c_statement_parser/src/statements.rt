@@ -19,15 +19,15 @@ use c_tree::{Box, Expr, ForFirst, Label, LocalDeclarator, Section, Seq, Stmt};
 use std::alloc::{AllocError, Global};
 
 /// Reads a declarator in a block, behind its type, and its initialiser.
-#[tactic(auto, unfolding(c_grammar::specs::ParseStatements::local))]
-fn local(
+#[tactic(auto, unfolding(c_grammar::specs::ParseStatements::local_declarator))]
+fn local_declarator(
     alloc: Global,
     scope: &TypedefScope,
     tokens: &mut Tokens<'_>,
     depth: usize,
     base: SpecifierType,
 ) -> Result<LocalDeclarator, ParseStop>
-    ensures { Answers (model.local scope.now depth base tokens.old) result tokens.new }
+    ensures { Answers (model.local_declarator scope.now depth base tokens.old) result tokens.new }
 {
     let declaration = declaration(alloc, scope, tokens, depth, Naming::Required, base)?;
     if !tokens.sees(Punct::Assign) {
@@ -58,12 +58,12 @@ fn locals(
     base: &SpecifierType,
 ) -> Result<Seq<LocalDeclarator>, ParseStop>
     requires { without_body base.now ≡ base.now }
-    ensures { Answers (list_from (model.local scope.now depth base.now) (length tokens.old) [] tokens.old) result
+    ensures { Answers (list_from (model.local_declarator scope.now depth base.now) (length tokens.old) [] tokens.old) result
         tokens.new }
 {
     let mut found = Seq::new(alloc);
     for _turn in 0..tokens.left() {
-        found.push(local(alloc, scope, tokens, depth, base.bare()?)?)?;
+        found.push(local_declarator(alloc, scope, tokens, depth, base.bare()?)?)?;
         if !tokens.sees(Punct::Comma) {
             return Ok(found);
         }
@@ -88,15 +88,15 @@ fn line(
 }
 
 /// Reads an expression that is missing where this punctuator stands.
-#[tactic(auto, unfolding(c_grammar::specs::ParseStatements::optional))]
-fn optional(
+#[tactic(auto, unfolding(c_grammar::specs::ParseStatements::optional_expression))]
+fn optional_expression(
     alloc: Global,
     scope: &TypedefScope,
     tokens: &mut Tokens<'_>,
     depth: usize,
     mark: Punct,
 ) -> Result<Option<Box<Expr>>, ParseStop>
-    ensures { Answers (model.optional scope.now depth mark tokens.old) result tokens.new }
+    ensures { Answers (model.optional_expression scope.now depth mark tokens.old) result tokens.new }
 {
     if tokens.sees(mark) {
         return Ok(None);
@@ -105,14 +105,14 @@ fn optional(
 }
 
 /// Reads an expression in brackets.
-#[tactic(auto, unfolding(c_grammar::specs::ParseStatements::condition))]
-fn condition(
+#[tactic(auto, unfolding(c_grammar::specs::ParseStatements::controlling_expression))]
+fn controlling_expression(
     alloc: Global,
     scope: &TypedefScope,
     tokens: &mut Tokens<'_>,
     depth: usize,
 ) -> Result<Box<Expr>, ParseStop>
-    ensures { Answers (model.condition scope.now depth tokens.old) result tokens.new }
+    ensures { Answers (model.controlling_expression scope.now depth tokens.old) result tokens.new }
 {
     tokens.expect(Punct::LeftParen)?;
     let found = Box::new(alloc, whole(alloc, scope, tokens, depth)?)?;
@@ -120,14 +120,14 @@ fn condition(
 }
 
 /// Reads the first part of a `for`, where it is an expression.
-#[tactic(auto, unfolding(c_grammar::specs::ParseStatements::first_value))]
-fn first_value(
+#[tactic(auto, unfolding(c_grammar::specs::ParseStatements::first_expression))]
+fn first_expression(
     alloc: Global,
     scope: &TypedefScope,
     tokens: &mut Tokens<'_>,
     depth: usize,
 ) -> Result<Box<ForFirst>, ParseStop>
-    ensures { Answers (model.first_value scope.now depth tokens.old) result tokens.new }
+    ensures { Answers (model.first_expression scope.now depth tokens.old) result tokens.new }
 {
     let found = ForFirst::Value(whole(alloc, scope, tokens, depth)?);
     let found = Box::new(alloc, found)?;
@@ -135,14 +135,14 @@ fn first_value(
 }
 
 /// Reads the first part of a `for`, up to the semicolon behind it.
-#[tactic(auto, unfolding(c_grammar::specs::ParseStatements::first))]
-fn for_first(
+#[tactic(auto, unfolding(c_grammar::specs::ParseStatements::first_clause))]
+fn first_clause(
     alloc: Global,
     scope: &TypedefScope,
     tokens: &mut Tokens<'_>,
     depth: usize,
 ) -> Result<Box<ForFirst>, ParseStop>
-    ensures { Answers (model.first scope.now depth tokens.old) result tokens.new }
+    ensures { Answers (model.first_clause scope.now depth tokens.old) result tokens.new }
 {
     if tokens.sees(Punct::Semicolon) {
         tokens.take();
@@ -152,19 +152,19 @@ fn for_first(
         let locals = line(alloc, scope, tokens, depth)?;
         return Ok(Box::new(alloc, ForFirst::Locals(locals))?);
     }
-    first_value(alloc, scope, tokens, depth)
+    first_expression(alloc, scope, tokens, depth)
 }
 
 /// Reads a `case` behind its word.
-#[tactic(auto, unfolding(c_grammar::specs::ParseStatements::case_label))]
-fn case_label(
+#[tactic(auto, unfolding(c_grammar::specs::ParseStatements::case_behind))]
+fn case_behind(
     alloc: Global,
     scope: &TypedefScope,
     tokens: &mut Tokens<'_>,
     depth: usize,
     at: u32,
 ) -> Result<Label, ParseStop>
-    ensures { Answers (model.case_label scope.now depth at tokens.old) result tokens.new }
+    ensures { Answers (model.case_behind scope.now depth at tokens.old) result tokens.new }
 {
     let value = expr(alloc, scope, tokens, depth, levels::CONDITIONAL)?;
     tokens.close(Punct::Colon, Label::Case { at, value })
@@ -183,7 +183,7 @@ fn label(
     let at = tokens.place();
     if tokens.sees_word(Keyword::Case) {
         tokens.take();
-        return case_label(alloc, scope, tokens, depth, at);
+        return case_behind(alloc, scope, tokens, depth, at);
     }
     tokens.expect_word(Keyword::Default)?;
     tokens.close(Punct::Colon, Label::Default { at })
@@ -202,7 +202,7 @@ fn end_statement(
 }
 
 /// Reads the value of a `return` behind its word, up to the semicolon behind it.
-#[tactic(auto, unfolding(crate::proofs::Opens::return_behind))]
+#[tactic(auto, unfolding(c_grammar::specs::ParseStatements::return_behind))]
 fn return_behind(
     alloc: Global,
     scope: &TypedefScope,
@@ -210,21 +210,21 @@ fn return_behind(
     depth: usize,
     at: u32,
 ) -> Result<Box<Stmt>, ParseStop>
-    ensures { Answers (model.return scope.now depth at tokens.old) result tokens.new }
+    ensures { Answers (model.return_behind scope.now depth at tokens.old) result tokens.new }
 {
-    let value = optional(alloc, scope, tokens, depth, Punct::Semicolon)?;
+    let value = optional_expression(alloc, scope, tokens, depth, Punct::Semicolon)?;
     end_statement(alloc, tokens, Stmt::Return { at, value })
 }
 
 /// Reads an expression as a statement.
-#[tactic(auto, unfolding(c_grammar::specs::ParseStatements::value))]
+#[tactic(auto, unfolding(c_grammar::specs::ParseStatements::value_line))]
 fn expression_statement(
     alloc: Global,
     scope: &TypedefScope,
     tokens: &mut Tokens<'_>,
     depth: usize,
 ) -> Result<Box<Stmt>, ParseStop>
-    ensures { Answers (model.value scope.now depth tokens.old) result tokens.new }
+    ensures { Answers (model.value_line scope.now depth tokens.old) result tokens.new }
 {
     let found = Box::new(alloc, whole(alloc, scope, tokens, depth)?)?;
     end_statement(alloc, tokens, Stmt::Expression(found))
@@ -404,73 +404,73 @@ fn alternative(
 
 /// Reads an `if` behind its word.
 #[cycle(stmt)]
-#[tactic(auto, unfolding(c_grammar::specs::ParseStatements::if_else))]
-fn if_else(
+#[tactic(auto, unfolding(c_grammar::specs::ParseStatements::if_behind))]
+fn if_behind(
     alloc: Global,
     scope: &TypedefScope,
     tokens: &mut Tokens<'_>,
     depth: usize,
     inner: usize,
 ) -> Result<Box<Stmt>, ParseStop>
-    ensures { Answers (model.if_else scope.now depth (model.stmt scope.now inner) tokens.old) result tokens.new }
+    ensures { Answers (model.if_behind scope.now depth (model.stmt scope.now inner) tokens.old) result tokens.new }
 {
-    let condition = condition(alloc, scope, tokens, depth)?;
+    let condition = controlling_expression(alloc, scope, tokens, depth)?;
     let then = stmt(alloc, scope, tokens, inner)?;
     alternative(alloc, scope, tokens, depth, inner, condition, then)
 }
 
 /// Reads a `while` behind its word.
 #[cycle(stmt)]
-#[tactic(auto, unfolding(crate::proofs::Opens::while_loop))]
-fn while_loop(
+#[tactic(auto, unfolding(c_grammar::specs::ParseStatements::while_behind))]
+fn while_behind(
     alloc: Global,
     scope: &TypedefScope,
     tokens: &mut Tokens<'_>,
     depth: usize,
     inner: usize,
 ) -> Result<Box<Stmt>, ParseStop>
-    ensures { Answers (model.while scope.now depth (model.stmt scope.now inner) tokens.old) result tokens.new }
+    ensures { Answers (model.while_behind scope.now depth (model.stmt scope.now inner) tokens.old) result tokens.new }
 {
-    let condition = condition(alloc, scope, tokens, depth)?;
+    let condition = controlling_expression(alloc, scope, tokens, depth)?;
     let body = stmt(alloc, scope, tokens, inner)?;
     Ok(Box::new(alloc, Stmt::While { condition, body })?)
 }
 
 /// Reads a `do` behind its word.
 #[cycle(stmt)]
-#[tactic(auto, unfolding(c_grammar::specs::ParseStatements::do_while))]
-fn do_loop(
+#[tactic(auto, unfolding(c_grammar::specs::ParseStatements::do_behind))]
+fn do_behind(
     alloc: Global,
     scope: &TypedefScope,
     tokens: &mut Tokens<'_>,
     depth: usize,
     inner: usize,
 ) -> Result<Box<Stmt>, ParseStop>
-    ensures { Answers (model.do_while scope.now depth (model.stmt scope.now inner) tokens.old) result tokens.new }
+    ensures { Answers (model.do_behind scope.now depth (model.stmt scope.now inner) tokens.old) result tokens.new }
 {
     let body = stmt(alloc, scope, tokens, inner)?;
     tokens.expect_word(Keyword::While)?;
-    let condition = condition(alloc, scope, tokens, depth)?;
+    let condition = controlling_expression(alloc, scope, tokens, depth)?;
     end_statement(alloc, tokens, Stmt::Do { body, condition })
 }
 
 /// Reads a `for` behind its word.
 #[cycle(stmt)]
-#[tactic(auto, unfolding(crate::proofs::Opens::for_loop))]
-fn for_loop(
+#[tactic(auto, unfolding(c_grammar::specs::ParseStatements::for_behind))]
+fn for_behind(
     alloc: Global,
     scope: &TypedefScope,
     tokens: &mut Tokens<'_>,
     depth: usize,
     inner: usize,
 ) -> Result<Box<Stmt>, ParseStop>
-    ensures { Answers (model.for scope.now depth (model.stmt scope.now inner) tokens.old) result tokens.new }
+    ensures { Answers (model.for_behind scope.now depth (model.stmt scope.now inner) tokens.old) result tokens.new }
 {
     tokens.expect(Punct::LeftParen)?;
-    let first = for_first(alloc, scope, tokens, depth)?;
-    let condition = optional(alloc, scope, tokens, depth, Punct::Semicolon)?;
+    let first = first_clause(alloc, scope, tokens, depth)?;
+    let condition = optional_expression(alloc, scope, tokens, depth, Punct::Semicolon)?;
     tokens.expect(Punct::Semicolon)?;
-    let step = optional(alloc, scope, tokens, depth, Punct::RightParen)?;
+    let step = optional_expression(alloc, scope, tokens, depth, Punct::RightParen)?;
     tokens.expect(Punct::RightParen)?;
     let body = stmt(alloc, scope, tokens, inner)?;
     let found = Stmt::For {
@@ -484,17 +484,17 @@ fn for_loop(
 
 /// Reads a `switch` behind its word.
 #[cycle(stmt)]
-#[tactic(auto, unfolding(c_grammar::specs::ParseStatements::switch))]
-fn switch(
+#[tactic(auto, unfolding(c_grammar::specs::ParseStatements::switch_behind))]
+fn switch_behind(
     alloc: Global,
     scope: &TypedefScope,
     tokens: &mut Tokens<'_>,
     depth: usize,
     inner: usize,
 ) -> Result<Box<Stmt>, ParseStop>
-    ensures { Answers (model.switch scope.now depth (model.stmt scope.now inner) tokens.old) result tokens.new }
+    ensures { Answers (model.switch_behind scope.now depth (model.stmt scope.now inner) tokens.old) result tokens.new }
 {
-    let operand = condition(alloc, scope, tokens, depth)?;
+    let operand = controlling_expression(alloc, scope, tokens, depth)?;
     tokens.expect(Punct::LeftBrace)?;
     let sections = sections(alloc, scope, tokens, depth, inner)?;
     Ok(Box::new(alloc, Stmt::Switch { operand, sections })?)
@@ -530,11 +530,11 @@ pub fn stmt(
     match head {
         Head::Block => block(alloc, scope, tokens, depth, inner),
         Head::Empty => Ok(Box::new(alloc, Stmt::Empty)?),
-        Head::If => if_else(alloc, scope, tokens, depth, inner),
-        Head::While => while_loop(alloc, scope, tokens, depth, inner),
-        Head::Do => do_loop(alloc, scope, tokens, depth, inner),
-        Head::For => for_loop(alloc, scope, tokens, depth, inner),
-        Head::Switch => switch(alloc, scope, tokens, depth, inner),
+        Head::If => if_behind(alloc, scope, tokens, depth, inner),
+        Head::While => while_behind(alloc, scope, tokens, depth, inner),
+        Head::Do => do_behind(alloc, scope, tokens, depth, inner),
+        Head::For => for_behind(alloc, scope, tokens, depth, inner),
+        Head::Switch => switch_behind(alloc, scope, tokens, depth, inner),
         Head::Break => end_statement(alloc, tokens, Stmt::Break { at }),
         Head::Continue => end_statement(alloc, tokens, Stmt::Continue { at }),
         Head::Return => return_behind(alloc, scope, tokens, depth, at),

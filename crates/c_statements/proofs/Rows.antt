@@ -22,7 +22,7 @@ use Rattle.c_statement_rules.specs.Labels.{no_labels}
 use Rattle.c_statement_rules.specs.Locals.{BodyState, locals_beside}
 use Rattle.c_statement_rules.specs.Forms.{if_else, switch, switch_type, section_under, block}
 use Rattle.c_statements.specs.Parts.{condition_of, operand_of, label_of}
-use Rattle.c_statements.specs.Statements.{SwitchState, beside_locals, in_scope, behind_scope, statement, statement_row, section_row}
+use Rattle.c_statements.specs.Statements.{SwitchState, beside_locals, in_scope, behind_scope, statement, statement_row, judge_section_row}
 use Rattle.c_statements.specs.Functions.{parameters_of}
 use Rattle.c_statements.specs.model.Lists.{else_statement, statement_block, section, switch_statement}
 use Rattle.c_statements.specs.model.Opens.{opens}
@@ -40,15 +40,15 @@ module _ (of : Option CType) (j : Jumps) where
   label_in_front : Option IntegerType → Label → SwitchState → Option TLabel × SwitchState
   label_in_front ty label w = beside_locals w (label_of ty label (w.0, w.1.1))
 
-  section_row_is : (ty : Option IntegerType) (m : Count) (xs : b.Row_of-Section m) (found : Option (List TSection)) (w : SwitchState) → section_row of j ty xs found w ≡ walk (section of j ty) (b.items-the_row-Section m xs) found w
+  section_row_is : (ty : Option IntegerType) (m : Count) (xs : b.Row_of-Section m) (found : Option (List TSection)) (w : SwitchState) → judge_section_row of j ty xs found w ≡ walk (section of j ty) (b.items-the_row-Section m xs) found w
   unfolding statement label_in_front
   section_row_is ty m b.end_of-Section found w = refl
   section_row_is ty m (b.more_of-Section label c xs rest) found w =
-      ap (λ q. section_row of j ty rest (append_part found (section_under (label_in_front ty label w).0 q.0)) ((label_in_front ty label w).1.0, q.1))
+      ap (λ q. judge_section_row of j ty rest (append_part found (section_under (label_in_front ty label w).0 q.0)) ((label_in_front ty label w).1.0, q.1))
       (statement_row_is _ xs (Some []) (label_in_front ty label w).1.1 ∙ ap (λ l. walk (statement of j) l (Some []) (label_in_front ty label w).1.1) (sym (b.items_shown-the_row-Stmt-0 c xs)))
       ∙ section_row_is ty _ rest (append_part found (section of j ty (record { label = label; statements = b.shown-the_row-Stmt-0 c xs }) w).0) (section of j ty (record { label = label; statements = b.shown-the_row-Stmt-0 c xs }) w).1
 
-  pub section_row-hidden : (ty : Option IntegerType) (xs : List Section) (found : Option (List TSection)) (w : SwitchState) → section_row of j ty (b.hidden-the_row-Section-2 xs) found w ≡ walk (section of j ty) xs found w
+  pub section_row-hidden : (ty : Option IntegerType) (xs : List Section) (found : Option (List TSection)) (w : SwitchState) → judge_section_row of j ty (b.hidden-the_row-Section-2 xs) found w ≡ walk (section of j ty) xs found w
   section_row-hidden ty xs found w = section_row_is ty _ (b.hidden-the_row-Section-2 xs) found w ∙ ap (λ l. walk (section of j ty) l found w) (b.items_hidden-the_row-Section-2 xs)
 
 -- ---- statements, as code sees them

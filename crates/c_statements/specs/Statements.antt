@@ -59,7 +59,7 @@ module _ (of : Option CType) where
         (for_loop p q r a, behind_scope w z)))))
     statement j (s.Switch' x _ list) w =
         and_then (locals_beside w.0 (operand_of x w.1)) (λ o u.
-        and_then (section_row (in_switch j) (switch_type o) list (Some []) (no_labels, u)) (λ found v.
+        and_then (judge_section_row (in_switch j) (switch_type o) list (Some []) (no_labels, u)) (λ found v.
         (switch o found, v.1)))
     statement j (s.Break at) w = in_body w (break_statement j at w.1.1)
     statement j (s.Continue at) w = in_body w (continue_statement j at w.1.1)
@@ -81,10 +81,10 @@ module _ (of : Option CType) where
         and_then (statement j x w) (λ r. pure (option_map Some r))
 
     -- each label with the statements under it
-    pub section_row : Jumps → Option IntegerType → {m : _} → b.Row_of-Section m → Option (List TSection) →
+    pub judge_section_row : Jumps → Option IntegerType → {m : _} → b.Row_of-Section m → Option (List TSection) →
         SwitchState → Option (List TSection) × SwitchState
-    section_row j ty b.end_of-Section found w = (found, w)
-    section_row j ty (b.more_of-Section label _ list rest) found w =
+    judge_section_row j ty b.end_of-Section found w = (found, w)
+    judge_section_row j ty (b.more_of-Section label _ list rest) found w =
         and_then (and_then (beside_locals w (label_of ty label (w.0, w.1.1))) (λ l u.
         and_then (beside_labels u.0 (statement_row j list (Some []) u.1)) (λ xs. pure (section_under l xs)))) (λ r.
-        section_row j ty rest (append_part found r))
+        judge_section_row j ty rest (append_part found r))

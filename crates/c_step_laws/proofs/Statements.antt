@@ -19,7 +19,7 @@ use Rattle.c_statement_rules.specs.Forms.{switch_type, section_under}
 use Rattle.c_statement_rules.specs.Labels.{no_labels}
 use Rattle.c_statement_rules.specs.Locals.{BodyState}
 use Rattle.c_statements.specs.Parts.{condition_of, operand_of, optional_condition, optional_value, first_of, label_of}
-use Rattle.c_statements.specs.Statements.{SwitchState, in_scope, statement, statement_row, else_held, section_row}
+use Rattle.c_statements.specs.Statements.{SwitchState, in_scope, statement, statement_row, else_held, judge_section_row}
 use Rattle.c_statements.specs.declared.functions.FunctionType.{FunctionType}
 use Rattle.c_statements.specs.Functions.{parameters_of, declared_parameters, result_of, judge_function}
 use Rattle.c_note_laws.specs.Steps.{NoteSteps}
@@ -84,7 +84,7 @@ module _ (of : Option CType) where
     else_steps j (b.Some' _ (b.more_of-Stmt x b.end_of-Stmt)) w = statement_steps j x w
 
     pub sections_steps : (j : Jumps) (ty : Option IntegerType) {m : _} (xs : b.Row_of-Section m) (found : Option (List TSection)) (w : SwitchState)
-        → NoteSteps w.1.1.1 (section_row of j ty xs found w).1.1.1.1
+        → NoteSteps w.1.1.1 (judge_section_row of j ty xs found w).1.1.1.1
     sections_steps j ty b.end_of-Section found w = NoteSteps.Stays
     sections_steps j ty (b.more_of-Section label _ list rest) found w =
         let l = label_of ty label (w.0, w.1.1) in

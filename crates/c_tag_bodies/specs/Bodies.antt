@@ -9,7 +9,7 @@ use Rattle.c_judgements.specs.Leaves.{leaf}
 use Rattle.c_judgements.specs.Types.{JudgementState, in_env}
 use Rattle.c_expressions.specs.Expressions.{derive}
 use Rattle.c_tag_bodies.specs.declared.members.Members.{Members}
-use Rattle.c_tag_bodies.specs.Enums.{then_rest, constant_row}
+use Rattle.c_tag_bodies.specs.Enums.{then_rest, judge_constant_row}
 use Rattle.c_tag_bodies.specs.Members.{no_members, member_declared}
 use Rattle.c_tag_bodies.specs.Structs.{DefinedTags, with_body, enum_begun, struct_begun, struct_ended}
 
@@ -44,26 +44,27 @@ unfoldable mutual
   pub bodies : t.TypeNode → TagScope → TagScope
   bodies (t.Basic words) s = s
   bodies (t.Named name) s = s
-  bodies (t.Enum' at tag constants) s = constants_held at tag constants s
-  bodies (t.Struct' at tag members) s = members_held at tag members s
+  bodies (t.Enum' at tag constants) s = judge_constants_held at tag constants s
+  bodies (t.Struct' at tag members) s = judge_members_held at tag members s
   bodies (t.Pointer' _ (k.more_of-TypeNode x k.end_of-TypeNode)) s = bodies x s
   bodies (t.Array' _ (k.more_of-TypeNode x k.end_of-TypeNode) length) s = bodies x s
   bodies (t.Takes' _ (k.more_of-TypeNode x k.end_of-TypeNode) _ parameters) s = bodies x s
 
-  pub constants_held : ℕ → (tag : Option (List ℕ)) → k.Held-TypeNode-Enum-2 → TagScope → TagScope
-  constants_held at tag k.TypeNode-Enum-2-None' s = s
-  constants_held at tag (k.TypeNode-Enum-2-Some' _ constants) s =
-      (with_body tag s.0, constant_row constants None (enum_entered at tag s))
+  pub judge_constants_held : ℕ → (tag : Option (List ℕ)) → k.Held-TypeNode-Enum-2 → TagScope → TagScope
+  judge_constants_held at tag k.TypeNode-Enum-2-None' s = s
+  judge_constants_held at tag (k.TypeNode-Enum-2-Some' _ constants) s =
+      (with_body tag s.0, judge_constant_row constants None (enum_entered at tag s))
 
-  pub members_held : ℕ → (tag : Option (List ℕ)) → k.Held-TypeNode-Struct-2 → TagScope → TagScope
-  members_held at tag k.TypeNode-Struct-2-None' s = s
-  members_held at tag (k.TypeNode-Struct-2-Some' _ members) s =
-      then_rest (struct_entered at tag s) (λ number u. struct_left at tag number (member_row members (no_members, u)))
+  pub judge_members_held : ℕ → (tag : Option (List ℕ)) → k.Held-TypeNode-Struct-2 → TagScope → TagScope
+  judge_members_held at tag k.TypeNode-Struct-2-None' s = s
+  judge_members_held at tag (k.TypeNode-Struct-2-Some' _ members) s =
+      then_rest (struct_entered at tag s)
+      (λ number u. struct_left at tag number (judge_member_row members (no_members, u)))
 
-  pub member_row : {m : _} → k.Row_of-Declaration m → Members × TagScope → Members × TagScope
-  member_row k.end_of-Declaration w = w
-  member_row (k.more_of-Declaration at name ty rest) w =
-      member_row rest (member_entered at name w.0 (type_behind at ty (bodies ty w.1)))
+  pub judge_member_row : {m : _} → k.Row_of-Declaration m → Members × TagScope → Members × TagScope
+  judge_member_row k.end_of-Declaration w = w
+  judge_member_row (k.more_of-Declaration at name ty rest) w =
+      judge_member_row rest (member_entered at name w.0 (type_behind at ty (bodies ty w.1)))
 
 -- the type of a declaration at file scope or of a member
 abbrev pub declared_type : ℕ → t.TypeNode → TagScope → Option DeclaredType × TagScope

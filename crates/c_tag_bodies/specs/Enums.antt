@@ -24,10 +24,10 @@ abbrev pub value_behind : ℕ → (before : Option (Option ℕ)) → Check (Opti
 value_behind at None n = (Some 0, n)
 value_behind at (Some before) n = each before (one_above at) n
 
-abbrev pub value_held : ℕ → k.Held-Constant-value → (before : Option (Option ℕ)) → JudgementState →
+abbrev pub judge_value_held : ℕ → k.Held-Constant-value → (before : Option (Option ℕ)) → JudgementState →
     Option ℕ × JudgementState
-value_held at k.Constant-value-None' before s = in_env s.0 (value_behind at before s.1)
-value_held at (k.Constant-value-Some' x) before s =
+judge_value_held at k.Constant-value-None' before s = in_env s.0 (value_behind at before s.1)
+judge_value_held at (k.Constant-value-Some' x) before s =
     and_then (judge x s) (λ a u. in_env u.0 (each a explicit_value u.1))
 
 abbrev pub constant_meaning : Option ℕ → NameMeaning
@@ -45,8 +45,9 @@ abbrev pub then_rest : {A S T : Type 0} → A × S → (A → S → T) → T
 then_rest x rest = rest x.0 x.1
 
 -- the constants of a body in their order
-unfoldable pub constant_row : {m : _} → k.Row_of-Constant m → (before : Option (Option ℕ)) → JudgementState →
+unfoldable pub judge_constant_row : {m : _} → k.Row_of-Constant m → (before : Option (Option ℕ)) → JudgementState →
     JudgementState
-constant_row k.end_of-Constant before s = s
-constant_row (k.more_of-Constant at name value rest) before s =
-    then_rest (value_held at value before s) (λ v u. constant_row rest (Some v) (constant_declared at name v u))
+judge_constant_row k.end_of-Constant before s = s
+judge_constant_row (k.more_of-Constant at name value rest) before s =
+    then_rest (judge_value_held at value before s)
+    (λ v u. judge_constant_row rest (Some v) (constant_declared at name v u))

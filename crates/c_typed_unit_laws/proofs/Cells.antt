@@ -24,7 +24,7 @@ use Rattle.c_globals.specs.declared.objects.UnitObject.{UnitObject}
 use Rattle.c_globals.specs.Globals.{with_cells, replace_cells, set_cells}
 use Rattle.c_initialisers.specs.Initialisers.{object_cells}
 use Rattle.c_declarations.specs.declared.walk.UnitSoFar.{UnitSoFar}
-use Rattle.c_declarations.specs.Walk.{UnitWalk, with_names, object_by, object_number, add_numbered, next_object, add_object, fill_numbered, function_at, add_function}
+use Rattle.c_declarations.specs.Walk.{UnitWalk, with_names, defined_object, object_number, add_numbered, next_object, add_object, fill_numbered, function_at, add_function}
 use Rattle.c_declarations.specs.Functions.{main_seen}
 use Rattle.c_declarations.specs.Objects.{object_declared}
 use Rattle.c_type_laws.specs.Typed.{may_be_memory}
@@ -131,7 +131,7 @@ added_lawful structs all (Some number) name ty u new h = next (number == length 
 
 -- the object that the name means gets the cells
 filled_lawful : (structs : List StructDef) (all : List DataObject) (ty : CType) (cells : List DataCell) (u : UnitSoFar) (o : Option NameMeaning) → ((k : ℕ) (of : CType) → o ≡ Some (m.Object k of) → ObjectIsOfType (slice_get u.objects k) of) → MeaningAgrees (d.Value ty) o
-    → AreInitialCells all (size_of structs (type_view ty)) cells → AreLawfulIn structs all u.objects → AreLawfulIn structs all (fill_numbered (object_by o) cells u).objects
+    → AreInitialCells all (size_of structs (type_view ty)) cells → AreLawfulIn structs all u.objects → AreLawfulIn structs all (fill_numbered (defined_object o) cells u).objects
 filled_lawful structs all ty cells u None f agrees g h = h
 filled_lawful structs all ty cells u (Some m.Faulty) f agrees g h = h
 filled_lawful structs all ty cells u (Some (m.Undefined number)) f agrees g h = h

@@ -21,7 +21,7 @@ use Rattle.c_unit_names.specs.declared.names.NameDeclaration.{NameDeclaration}
 use Rattle.c_unit_names.specs.declared.names.UnitNames.{UnitNames}
 use Rattle.c_unit_names.specs.UnitNames.{object_name, function_name, first_meaning, with_declared}
 use Rattle.c_declarations.specs.declared.walk.UnitSoFar.{UnitSoFar}
-use Rattle.c_declarations.specs.Walk.{UnitWalk, with_names, set_objects, next_object, object_by, object_number, add_numbered, add_object, fill_numbered, function_at, add_function}
+use Rattle.c_declarations.specs.Walk.{UnitWalk, with_names, set_objects, next_object, defined_object, object_number, add_numbered, add_object, fill_numbered, function_at, add_function}
 use Rattle.c_declarations.specs.Functions.{main_seen, function_declared}
 use Rattle.c_declarations.specs.Objects.{object_declared}
 use Rattle.c_unit_meaning_laws.specs.Externals.{typedef_of}
@@ -114,11 +114,11 @@ function_count ds name has_body of n = choose (is_some (find name ds.functions))
 
 -- one that has the next number
 next_there : (n : ℕ) (name : List ℕ) (ty : CType) (u : UnitSoFar) (o : Option NameMeaning) → o ≡ Some (m.Object n ty) → length u.objects ≡ n
-    → add_numbered (object_by o) name ty u ≡ set_objects (u.objects ++ record { name = name; ty = ty; cells = [] } ∷ []) u
-next_there n name ty u o e count = subst (λ o. add_numbered (object_by o) name ty u ≡ set_objects (u.objects ++ record { name = name; ty = ty; cells = [] } ∷ []) u) (sym e) (ap (λ z. next_object z name ty u) ((Decides-eqb n (length u.objects)).1 (sym count)))
+    → add_numbered (defined_object o) name ty u ≡ set_objects (u.objects ++ record { name = name; ty = ty; cells = [] } ∷ []) u
+next_there n name ty u o e count = subst (λ o. add_numbered (defined_object o) name ty u ≡ set_objects (u.objects ++ record { name = name; ty = ty; cells = [] } ∷ []) u) (sym e) (ap (λ z. next_object z name ty u) ((Decides-eqb n (length u.objects)).1 (sym count)))
 
 -- what a name means that is no new object adds none
-none_next : (name : List ℕ) (ty : CType) (u : UnitSoFar) (env : Env) (o : Option NameMeaning) → ((k : ℕ) (of : CType) → o ≡ Some (m.Object k of) → ObjectIsOfType (slice_get u.objects k) of) → add_numbered (object_by o) name ty u ≡ u
+none_next : (name : List ℕ) (ty : CType) (u : UnitSoFar) (env : Env) (o : Option NameMeaning) → ((k : ℕ) (of : CType) → o ≡ Some (m.Object k of) → ObjectIsOfType (slice_get u.objects k) of) → add_numbered (defined_object o) name ty u ≡ u
 none_next name ty u env None h = refl
 none_next name ty u env (Some m.Faulty) h = refl
 none_next name ty u env (Some (m.Undefined number)) h = refl
@@ -169,7 +169,7 @@ module _ (ds : Definitions) (name : List ℕ) (ty : CType) (has_value : Bool) wh
                 (λ differs e. front_stays u.objects new_object k of (h.objects q k of e));
           })
       choose false =
-          subst (λ v. HasObjects v (later false)) (sym (ap (λ o. add_numbered (object_by o) name ty (after false)) (own_meaning name (m.Undefined u.names.undefined) env)))
+          subst (λ v. HasObjects v (later false)) (sym (ap (λ o. add_numbered (defined_object o) name ty (after false)) (own_meaning name (m.Undefined u.names.undefined) env)))
           (other name (m.Undefined u.names.undefined) env u (after false) (λ k of e. cc) refl refl h)
 
   pub declared_object : (u : UnitSoFar) {names : UnitNames} {env later : Env} → DeclaresName ds name (object_declared ty has_value) u.names env names later → HasObjects u env → HasObjects (add_object later name ty (with_names names u)) later

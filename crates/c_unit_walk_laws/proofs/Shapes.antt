@@ -28,7 +28,7 @@ use Rattle.c_checks.specs.Checks.{each, both_parts, append_part}
 use Rattle.c_checks.specs.Scopes.{enter, leave, with_meaning, meaning_of, stands_here}
 use Rattle.c_judgements.specs.Leaves.{no_type, typedef_type, tag_named, enum_tagged, enum_type, struct_numbered, struct_tagged, struct_at, struct_type, leaf}
 use Rattle.c_judgements.specs.Types.{JudgementState, in_env, required_type, pointer, array, function, no_parameter, within_depth, parameter_type, parameter_meaning, declared_parameter, parameter_declared}
-use Rattle.c_expressions.specs.Expressions.{derive, length_held, parameter_row}
+use Rattle.c_expressions.specs.Expressions.{derive, judge_length_held, judge_parameter_row}
 use Rattle.c_tag_bodies.specs.Enums.{constant_meaning}
 use Rattle.c_tag_bodies.specs.Bodies.{TagScope, bodies, declared_type}
 use Rattle.c_type_laws.proofs.Truth.{also, either_left, either_right}
@@ -142,7 +142,7 @@ more_parameters None o h g = tt
 more_parameters (Some xs) None h g = tt
 more_parameters (Some xs) (Some x) h g = all_append is_parameter_type xs x h g
 
-row_parameters : {m : _} (xs : k.Row_of-Parameter m) (found : Option (List CType)) (s : JudgementState) → AreParameters found → AreParameters (parameter_row xs found s).0
+row_parameters : {m : _} (xs : k.Row_of-Parameter m) (found : Option (List CType)) (s : JudgementState) → AreParameters found → AreParameters (judge_parameter_row xs found s).0
 unfolding derive
 row_parameters k.end_of-Parameter found s h = h
 row_parameters (k.more_of-Parameter at name node rest) found s h =
@@ -211,11 +211,11 @@ derive_shape at (t.Enum' place tag constants) of s h = h
 derive_shape at (t.Struct' place tag members) of s h = h
 derive_shape at (t.Pointer' _ (k.more_of-TypeNode x k.end_of-TypeNode)) of s h = let r = derive at x of s in pointer_shape at r.0 r.1.1
 derive_shape at (t.Array' _ (k.more_of-TypeNode x k.end_of-TypeNode) size) of s h =
-    let count = length_held size s in
+    let count = judge_length_held size s in
     let r = derive at x of count.1 in
     array_shape at count.0 r.0 r.1.1
 derive_shape at (t.Takes' _ (k.more_of-TypeNode x k.end_of-TypeNode) _ list) of s h =
-    let row = parameter_row list (Some []) (enter s.0, s.1) in
+    let row = judge_parameter_row list (Some []) (enter s.0, s.1) in
     let r = derive at x of (leave s.0.outside row.1.0, row.1.1) in
     function_shape at row.0 r.0 r.1.1 (row_parameters list (Some []) (enter s.0, s.1) refl)
 

@@ -20,10 +20,10 @@ use Rattle.c_judgements.specs.Leaves.{leaf, tagged_enum}
 use Rattle.c_judgements.specs.Types.{JudgementState}
 use Rattle.c_expressions.specs.Expressions.{judge}
 use Rattle.c_tag_bodies.specs.declared.members.Members.{Members}
-use Rattle.c_tag_bodies.specs.Enums.{explicit_value, one_above, value_held, constant_meaning, constant_declared, constant_row}
+use Rattle.c_tag_bodies.specs.Enums.{explicit_value, one_above, judge_value_held, constant_meaning, constant_declared, judge_constant_row}
 use Rattle.c_tag_bodies.specs.Members.{no_members, is_member_type, no_member, member_type, with_member, with_faulty_member, member_named}
 use Rattle.c_tag_bodies.specs.Structs.{DefinedTags, enum_begun, number_for_tag, no_body, struct_begun, struct_where, tag_name, with_struct, with_untagged, too_large, finish_struct, struct_ended}
-use Rattle.c_tag_bodies.specs.Bodies.{TagScope, enum_entered, struct_entered, type_behind, member_entered, bodies, constants_held, members_held, member_row, declared_type}
+use Rattle.c_tag_bodies.specs.Bodies.{TagScope, enum_entered, struct_entered, type_behind, member_entered, bodies, judge_constants_held, judge_members_held, judge_member_row, declared_type}
 use Rattle.c_note_laws.specs.Steps.{is_sized, NoteSteps}
 use Rattle.c_note_laws.specs.Laws.{StandsFirst}
 use Rattle.c_note_laws.proofs.Forms.{ruled, each_adds, enum_adds, struct_adds, leaf_adds}
@@ -57,7 +57,7 @@ steps_texts steps = let a = steps_add steps in record { texts = a.texts; first =
 
 -- ---- enumeration constants
 
-value_texts : (at : ℕ) (value : k.Held-Constant-value) (before : Option (Option ℕ)) (s : JudgementState) → AddsTexts s.1 (value_held at value before s).1.1
+value_texts : (at : ℕ) (value : k.Held-Constant-value) (before : Option (Option ℕ)) (s : JudgementState) → AddsTexts s.1 (judge_value_held at value before s).1.1
 value_texts at k.Constant-value-None' None s = steps_texts NoteSteps.Stays
 value_texts at k.Constant-value-None' (Some before) s = steps_texts (each_adds before (one_above at) s.1 (λ word. ruled (next_value at word) s.1))
 value_texts at (k.Constant-value-Some' x) before s =
@@ -74,11 +74,11 @@ constant_texts at name value s = choose (stands_here s.0 (find name s.0.names))
     choose true = steps_texts (NoteSteps.AddsFault at Redeclared)
     choose false = steps_texts NoteSteps.Stays
 
-constants_texts : {m : _} (xs : k.Row_of-Constant m) (before : Option (Option ℕ)) (s : JudgementState) → AddsTexts s.1 (constant_row xs before s).1
-unfolding constant_row
+constants_texts : {m : _} (xs : k.Row_of-Constant m) (before : Option (Option ℕ)) (s : JudgementState) → AddsTexts s.1 (judge_constant_row xs before s).1
+unfolding judge_constant_row
 constants_texts k.end_of-Constant before s = steps_texts NoteSteps.Stays
 constants_texts (k.more_of-Constant at name value rest) before s =
-    let v = value_held at value before s in
+    let v = judge_value_held at value before s in
     let u = constant_declared at name v.0 v.1 in
     texts_then s.1 v.1.1 _ (value_texts at value before s) (texts_then v.1.1 u.1 _ (constant_texts at name v.0 v.1) (constants_texts rest (Some v.0) u))
 
@@ -166,21 +166,21 @@ mutual
   bodies_texts (t.Array' _ (k.more_of-TypeNode x k.end_of-TypeNode) size) s = bodies_texts x s
   bodies_texts (t.Takes' _ (k.more_of-TypeNode x k.end_of-TypeNode) _ parameters) s = bodies_texts x s
 
-  constants_held_texts : (at : ℕ) (tag : Option (List ℕ)) (held : k.Held-TypeNode-Enum-2) (s : TagScope) → AddsTexts s.1.1 (constants_held at tag held s).1.1
+  constants_held_texts : (at : ℕ) (tag : Option (List ℕ)) (held : k.Held-TypeNode-Enum-2) (s : TagScope) → AddsTexts s.1.1 (judge_constants_held at tag held s).1.1
   constants_held_texts at tag k.TypeNode-Enum-2-None' s = steps_texts NoteSteps.Stays
   constants_held_texts at tag (k.TypeNode-Enum-2-Some' _ constants) s =
       let u = enum_entered at tag s in
       texts_then s.1.1 u.1 _ (enum_texts s.0 at tag s.1.1) (constants_texts constants None u)
 
-  members_held_texts : (at : ℕ) (tag : Option (List ℕ)) (held : k.Held-TypeNode-Struct-2) (s : TagScope) → AddsTexts s.1.1 (members_held at tag held s).1.1
+  members_held_texts : (at : ℕ) (tag : Option (List ℕ)) (held : k.Held-TypeNode-Struct-2) (s : TagScope) → AddsTexts s.1.1 (judge_members_held at tag held s).1.1
   members_held_texts at tag k.TypeNode-Struct-2-None' s = steps_texts NoteSteps.Stays
   members_held_texts at tag (k.TypeNode-Struct-2-Some' _ members) s =
       let begun = struct_entered at tag s in
-      let w = member_row members (no_members, begun.1) in
+      let w = judge_member_row members (no_members, begun.1) in
       texts_then s.1.1 begun.1.1.1 _ (begun_texts s.0 at tag s.1.1)
       (texts_then begun.1.1.1 w.1.1.1 _ (members_texts members (no_members, begun.1)) (ended_texts at tag begun.0 w.0 w.1.1.1))
 
-  members_texts : {m : _} (xs : k.Row_of-Declaration m) (w : Members × TagScope) → AddsTexts w.1.1.1 (member_row xs w).1.1.1
+  members_texts : {m : _} (xs : k.Row_of-Declaration m) (w : Members × TagScope) → AddsTexts w.1.1.1 (judge_member_row xs w).1.1.1
   members_texts k.end_of-Declaration w = steps_texts NoteSteps.Stays
   members_texts (k.more_of-Declaration at name ty rest) w =
       let u = bodies ty w.1 in

@@ -20,7 +20,7 @@ use Rattle.c_typed_tree.specs.Typing.{is_same_type, is_void, is_array, is_scalar
 use Rattle.c_typed_tree.specs.TypingStatements.{Jumps, no_jumps, in_loop, in_switch, is_condition, is_optional_value, is_optional_condition, has_initialised_type, is_initialiser, is_declared, is_first, is_returned, are_labels, is_typed_stmt, is_typed_else, are_typed_stmts, are_typed_sections}
 use Rattle.c_typed_tree.specs.Weight.{expr_weight, exprs_weight, exprs_count, optional_weight, init_weight, declared_weight, first_weight, stmt_weight, else_weight, stmts_weight, sections_weight, function_weight}
 use Rattle.c_typed_tree.specs.Lawful.{IsLawfulStruct, IsTypedFn, context_of, is_lawful_local, is_object_type, type_of_local}
-use Rattle.lowering_expressions.specs.Levels.{levels, levels_above, levels_of_each}
+use Rattle.lowering_expressions.specs.Levels.{register_levels, levels_above, levels_of_each}
 use Rattle.lowering_statements.specs.Levels.{optional_levels, locals_levels, first_levels, stmt_levels, else_levels, stmts_levels, sections_levels}
 use Rattle.lowering_functions.specs.Parts.{locals_parts, first_parts, stmt_parts, else_parts, stmts_parts, sections_parts}
 use Rattle.lowering_functions.specs.Scopes.{LocalHasSize}
@@ -36,7 +36,7 @@ use Rattle.lowering.specs.model.Premises.{CanBeLowered}
 -- ---- depths
 
 mutual
-  expr_levels : (x : Expr) → levels x ≤ depths x + 4
+  expr_levels : (x : Expr) → register_levels x ≤ depths x + 4
   expr_levels (Number ty word) = omega arith
   expr_levels (Local ty k) = omega arith
   expr_levels (Global ty k) = omega arith

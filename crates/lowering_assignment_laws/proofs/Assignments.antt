@@ -35,7 +35,7 @@ use Rattle.lowering_states.proofs.Steps.{meets_anything, meets_same, used_meets}
 use Rattle.lowering_states.proofs.States.{set_other, temporary_past, kept_on, kept_local, kept_temporary, kept_reads, is_at, after_on, fits_temporary, fits_local}
 use Rattle.lowering_values.specs.Laws.{IsMoved}
 use Rattle.lowering_expression_places.proofs.Behind.{at_plain}
-use Rattle.lowering_expression_laws.specs.Parts.{Setting, count, EndsSo, Stands, Fit, Aft, Follows, ExprMeets}
+use Rattle.lowering_expression_laws.specs.Parts.{Setting, first_depth, EndsSo, Stands, Fit, Aft, Follows, ExprMeets}
 use Rattle.lowering_expression_laws.specs.Laws.{IsScalarType}
 use Rattle.lowering_expression_laws.proofs.Forms.{insn_on, bound}
 use Rattle.lowering_place_laws.specs.Places.{left_of, PlaceMeets}
@@ -55,7 +55,7 @@ assigned_value ty k v (inr t) = ap (λ z. assignment_value z (obj.Register k) v)
 
 module _ (c : Setting) (found : slice_get c.functions c.number ≡ Some c.code) where
   abbrev L : ℕ
-  L = count c
+  L = first_depth c
 
   pub registers : (ty : PlainType) (k : ℕ) (l : Local) (y : Expr) → slice_get c.locals k ≡ Some l → l.in_memory ≡ false → type_view l.ty ≡ ty → IsScalarType ty → type_of y ≡ ty → ExprMeets c y → ExprMeets c (Assign ty a.Set (e.Local ty k) y)
   unfolding opens

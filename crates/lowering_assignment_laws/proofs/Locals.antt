@@ -34,7 +34,7 @@ use Rattle.lowering_states.proofs.States.{kept_all, kept_temporary, is_in, is_at
 use Rattle.lowering_values.proofs.Integers.{integer_of-plain, word_is}
 use Rattle.lowering_values.proofs.Operators.{unary_is}
 use Rattle.lowering_expression_places.proofs.Behind.{at_plain}
-use Rattle.lowering_expression_laws.specs.Parts.{Setting, count, Stands, ExprMeets}
+use Rattle.lowering_expression_laws.specs.Parts.{Setting, first_depth, Stands, ExprMeets}
 use Rattle.lowering_expression_laws.specs.Laws.{IsScalarType}
 use Rattle.lowering_expression_laws.proofs.Forms.{word_held, insn_on, bound}
 use Rattle.lowering_place_laws.specs.Laws.{HasWholeIntegers}
@@ -69,7 +69,7 @@ read_as ty v s K (inr t) held set = ap (λ z. finish (as_held z v s) K) t.1
 
 module _ (c : Setting) (found : slice_get c.functions c.number ≡ Some c.code) where
   abbrev L : ℕ
-  L = count c
+  L = first_depth c
 
   -- where a local stands that a register holds
   pub register_place : (k : ℕ) (l : Local) (scope : Scope) → slice_get c.locals k ≡ Some l → l.in_memory ≡ false → local_place scope k (slice_get c.locals k) ≡ pure (obj.Register k)

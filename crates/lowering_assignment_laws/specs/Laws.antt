@@ -7,7 +7,7 @@ use Rattle.c_typed_tree.specs.View.{type_view}
 use Rattle.c_typed_tree.specs.Expressions.{Expr, Assign, type_of}
 use Rattle.c_typed_tree.specs.Expressions as e
 use Rattle.lowering_code.specs.Expressions.{register_of}
-use Rattle.lowering_expression_laws.specs.Parts.{Setting, count, ExprMeets}
+use Rattle.lowering_expression_laws.specs.Parts.{Setting, first_depth, ExprMeets}
 use Rattle.lowering_expression_laws.specs.Laws.{IsScalarType}
 use Rattle.lowering_place_laws.specs.Places.{PlaceMeets}
 use Rattle.lowering_place_laws.specs.Laws.{HasWholeIntegers}
@@ -25,7 +25,7 @@ pub record Assignments (c : Setting) : Type 0 where
   pub registers : (ty : PlainType) (k : ℕ) (l : Local) (y : Expr) → slice_get c.locals k ≡ Some l
       → l.in_memory ≡ false → type_view l.ty ≡ ty → IsScalarType ty → type_of y ≡ ty → ExprMeets c y
       → ExprMeets c (Assign ty a.Set (e.Local ty k) y)
-  pub objects : (ty : PlainType) (x y : Expr) → register_of (count c) c.structs c.locals x ≡ None
+  pub objects : (ty : PlainType) (x y : Expr) → register_of (first_depth c) c.structs c.locals x ≡ None
       → IsScalarType ty → type_of y ≡ ty → PlaceMeets c x → ExprMeets c y → ExprMeets c (Assign ty a.Set x y)
 
 abbrev pub AssignmentsMeet : Type 0

@@ -231,14 +231,14 @@ module _ (most : ℕ) (fs : List VmFunction) (c : Context) (structs : All (IsLaw
   decides_spends : (op : VmBranchOp) (d : ℕ) (ty tx ty' : PlainType) (word other : ℕ) (v w : ℕ) (fx fy : List CodeItem → List CodeItem)
       → ((is : List CodeItem) → Spends v is (fx is)) → ((is : List CodeItem) → Spends w is (fy is)) → (rest : List CodeItem) → Has d 1
       → Spends (1 + (v + w)) rest
-      (fx (code.branch_code L op d tx (block_total (code.constant_code L d ty word (Start ∷ rest)))
-      (fy (code.branch_code L op d ty' (block_total (code.constant_code L d ty word (Start ∷ rest)))
+      (fx (code.branch_by_value_code L op d tx (block_total (code.constant_code L d ty word (Start ∷ rest)))
+      (fy (code.branch_by_value_code L op d ty' (block_total (code.constant_code L d ty word (Start ∷ rest)))
       (code.constant_code L d ty other (Jump (block_total rest) ∷ code.constant_code L d ty word (Start ∷ rest)))))))
   decides_spends op d ty tx ty' word other v w fx fy ex ey rest h =
       let fails : List CodeItem = code.constant_code L d ty word (Start ∷ rest) in
       let last : List CodeItem = code.constant_code L d ty other (Jump (block_total rest) ∷ fails) in
-      let second : List CodeItem = code.branch_code L op d ty' (block_total fails) last in
-      let first : List CodeItem = code.branch_code L op d tx (block_total fails) (fy second) in
+      let second : List CodeItem = code.branch_by_value_code L op d ty' (block_total fails) last in
+      let first : List CodeItem = code.branch_by_value_code L op d tx (block_total fails) (fy second) in
       let f : E 680 rest fails = m.joins most fs c.globals os 144 536 rest (Start ∷ rest) fails (m.constant_emits most fs c.globals os L d ty word (Start ∷ rest) h) (m.start most fs c.globals os rest) in
       let g : E 1384 rest last = m.joins most fs c.globals os 144 1240 rest (Jump (block_total rest) ∷ fails) last (m.constant_emits most fs c.globals os L d ty other (Jump (block_total rest) ∷ fails) h)
       (m.joins most fs c.globals os 560 680 rest fails (Jump (block_total rest) ∷ fails) (m.jump most fs c.globals os (block_total rest) fails) f) in
@@ -254,11 +254,11 @@ module _ (most : ℕ) (fs : List VmFunction) (c : Context) (structs : All (IsLaw
   choice_spends : (d : ℕ) (tx : PlainType) (i j q : ℕ) (fx fy fz : List CodeItem → List CodeItem)
       → ((is : List CodeItem) → Spends i is (fx is)) → ((is : List CodeItem) → Spends j is (fy is)) → ((is : List CodeItem) → Spends q is (fz is))
       → (rest : List CodeItem) → Has d 1
-      → Spends (1 + (i + (j + q))) rest (fx (code.branch_code L IfFalse d tx (block_total (fz (Start ∷ rest))) (fy (Jump (block_total rest) ∷ fz (Start ∷ rest)))))
+      → Spends (1 + (i + (j + q))) rest (fx (code.branch_by_value_code L IfFalse d tx (block_total (fz (Start ∷ rest))) (fy (Jump (block_total rest) ∷ fz (Start ∷ rest)))))
   choice_spends d tx i j q fx fy fz ex ey ez rest h =
       let fails : List CodeItem = fz (Start ∷ rest) in
       let over : List CodeItem = Jump (block_total rest) ∷ fails in
-      let first : List CodeItem = code.branch_code L IfFalse d tx (block_total fails) (fy over) in
+      let first : List CodeItem = code.branch_by_value_code L IfFalse d tx (block_total fails) (fy over) in
       let f : E 536 rest (Start ∷ rest) = m.start most fs c.globals os rest in
       let g : E 560 fails over = m.jump most fs c.globals os (block_total rest) fails in
       let x : E 1096 (fy over) first = m.branch_emits most fs c.globals os L IfFalse d tx (block_total fails) (fy over) h in

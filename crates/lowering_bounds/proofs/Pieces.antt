@@ -188,7 +188,7 @@ module _ (most : ℕ) (fs : List VmFunction) (gs : List DataObject) (os : List M
         joins 144 96 rest _ _ (constant_emits (suc d) operand 0 _ (omega (arith, h)))
         (plain 96 _ rest (omega arith) refl (omega (arith, value_there d ty (omega (arith, h)), value_there d operand (omega (arith, h)), value_there (suc d) operand (omega (arith, h)))) refl)
 
-    pub branch_emits : (op : VmBranchOp) (d : ℕ) (ty : PlainType) (name : ℕ) (rest : List CodeItem) → Has locals d 1 → Emits 1096 rest (code.branch_code locals op d ty name rest)
+    pub branch_emits : (op : VmBranchOp) (d : ℕ) (ty : PlainType) (name : ℕ) (rest : List CodeItem) → Has locals d 1 → Emits 1096 rest (code.branch_by_value_code locals op d ty name rest)
     branch_emits op d ty name rest h = branch op _ _ name rest (value_there d ty h)
 
     -- ---- operators

@@ -251,9 +251,9 @@ module _ (most : ℕ) (fs : List VmFunction) (c : Context) (structs : All (IsLaw
   -- ---- statements
 
   if_emits : (j k i : ℕ) (rest : List CodeItem) (y : Expr) (over body : List CodeItem) (name : ℕ) → 2048 * W y + 1096 + j + k ≤ i + 1600 → IsTrue (is_condition c y) → Has 0 (depths y) → E j rest over → E k over body
-      → E i rest (code.value_code L c.structs c.locals y (x.branch_code L IfFalse 0 (type_of y) name body))
+      → E i rest (code.value_code L c.structs c.locals y (x.branch_by_value_code L IfFalse 0 (type_of y) name body))
   if_emits j k i rest y over body name le t h a b =
-      let s = value_spends y (x.branch_code L IfFalse 0 (type_of y) name body) (back (is_scalar (type_of y)) (is_typed c y) t) h in
+      let s = value_spends y (x.branch_by_value_code L IfFalse 0 (type_of y) name body) (back (is_scalar (type_of y)) (is_typed c y) t) h in
       let g = m.branch_emits most fs c.globals os L IfFalse 0 (type_of y) name body (omega (arith, h, own_depth y)) in
       record { fits = λ z. s.fits (g.fits (b.fits (a.fits z))); cost = omega (arith, le, s.cost, g.cost, b.cost, a.cost); wide = λ z o r. s.wide z (omega (arith, le, o)) (g.wide z (omega (arith, le, o, s.some)) (b.wide z (omega (arith, le, o, s.some)) (a.wide z (omega (arith, le, o, s.some)) r))) }
 

@@ -16,7 +16,7 @@ use Rattle.c_typed_tree.specs.Expressions.{Expr, Call, no_exprs, more_exprs, typ
 use Rattle.c_semantics.specs.Reasons.{UsesNoValue}
 use Rattle.c_semantics.specs.Runs.{CallState, Run, and_then, in_world, with_outer, use_value, use_number, pure, turn, trap, exit}
 use Rattle.c_semantics.specs.Objects.{call_result}
-use Rattle.c_semantics.specs.Evaluates.{eval, builtin, byte_or_end, put, get}
+use Rattle.c_semantics.specs.Evaluates.{eval, builtin, byte_or_end, put_character, get}
 use Rattle.suifvm_ir.specs.declared.insn.VmBuiltin.TheVariants as vi
 use Rattle.suifvm_ir.specs.declared.insn.VmCallee.TheVariants as vk
 use Rattle.suifvm_ir.specs.declared.insn.VmInsn.{VmInsn}
@@ -34,7 +34,7 @@ use Rattle.lowering_states.proofs.States.{kept_all, kept_temporary, value_at, af
 use Rattle.lowering_values.proofs.Integers.{integer_of-plain, residue_small, signed_word}
 use Rattle.lowering_values.proofs.Operators.{word_true}
 use Rattle.lowering_expression_places.proofs.Behind.{at_plain}
-use Rattle.lowering_expression_laws.specs.Parts.{Setting, count, Fit, Aft, ExprMeets}
+use Rattle.lowering_expression_laws.specs.Parts.{Setting, first_depth, Fit, Aft, ExprMeets}
 use Rattle.lowering_expression_laws.proofs.Forms.{held_word, word_in, bound}
 
 -- a byte is a word of `int`
@@ -63,7 +63,7 @@ next_word (b ∷ input) all = byte_word b (all 0 0 (omega arith))
 
 module _ (c : Setting) (found : slice_get c.functions c.number ≡ Some c.code) where
   abbrev L : ℕ
-  L = count c
+  L = first_depth c
 
   abbrev T : PlainType
   T = plain_of i.Int
@@ -116,12 +116,12 @@ module _ (c : Setting) (found : slice_get c.functions c.number ≡ Some c.code) 
         (hx.by d (Plain insn ∷ rest) heads p f scope r s m (λ v t. finish (use_value UsesNoValue v t) (λ v t. K2 (v ∷ []) t)) at fit low
         (λ q v g t q1 m1 at1 aft fit1 kept held stands.
         used_meets c.rooms c.functions UsesNoValue v t (λ v t. K2 (v ∷ []) t) _ (λ set.
-        bound c found (use_number v t) (λ k u. and_then (turn u) (λ _. put k)) K1 q q1 t.world m1
-        (number_meets c.rooms c.functions v t (λ k u. finish (and_then (turn u) (λ _. put k)) K1) _ (λ k is.
+        bound c found (use_number v t) (λ k u. and_then (turn u) (λ _. put_character k)) K1 q q1 t.world m1
+        (number_meets c.rooms c.functions v t (λ k u. finish (and_then (turn u) (λ _. put_character k)) K1) _ (λ k is.
         let one = word_in g L d (type_of x) i.Int v k q1 ex is held stands in
         let at_from : q1 from ≡ Word k = ap (λ z. q1 (value_register L d z)) ex ∙ one.stands in
-        bound c found (turn t) (λ _. put k) K1 q q1 t.world m1
-        (turn_meets c.rooms c.functions t (λ _ u. finish (put k u) K1) _
+        bound c found (turn t) (λ _. put_character k) K1 q q1 t.world m1
+        (turn_meets c.rooms c.functions t (λ _ u. finish (put_character k u) K1) _
         (λ mt some.
         let b = k % 256 in
         let t1 : CallState = with_outer (in_world t (with_meter t.world mt)) (put_byte t.world.outer b) in

@@ -36,7 +36,7 @@ use Rattle.lowering_states.proofs.Steps.{meets_same, used_meets, turn_meets, tur
 use Rattle.lowering_states.proofs.States.{kept_all, kept_on, kept_temporary, kept_reads, is_in, is_at, after_same, after_on, fits_temporary, fits_after}
 use Rattle.lowering_values.proofs.Integers.{integer_of-plain, word_is}
 use Rattle.lowering_expression_places.proofs.Behind.{at_plain}
-use Rattle.lowering_expression_laws.specs.Parts.{Setting, count, EndsSo, Stands, Fit, Aft, ExprMeets}
+use Rattle.lowering_expression_laws.specs.Parts.{Setting, first_depth, EndsSo, Stands, Fit, Aft, ExprMeets}
 use Rattle.lowering_expression_laws.specs.Laws.{IsScalarType}
 use Rattle.lowering_expression_laws.proofs.Forms.{word_held, bound}
 use Rattle.lowering_call_laws.specs.Laws.{CallsWithoutResultsMeet, AreArguments, ArgumentsMeet, FunctionMeets, CallsMeet}
@@ -77,13 +77,13 @@ result_is ty v s K (inr t) held = subst (λ z. finish (call_result z v s) K ≡ 
     pointers Unset = refl
 
 -- a scalar goes into its register
-destination_is : (c : Setting) (d : ℕ) (ty : PlainType) → IsScalarType ty → destination_of (count c) c.structs c.locals d ty ≡ Some (value_register (count c) d ty)
-destination_is c d ty (inl t) = subst (λ z. destination_of (count c) c.structs c.locals d z ≡ Some (value_register (count c) d z)) (sym t.1) refl
-destination_is c d ty (inr t) = subst (λ z. destination_of (count c) c.structs c.locals d z ≡ Some (value_register (count c) d z)) (sym t.1) refl
+destination_is : (c : Setting) (d : ℕ) (ty : PlainType) → IsScalarType ty → destination_of (first_depth c) c.structs c.locals d ty ≡ Some (value_register (first_depth c) d ty)
+destination_is c d ty (inl t) = subst (λ z. destination_of (first_depth c) c.structs c.locals d z ≡ Some (value_register (first_depth c) d z)) (sym t.1) refl
+destination_is c d ty (inr t) = subst (λ z. destination_of (first_depth c) c.structs c.locals d z ≡ Some (value_register (first_depth c) d z)) (sym t.1) refl
 
 module _ (c : Setting) (found : slice_get c.functions c.number ≡ Some c.code) where
   abbrev L : ℕ
-  L = count c
+  L = first_depth c
 
   -- ---- arguments
 

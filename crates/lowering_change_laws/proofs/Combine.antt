@@ -41,7 +41,7 @@ use Rattle.lowering_values.specs.Laws.{is_shift_operator}
 use Rattle.lowering_values.proofs.Integers.{kept_is, register-promoted, kept_conversion, made_conversion}
 use Rattle.lowering_values.proofs.Operators.{operators_correspond}
 use Rattle.lowering_expression_places.proofs.Behind.{at_plain}
-use Rattle.lowering_expression_laws.specs.Parts.{Setting, count, EndsSo, Stands, Fit}
+use Rattle.lowering_expression_laws.specs.Parts.{Setting, first_depth, EndsSo, Stands, Fit}
 use Rattle.lowering_expression_laws.specs.Laws.{result_type}
 use Rattle.lowering_expression_laws.proofs.Forms.{WordIn, word_in, insn_on, bound, result_word}
 
@@ -88,7 +88,7 @@ puts (ComparesBack op) ty d l r = refl
 
 module _ (c : Setting) (found : slice_get c.functions c.number ≡ Some c.code) (heads : List ℕ) (g : Names) (scope : Scope) (s : CallState) (m : Memory) where
   abbrev L : ℕ
-  L = count c
+  L = first_depth c
 
   -- an integer at a depth becomes one of another type
   pub convert_leads : {e : CodeObservation} (o : ℕ) (t u : IntegerType) (k : ℕ) (tail : List CodeItem) (q : CodePlace) (r : Registers) → Stands c heads q (convert_code L o (plain_of t) (plain_of u) tail) → Fit c g scope r s m → WordIn L o t k r

@@ -38,7 +38,7 @@ use Rattle.lowering_states.proofs.States.{set_other, other_depth, kept_all, kept
 use Rattle.lowering_values.specs.Laws.{is_shift_operator}
 use Rattle.lowering_values.proofs.Integers.{integer_of-plain}
 use Rattle.lowering_expression_places.proofs.Behind.{at_plain}
-use Rattle.lowering_expression_laws.specs.Parts.{Setting, count, EndsSo, Stands, Fit}
+use Rattle.lowering_expression_laws.specs.Parts.{Setting, first_depth, EndsSo, Stands, Fit}
 use Rattle.lowering_expression_laws.specs.Laws.{result_type}
 use Rattle.lowering_expression_laws.proofs.Forms.{held_word, word_in, value_of_word, insn_on, bound}
 use Rattle.lowering_place_laws.proofs.Places.{moved_held}
@@ -100,7 +100,7 @@ one_word i.UnsignedLong = refl
 
 module _ (c : Setting) where
   abbrev L : ℕ
-  L = count c
+  L = first_depth c
 
   -- what follows a change, where the code behind stands: the new value stands at the depth
   abbrev pub Goes : (heads : List ℕ) → Names → Scope → CallState → Memory → (low o : ℕ) → PlainType → (r : Registers) → List CodeItem → (Value → CallState → CodeObservation) → Type 0
@@ -131,10 +131,10 @@ module _ (c : Setting) (found : slice_get c.functions c.number ≡ Some c.code) 
       ap (λ z. combined_in op (operation_type op z (obj.integer_or_word (plain_of right))) z (obj.integer_or_word (plain_of right)) v w) (integer_of-plain left)
       ∙ ap (λ z. combined_in op (operation_type op left z) left z v w) (integer_of-plain right)
 
-  combine_is : (op : BinaryOp) (left right : IntegerType) (o d free : ℕ) (rest : List CodeItem) → combine_code (count c) c.structs op o d free (plain_of left) (plain_of right) rest ≡ combine_in (count c) op (operation_type op left right) o d (plain_of left) (plain_of right) rest
+  combine_is : (op : BinaryOp) (left right : IntegerType) (o d free : ℕ) (rest : List CodeItem) → combine_code (first_depth c) c.structs op o d free (plain_of left) (plain_of right) rest ≡ combine_in (first_depth c) op (operation_type op left right) o d (plain_of left) (plain_of right) rest
   combine_is op left right o d free rest =
-      ap (λ z. combine_in (count c) op (operation_type op z (obj.integer_or_word (plain_of right))) o d (plain_of left) (plain_of right) rest) (integer_of-plain left)
-      ∙ ap (λ z. combine_in (count c) op (operation_type op left z) o d (plain_of left) (plain_of right) rest) (integer_of-plain right)
+      ap (λ z. combine_in (first_depth c) op (operation_type op z (obj.integer_or_word (plain_of right))) o d (plain_of left) (plain_of right) rest) (integer_of-plain left)
+      ∙ ap (λ z. combine_in (first_depth c) op (operation_type op left z) o d (plain_of left) (plain_of right) rest) (integer_of-plain right)
 
   pub integers_combine : (op : BinaryOp) (left right : IntegerType) → promote (operation_type op left right) ≡ operation_type op left right → result_type op (operation_type op left right) ≡ operation_type op left right → CombinesLead c op (plain_of left) (plain_of right)
   unfolding opens
@@ -148,16 +148,16 @@ module _ (c : Setting) (found : slice_get c.functions c.number ≡ Some c.code) 
   -- ---- `++` and `--`, by the type of the 1
 
   steps_by : (sop : StepOp) (ty : PlainType) (t : IntegerType) → is_word t 1 ≡ true → CombinesLead c (step_operator sop) ty (plain_of t) → (o : ℕ) (heads : List ℕ) (g : Names) (scope : Scope) (u : CallState) (m : Memory) (q1 : Registers)
-      → Leads c heads g scope u m (λ old. combine c.structs (step_operator sop) ty (plain_of t) old (Word 1)) (λ rest. constant_code (count c) (suc o) (plain_of t) 1 (combine_code (count c) c.structs (step_operator sop) o (suc o) (suc (suc o)) ty (plain_of t) rest)) o o ty q1
+      → Leads c heads g scope u m (λ old. combine c.structs (step_operator sop) ty (plain_of t) old (Word 1)) (λ rest. constant_code (first_depth c) (suc o) (plain_of t) 1 (combine_code (first_depth c) c.structs (step_operator sop) o (suc o) (suc (suc o)) ty (plain_of t) rest)) o o ty q1
   unfolding opens
   steps_by sop ty t one lead o heads g scope u m q1 rest K q r old at fit kept held stands next =
-      let above : ℕ = value_register (count c) (suc o) (plain_of t) in
+      let above : ℕ = value_register (first_depth c) (suc o) (plain_of t) in
       let r1 : Registers = set_register above (Word 1) r in
       insn_on c found (n.LoadConstant (register_type (plain_of t)) above 1) q r u.world m (Word 1 ∷ []) at.has.0 refl
       (ap (λ x. writes (if x then Gives (Word 1) else Fails) (outer_with_memory u.world.outer m)) (value_of_word t 1 one))
       (lead o (suc o) (suc (suc o)) o (λ same. absurd (omega (arith, same))) (omega arith) (omega arith) (omega arith) heads g scope u m (Word 1) r1 (held_word t 1 one) (is_at g (plain_of t) (Word 1) (Word 1) r above refl) rest K (next_place q) r1 old
       (at_plain c.code.blocks c.last c.end _ at) (fits_temporary (suc o) (register_type (plain_of t)) (Word 1) fit) kept_but held
-      (subst (λ z. IsInRegister g ty old z) (sym (set_other r above (value_register (count c) o ty) (Word 1) (λ same. other_depth (count c) o (suc o) (register_type ty) (register_type (plain_of t)) (omega arith) same))) stands)
+      (subst (λ z. IsInRegister g ty old z) (sym (set_other r above (value_register (first_depth c) o ty) (Word 1) (λ same. other_depth (first_depth c) o (suc o) (register_type ty) (register_type (plain_of t)) (omega arith) same))) stands)
       (λ q3 z r3 at3 fit3 kept3 held3 in3.
       next q3 z r3 at3 fit3 (kept_on (omega arith) (kept_temporary (suc o) (register_type (plain_of t)) (Word 1) (omega arith) kept_all) kept3) held3 in3))
 
@@ -172,7 +172,7 @@ module _ (c : Setting) (found : slice_get c.functions c.number ≡ Some c.code) 
   pub integers_step : (sop : StepOp) (left : IntegerType) → StepsLead c sop (plain_of left)
   integers_step sop left o heads g scope u m q1 =
       subst (λ z. Leads c heads g scope u m (λ old. combine c.structs (step_operator sop) (plain_of left) (plain_of (promote z)) old (Word 1))
-      (λ rest. constant_code (count c) (suc o) (plain_of (promote z)) 1 (combine_code (count c) c.structs (step_operator sop) o (suc o) (suc (suc o)) (plain_of left) (plain_of (promote z)) rest)) o o (plain_of left) q1) (sym (integer_of-plain left))
+      (λ rest. constant_code (first_depth c) (suc o) (plain_of (promote z)) 1 (combine_code (first_depth c) c.structs (step_operator sop) o (suc o) (suc (suc o)) (plain_of left) (plain_of (promote z)) rest)) o o (plain_of left) q1) (sym (integer_of-plain left))
       (steps_by sop (plain_of left) (promote left) (one_word left) (integers_combine (step_operator sop) left (promote left) (step_promoted sop left) (step_gives sop left)) o heads g scope u m q1)
 
   -- ---- pointers
@@ -191,7 +191,7 @@ module _ (c : Setting) (found : slice_get c.functions c.number ≡ Some c.code) 
         known_meets c.rooms c.functions (move_reason u.world.outer.memory old) (element_plus u.world.outer.memory old (value t k *ℤ pos size)) u K _ (λ result e.
         let moved = moved_by u.world.outer.memory old (value t k *ℤ pos size) result e in
         moved_leads c found rest heads g scope u m o d free low above below_o below_d t k size old result q r le moved at fit stands
-        (word_in g (count c) d (plain_of t) t w k r refl is hw (subst (λ z. IsInRegister g (plain_of t) w z) (sym (other_kept d (register_type (plain_of t)) apart kept)) iw))
+        (word_in g (first_depth c) d (plain_of t) t w k r refl is hw (subst (λ z. IsInRegister g (plain_of t) w z) (sym (other_kept d (register_type (plain_of t)) apart kept)) iw))
         (λ q4 r4 at4 fit4 kept4 rel4.
         next q4 result r4 at4 fit4 kept4 (moved_held u.world.outer.memory old result (value t k *ℤ pos size) target moved.moved) rel4)))))
 
@@ -205,7 +205,7 @@ module _ (c : Setting) (found : slice_get c.functions c.number ≡ Some c.code) 
         known_meets c.rooms c.functions (move_reason u.world.outer.memory old) (element_plus u.world.outer.memory old (neg_ℤ (value t k) *ℤ pos size)) u K _ (λ result e.
         let moved = moved_by u.world.outer.memory old (neg_ℤ (value t k) *ℤ pos size) result e in
         moved_back c found rest heads g scope u m o d free low above below_o below_d t k size old result q r le moved at fit stands
-        (word_in g (count c) d (plain_of t) t w k r refl is hw (subst (λ z. IsInRegister g (plain_of t) w z) (sym (other_kept d (register_type (plain_of t)) apart kept)) iw))
+        (word_in g (first_depth c) d (plain_of t) t w k r refl is hw (subst (λ z. IsInRegister g (plain_of t) w z) (sym (other_kept d (register_type (plain_of t)) apart kept)) iw))
         (λ q4 r4 at4 fit4 kept4 rel4.
         next q4 result r4 at4 fit4 kept4 (moved_held u.world.outer.memory old result (neg_ℤ (value t k) *ℤ pos size) target moved.moved) rel4)))))
 

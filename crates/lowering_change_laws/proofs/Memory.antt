@@ -36,7 +36,7 @@ use Rattle.lowering_states.proofs.Steps.{meets_same}
 use Rattle.lowering_states.proofs.States.{set_same, set_other, other_depth, kept_all, kept_on, kept_temporary, kept_reads, is_in, is_at, after_on, fits_temporary}
 use Rattle.lowering_values.specs.Laws.{IsMoved}
 use Rattle.lowering_expression_places.proofs.Behind.{at_plain}
-use Rattle.lowering_expression_laws.specs.Parts.{Setting, count, EndsSo, Stands, Fit, Aft, Follows, ExprMeets}
+use Rattle.lowering_expression_laws.specs.Parts.{Setting, first_depth, EndsSo, Stands, Fit, Aft, Follows, ExprMeets}
 use Rattle.lowering_expression_laws.specs.Laws.{IsScalarType}
 use Rattle.lowering_expression_laws.proofs.Forms.{held_word, insn_on, bound}
 use Rattle.lowering_place_laws.specs.Places.{left_of, PlaceMeets}
@@ -49,7 +49,7 @@ use Rattle.lowering_change_laws.proofs.Leads.{Leads, CombinesLead, StepsLead}
 
 module _ (c : Setting) (found : slice_get c.functions c.number ≡ Some c.code) (ty : PlainType) (scalar : IsScalarType ty) where
   abbrev L : ℕ
-  L = count c
+  L = first_depth c
 
   -- a scalar is loaded to a register from where a pointer in another register leads
   scalars_lead : (to pointer left : ℕ) (rest : List CodeItem) (heads : List ℕ) (g : Names) (scope : Scope) (t : CallState) (m1 : Memory) (K : Value → CallState → CodeObservation) (q : CodePlace) (q1 : Registers) (base at : Value) → Fit c g scope q1 t m1

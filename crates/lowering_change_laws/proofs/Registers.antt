@@ -37,7 +37,7 @@ use Rattle.lowering_states.specs.States.{IsHeld, IsInRegister, KeepsLower, type_
 use Rattle.lowering_states.proofs.Steps.{meets_same, used_meets}
 use Rattle.lowering_states.proofs.States.{set_same, set_other, temporary_past, kept_all, kept_on, kept_local, kept_temporary, kept_reads, is_in, is_at, after_same, fits_temporary, fits_local}
 use Rattle.lowering_expression_places.proofs.Behind.{at_plain}
-use Rattle.lowering_expression_laws.specs.Parts.{Setting, count, EndsSo, Stands, Fit, Aft, Follows, ExprMeets}
+use Rattle.lowering_expression_laws.specs.Parts.{Setting, first_depth, EndsSo, Stands, Fit, Aft, Follows, ExprMeets}
 use Rattle.lowering_expression_laws.specs.Laws.{IsScalarType}
 use Rattle.lowering_expression_laws.proofs.Forms.{insn_on, bound}
 use Rattle.lowering_assignment_laws.proofs.Locals.{moves, read_as, register_place, register_is}
@@ -51,7 +51,7 @@ put_in k z u = with_registers u (with_local_value u.registers k z)
 
 module _ (c : Setting) (found : slice_get c.functions c.number ≡ Some c.code) (ty : PlainType) (scalar : IsScalarType ty) (k : ℕ) (l : Local) (el : slice_get c.locals k ≡ Some l) (em : l.in_memory ≡ false) (et : type_view l.ty ≡ ty) where
   abbrev L : ℕ
-  L = count c
+  L = first_depth c
 
   -- the local is read into the register of a depth, and what it becomes is still to be found
   read_on : (d : ℕ) (rest : List CodeItem) (heads : List ℕ) (g : Names) (scope : Scope) (q1 : Registers) (u : CallState) (m1 : Memory) (K : Value → CallState → CodeObservation) (q : CodePlace) (change : Value → Run Value) (pick : Value → Value → Value)

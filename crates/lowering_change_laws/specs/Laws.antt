@@ -17,7 +17,7 @@ use Rattle.c_typed_tree.specs.Expressions.{Expr, Assign, Unary, Postfix, type_of
 use Rattle.c_typed_tree.specs.Expressions as e
 use Rattle.c_semantics.specs.Operators.{operator_of, operation_type}
 use Rattle.lowering_code.specs.Expressions.{plain_of, register_of}
-use Rattle.lowering_expression_laws.specs.Parts.{Setting, count, ExprMeets}
+use Rattle.lowering_expression_laws.specs.Parts.{Setting, first_depth, ExprMeets}
 use Rattle.lowering_place_laws.specs.Places.{PlaceMeets}
 
 -- a register holds a local of a type
@@ -62,4 +62,4 @@ RegistersAreChanged =
 abbrev pub MemoryIsChanged : Type 0
 MemoryIsChanged =
     (c : Setting) → slice_get c.functions c.number ≡ Some c.code → (ty : PlainType) (x : Expr)
-    → register_of (count c) c.structs c.locals x ≡ None → PlaceMeets c x → ChangesMeet c x ty
+    → register_of (first_depth c) c.structs c.locals x ≡ None → PlaceMeets c x → ChangesMeet c x ty

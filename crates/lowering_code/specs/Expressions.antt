@@ -244,8 +244,8 @@ module _ (locals : ℕ) where
       ∷ rest)
 
   -- a branch by the value at the depth
-  abbrev pub branch_code : VmBranchOp → (depth : ℕ) → PlainType → (name : ℕ) → List CodeItem → List CodeItem
-  branch_code op d ty name rest = Branch op (register_type ty) (value_register locals d ty) name ∷ rest
+  abbrev pub branch_by_value_code : VmBranchOp → (depth : ℕ) → PlainType → (name : ℕ) → List CodeItem → List CodeItem
+  branch_by_value_code op d ty name rest = Branch op (register_type ty) (value_register locals d ty) name ∷ rest
 
   -- ---- operators
 
@@ -484,13 +484,13 @@ module _ (locals : ℕ) where
         expr_code d (Unary ty u.Invert x) rest = expr_code d x (unary_code Complement d ty rest)
         expr_code d (Binary ty b.LogicalAnd x y) rest =
             let fails = constant_code d ty 0 (Start ∷ rest) in
-            expr_code d x (branch_code IfFalse d (type_of x) (block_total fails)
-            (expr_code d y (branch_code IfFalse d (type_of y) (block_total fails)
+            expr_code d x (branch_by_value_code IfFalse d (type_of x) (block_total fails)
+            (expr_code d y (branch_by_value_code IfFalse d (type_of y) (block_total fails)
             (constant_code d ty 1 (Jump (block_total rest) ∷ fails)))))
         expr_code d (Binary ty b.LogicalOr x y) rest =
             let holds = constant_code d ty 1 (Start ∷ rest) in
-            expr_code d x (branch_code IfTrue d (type_of x) (block_total holds)
-            (expr_code d y (branch_code IfTrue d (type_of y) (block_total holds)
+            expr_code d x (branch_by_value_code IfTrue d (type_of x) (block_total holds)
+            (expr_code d y (branch_by_value_code IfTrue d (type_of y) (block_total holds)
             (constant_code d ty 0 (Jump (block_total rest) ∷ holds)))))
         expr_code d (Binary ty op x y) rest =
             expr_code d x (expr_code (suc d) y (binary_code op d ty (type_of x) (type_of y) rest))
@@ -499,7 +499,7 @@ module _ (locals : ℕ) where
             (λ k is. expr_code k y is) rest
         expr_code d (Conditional ty x y z) rest =
             let fails = expr_code d z (Start ∷ rest) in
-            expr_code d x (branch_code IfFalse d (type_of x) (block_total fails)
+            expr_code d x (branch_by_value_code IfFalse d (type_of x) (block_total fails)
             (expr_code d y (Jump (block_total rest) ∷ fails)))
         expr_code d (Cast ty x) rest =
             conversion_code d (type_of x) ty (plus_of x 0) (λ is. place_code d x 0 is) (λ is. expr_code d x is) rest

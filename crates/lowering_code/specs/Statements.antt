@@ -21,7 +21,7 @@ use Rattle.lowering_code.specs.declared.item.CodeItem.{CodeItem}
 use Rattle.lowering_code.specs.declared.item.CodeItem.TheVariants.{Start, Plain, Jump, Loop, Enter, Again, Repeat, Return}
 use Rattle.lowering_code.specs.Registers.{register_type, temporary, value_register, address_register, object_index}
 use Rattle.lowering_code.specs.Items.{block_total}
-use Rattle.lowering_code.specs.Expressions.{constant_code, move_code, store_code, branch_code, address_code, copy_code, expr_code}
+use Rattle.lowering_code.specs.Expressions.{constant_code, move_code, store_code, branch_by_value_code, address_code, copy_code, expr_code}
 
 -- a label of a `switch` with the name of its block
 pub record Target : Type 0 where
@@ -96,7 +96,7 @@ module _ (locals : ℕ) (ds : List StructDef) (ls : List Local) where
       constant_code locals 1 ty word
       (Plain (n.Compare Equal (register_type ty) (temporary locals 1 S32) (value_register locals 0 ty)
       (value_register locals 1 ty))
-      ∷ branch_code locals IfTrue 1 (Int 4 true) name rest)
+      ∷ branch_by_value_code locals IfTrue 1 (Int 4 true) name rest)
 
   abbrev pub labels_code : PlainType → List Target → List CodeItem → List CodeItem
   labels_code ty [] rest = rest
@@ -118,10 +118,11 @@ module _ (locals : ℕ) (ds : List StructDef) (ls : List Local) where
     pub stmt_code : (break_to continue_to : ℕ) → Stmt → List CodeItem → List CodeItem
     stmt_code brk con (q.Block ss) rest = stmts_code brk con ss rest
     stmt_code brk con (q.If x s no_else) rest =
-        value_code x (branch_code locals IfFalse 0 (type_of x) (block_total rest) (stmt_code brk con s (Start ∷ rest)))
+        value_code x (branch_by_value_code locals IfFalse 0 (type_of x) (block_total rest)
+        (stmt_code brk con s (Start ∷ rest)))
     stmt_code brk con (q.If x s (else_stmt t)) rest =
         let fails = stmt_code brk con t (Start ∷ rest) in
-        value_code x (branch_code locals IfFalse 0 (type_of x) (block_total fails)
+        value_code x (branch_by_value_code locals IfFalse 0 (type_of x) (block_total fails)
         (stmt_code brk con s (Jump (block_total rest) ∷ fails)))
     stmt_code brk con (q.While x s) rest =
         let test = again_code x rest in

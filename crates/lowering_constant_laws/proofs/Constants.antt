@@ -27,7 +27,7 @@ use Rattle.c_semantics.specs.Runs.{CallState, Run, and_then, use_value, ◌>>=�
 use Rattle.c_semantics.specs.Objects as objects
 use Rattle.c_semantics.specs.Objects.{Scope, ValuePlace}
 use Rattle.c_semantics.specs.Operators.{outcome, integers, apply_binary, apply_unary, test, pure_truth, convert}
-use Rattle.c_semantics.specs.Evaluates.{Functions, choose, converted_from, eval, place, last_of}
+use Rattle.c_semantics.specs.Evaluates.{Functions, choose, converted_from, eval, place, value_of_last}
 use Rattle.lowering_states.specs.Runs.{opens}
 use Rattle.lowering_bounds.proofs.Typing.{one, two, three, same}
 use Rattle.c_layout_laws.proofs.Truth.{front, back}
@@ -310,11 +310,11 @@ module _ (k : Context) (ls : List l.Local) (functions : Functions) (scope : Scop
         given_last xs (eval k.structs ls functions scope x) (constant x) n (λ m f t. given x m (front (is_typed k x) (are_typed k xs) all) f t) (back (is_typed k x) (are_typed k xs) all) e s
 
     given_last : (xs : Exprs) (run : Run Value) (first : Option ℕ) (n : ℕ) → ((m : ℕ) → first ≡ Some m → (s : CallState) → GivesWord run m s) → IsTrue (are_typed k xs) → last_value first xs ≡ Some n
-        → (s : CallState) → GivesWord (last_of k.structs ls functions scope run xs) n s
+        → (s : CallState) → GivesWord (value_of_last k.structs ls functions scope run xs) n s
     given_last no_exprs run first n g h e s = g n e s
     given_last (more_exprs x xs) run first n g h e s =
         let f = then_found (λ _. last_value (constant x) xs) first n e in
-        ap (λ z. and_then z (λ _. last_of k.structs ls functions scope (eval k.structs ls functions scope x) xs)) (g f.value f.is_there s)
+        ap (λ z. and_then z (λ _. value_of_last k.structs ls functions scope (eval k.structs ls functions scope x) xs)) (g f.value f.is_there s)
         ∙ given_last xs (eval k.structs ls functions scope x) (constant x) n (λ m d t. given x m (front (is_typed k x) (are_typed k xs) h) d t) (back (is_typed k x) (are_typed k xs) h) f.leads s
 
 pub constants_are_given : ConstantsAreGiven

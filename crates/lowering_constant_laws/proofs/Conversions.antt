@@ -31,7 +31,7 @@ use Rattle.lowering_states.specs.Runs.{opens, CodeObservation, NotDefined, finis
 use Rattle.lowering_states.proofs.Steps.{finish-bind, meets_anything, meets_same}
 use Rattle.lowering_states.proofs.States.{kept_temporary, value_at, fits_temporary}
 use Rattle.lowering_expression_places.proofs.Behind.{at_plain}
-use Rattle.lowering_expression_laws.specs.Parts.{Setting, count, Stands, Follows, ExprMeets}
+use Rattle.lowering_expression_laws.specs.Parts.{Setting, first_depth, Stands, Follows, ExprMeets}
 use Rattle.lowering_expression_laws.proofs.Forms.{insn_on}
 use Rattle.lowering_constant_laws.specs.Laws.{GivesZero, ConstantsMeet}
 
@@ -44,7 +44,7 @@ of_zero K Unset t = NotDefined
 
 module _ (c : Setting) (found : slice_get c.functions c.number ≡ Some c.code) where
   abbrev L : ℕ
-  L = count c
+  L = first_depth c
 
   -- the code of a conversion, and its meaning, by the type of the operand
   abbrev CodeOf : (d : ℕ) (x : Expr) (to : PlainType) (rest : List CodeItem) → PlainType → List CodeItem

@@ -18,7 +18,7 @@ use Rattle.c_semantics.specs.Runs.{CallState, Run, and_then, with_registers, wit
 use Rattle.c_semantics.specs.Objects as obj
 use Rattle.c_semantics.specs.Objects.{Scope, start_pointer, write, write_at, local_place}
 use Rattle.c_semantics.specs.Evaluates.{eval}
-use Rattle.c_semantics.specs.Executes.{StatementFlow, Goes, declared_in, initialise, execs}
+use Rattle.c_semantics.specs.Executes.{StatementFlow, Goes, declared_in, initialise_object, execs}
 use Rattle.suifvm_ir.specs.declared.types.VmType.TheVariants.{P64}
 use Rattle.suifvm_ir.specs.declared.insn.VmObject.TheVariants as vp
 use Rattle.suifvm_ir.specs.declared.insn.VmUnaryOp.TheVariants.{Move}
@@ -35,7 +35,7 @@ use Rattle.lowering_states.specs.States.{IsHeld, IsInRegister, type_at}
 use Rattle.lowering_states.proofs.Steps.{meets_same, used_meets, known_meets}
 use Rattle.lowering_states.proofs.States.{set_same, set_other, other_depth, after_on, fits_temporary, fits_local}
 use Rattle.lowering_expression_places.proofs.Behind.{at_plain}
-use Rattle.lowering_expression_laws.specs.Parts.{Setting, count, EndsSo, Stands, Fit, Aft, ExprMeets}
+use Rattle.lowering_expression_laws.specs.Parts.{Setting, first_depth, EndsSo, Stands, Fit, Aft, ExprMeets}
 use Rattle.lowering_expression_laws.specs.Laws.{IsScalarType}
 use Rattle.lowering_expression_laws.proofs.Forms.{insn_on, bound}
 use Rattle.lowering_place_laws.proofs.Places.{byte_of, address_meets, address_of}
@@ -54,7 +54,7 @@ scalar_in f ty v w (inr t) h = subst (λ z. IsInRegister f z v w) t.1 h
 
 module _ (c : Setting) (found : slice_get c.functions c.number ≡ Some c.code) (again : Scope → Stmt → Run StatementFlow) where
   abbrev L : ℕ
-  L = count c
+  L = first_depth c
 
   blocks : (ss : Stmts) → MayDeclareAll c.structs c.locals (declared_in ss) → ((k : ℕ) → stmts_declarations k ss ≤ 1) → StmtsMeet c again ss → StmtMeets c again (Block ss)
   blocks ss may once hss = record {
@@ -74,7 +74,7 @@ module _ (c : Setting) (found : slice_get c.functions c.number ≡ Some c.code) 
   unfolding opens
   without_value k l here = record {
     by = λ brk con rest heads p f scope r s m K apart at fit low way.
-        meets_same c.rooms c.functions (ap (λ z. finish (and_then (initialise c.structs c.locals c.calls scope k z None s) (λ _. pure Goes)) K) here)
+        meets_same c.rooms c.functions (ap (λ z. finish (and_then (initialise_object c.structs c.locals c.calls scope k z None s) (λ _. pure Goes)) K) here)
         (way.goes p f s r m at (record { names = λ o q e. e; lives = λ o. refl; sizes = λ o e. refl; locals = λ q size h. h; turned = omega arith }) fit);
   }
 
@@ -95,10 +95,10 @@ module _ (c : Setting) (found : slice_get c.functions c.number ≡ Some c.code) 
     evaluated : (tail : List CodeItem → List CodeItem) (brk con : ℕ) (rest : List CodeItem) (heads : List ℕ) (p : CodePlace) (f : Names) (scope : Scope) (r : Registers) (s : CallState) (m : Memory) (K : StatementFlow → CallState → CodeObservation) → put_local_code L c.structs c.locals k (slice_get c.locals k) rest ≡ tail rest
         → Stands c heads p (expr_code L c.structs c.locals 0 x (put_local_code L c.structs c.locals k (slice_get c.locals k) rest)) → Fit c f scope r s m → s.world.meter.turns ≤ c.level
         → ((q : CodePlace) (v : Value) (g : Names) (t : CallState) (q1 : Registers) (m1 : Memory) → Stands c heads q (tail rest) → Aft c f s m g t m1 → Fit c g scope q1 t m1 → IsHeld ty v → IsInRegister g ty v (q1 reg) → EndsSo c (finish (put scope v t) (λ _ u. K Goes u)) q q1 t.world m1)
-        → EndsSo c (finish (and_then (initialise c.structs c.locals c.calls scope k (slice_get c.locals k) (Some x) s) (λ _. pure Goes)) K) p r s.world m
+        → EndsSo c (finish (and_then (initialise_object c.structs c.locals c.calls scope k (slice_get c.locals k) (Some x) s) (λ _. pure Goes)) K) p r s.world m
     unfolding opens
     evaluated tail brk con rest heads p f scope r s m K code_e at fit low next =
-        meets_same c.rooms c.functions (ap (λ z. finish (and_then (initialise c.structs c.locals c.calls scope k z (Some x) s) (λ _. pure Goes)) K) here)
+        meets_same c.rooms c.functions (ap (λ z. finish (and_then (initialise_object c.structs c.locals c.calls scope k z (Some x) s) (λ _. pure Goes)) K) here)
         (bound c found (and_then (eval c.structs c.locals c.calls scope x s) (put scope)) (λ _. pure Goes) K p r s.world m
         (bound c found (eval c.structs c.locals c.calls scope x s) (put scope) (λ _ u. K Goes u) p r s.world m
         (hx.by 0 (tail rest) heads p f scope r s m (λ v t. finish (put scope v t) (λ _ u. K Goes u)) (subst (λ z. Stands c heads p (expr_code L c.structs c.locals 0 x z)) code_e at) fit low

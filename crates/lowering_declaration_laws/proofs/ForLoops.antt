@@ -12,7 +12,7 @@ use Rattle.c_semantics.specs.Runs.{CallState, Run, and_then, turn, pure, ◌>>�
 use Rattle.c_semantics.specs.Objects.{Scope}
 use Rattle.c_semantics.specs.Evaluates.{choose}
 use Rattle.c_semantics.specs.Executes as executes
-use Rattle.c_semantics.specs.Executes.{StatementFlow, Goes, Breaks, Continues, Returns, after_body, declare, declares, declared_first, exec}
+use Rattle.c_semantics.specs.Executes.{StatementFlow, Goes, Breaks, Continues, Returns, after_body, run_declaration, run_declarations, declared_first, exec}
 use Rattle.vm_meaning.specs.Behave.{Registers}
 use Rattle.lowering_code.specs.declared.item.CodeItem.{CodeItem}
 use Rattle.lowering_code.specs.declared.item.CodeItem.TheVariants.{Start, Loop}
@@ -22,7 +22,7 @@ use Rattle.lowering_states.specs.Places.{CodePlace}
 use Rattle.lowering_states.specs.Runs.{opens, CodeObservation, NotDefined, finish}
 use Rattle.lowering_states.proofs.Steps.{meets_anything, meets_same}
 use Rattle.lowering_states.proofs.States.{after_same, after_on}
-use Rattle.lowering_expression_laws.specs.Parts.{Setting, count, EndsSo, Stands, Fit, Aft}
+use Rattle.lowering_expression_laws.specs.Parts.{Setting, first_depth, EndsSo, Stands, Fit, Aft}
 use Rattle.lowering_expression_laws.proofs.Forms.{bound}
 use Rattle.lowering_statement_laws.specs.Parts.{IsApart, Onward, StmtMeets}
 use Rattle.lowering_statement_laws.proofs.Apart.{inner_least}
@@ -48,18 +48,18 @@ goes_on (Ends x) next = refl
 
 module _ (c : Setting) (found : slice_get c.functions c.number ≡ Some c.code) (again : Scope → Stmt → Run StatementFlow) where
   abbrev L : ℕ
-  L = count c
+  L = first_depth c
 
   -- declarations, one behind the other
   declares_lead : (ds : List LocalDeclaration) → AllDeclarationsMeet c again ds → (is : List CodeItem) (heads : List ℕ) (p : CodePlace) (f : Names) (scope : Scope) (r : Registers) (s : CallState) (m : Memory) (K : Unit {0} → CallState → CodeObservation) → Stands c heads p (declares_code L c.structs c.locals ds is) → Fit c f scope r s m
       → s.world.meter.turns ≤ c.level → ((q1 : CodePlace) (g : Names) (t : CallState) (r1 : Registers) (m1 : Memory) → Stands c heads q1 is → Aft c f s m g t m1 → Fit c g scope r1 t m1 → EndsSo c (K tt t) q1 r1 t.world m1)
-      → EndsSo c (finish (declares c.structs c.locals c.calls scope ds s) K) p r s.world m
+      → EndsSo c (finish (run_declarations c.structs c.locals c.calls scope ds s) K) p r s.world m
   unfolding opens on_going
   declares_lead [] h is heads p f scope r s m K at fit low next = next p f s r m at after_same fit
   declares_lead (d ∷ ds) h is heads p f scope r s m K at fit low next =
-      let rest : CallState → CodeObservation = (λ t. finish (declares c.structs c.locals c.calls scope ds t) K) in
-      bound c found (declare c.structs c.locals c.calls scope d s) (λ _. declares c.structs c.locals c.calls scope ds) K p r s.world m
-      (meets_same c.rooms c.functions (sym (goes_on (declare c.structs c.locals c.calls scope d s) rest))
+      let rest : CallState → CodeObservation = (λ t. finish (run_declarations c.structs c.locals c.calls scope ds t) K) in
+      bound c found (run_declaration c.structs c.locals c.calls scope d s) (λ _. run_declarations c.structs c.locals c.calls scope ds) K p r s.world m
+      (meets_same c.rooms c.functions (sym (goes_on (run_declaration c.structs c.locals c.calls scope d s) rest))
       (h.0.by 0 0 (declares_code L c.structs c.locals ds is) heads p f scope r s m (λ z t. on_going (rest t) z) (λ j lt. absurd (omega (arith, lt))) at fit low
       (record {
         goes = λ q1 g t r1 m1 at1 aft fit1.
@@ -75,8 +75,8 @@ module _ (c : Setting) (levels : LevelMeanings) (found : slice_get c.functions c
   -- what the loop does behind its declarations
   abbrev loop_run : ℕ → Scope → Run StatementFlow
   loop_run k scope =
-      executes.condition c.structs c.locals (levels.functions k) scope test
-      >>= choose (turn >> (exec c.structs c.locals (levels.functions k) (levels.statements k) scope body >>= after_body (executes.step c.structs c.locals (levels.functions k) scope step >> levels.statements k scope (For q.Nothing test step body)))) (pure Goes)
+      executes.loop_condition c.structs c.locals (levels.functions k) scope test
+      >>= choose (turn >> (exec c.structs c.locals (levels.functions k) (levels.statements k) scope body >>= after_body (executes.loop_step c.structs c.locals (levels.functions k) scope step >> levels.statements k scope (For q.Nothing test step body)))) (pure Goes)
 
   abbrev numbers : List ℕ
   numbers = declared_first (Locals ds)
@@ -94,11 +94,11 @@ module _ (c : Setting) (levels : LevelMeanings) (found : slice_get c.functions c
         let K1 : StatementFlow → CallState → CodeObservation = (λ z t. K z (b.left t)) in
         let way1 : Onward c1 b.inner b.names b.start m K1 heads rest brk con = onward_begun c1 b way in
         let low1 = low_enough c1 b k low in
-        let run : Scope → Run StatementFlow = (λ inner. declares c.structs c.locals (levels.functions k) inner ds >> loop_run k inner) in
+        let run : Scope → Run StatementFlow = (λ inner. run_declarations c.structs c.locals (levels.functions k) inner ds >> loop_run k inner) in
         meets_same c.rooms c.functions (ap (λ z. finish z K) (b.is run))
         (bound c1 found (run b.inner b.start) (λ a t. Gives a (b.left t)) K p r s.world m
         (starts c1 b p
-        (bound c1 found (declares c.structs c.locals (levels.functions k) b.inner ds b.start) (λ _. loop_run k b.inner) K1 p r b.start.world m
+        (bound c1 found (run_declarations c.structs c.locals (levels.functions k) b.inner ds b.start) (λ _. loop_run k b.inner) K1 p r b.start.world m
         (declares_lead c1 found (levels.statements k) ds (hd k) _ heads p b.names b.inner r b.start m (λ _ t. finish (loop_run k b.inner t) K1) at b.fit low1
         (λ q1 g t r1 m1 at1 aft fit1.
         enters c levels found are test step body ht hs hb k rest heads q1 g b.inner r1 t m1 K1 brk con inside at1 fit1 (omega (arith, aft.turned, low1)) (let way2 : Onward c1 b.inner g t m1 K1 heads rest brk con = onward_on c1 found (levels.statements k) {s = b.start} {t = t} aft way1 in record { goes = way2.goes; breaks = way2.breaks; continues = way2.continues; returns = way2.returns }))))));

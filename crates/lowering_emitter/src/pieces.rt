@@ -5,7 +5,7 @@
 ghost use Rattle.std.specs.Prelude.{◌≡◌, ◌+◌, ◌*◌, ◌^◌, ◌<◌, OnOk};
 ghost use Rattle.c_typed_tree.specs.View.{type_view};
 ghost use Rattle.lowering_code.specs.Registers.{value_register, address_register};
-ghost use Rattle.lowering_code.specs.Expressions.{load_from, address_code, narrow_type, fills_register, keeps_register, is_same_register, constant_code, move_code, moved_code, load_code, store_code, convert_code, sized_code, scaled_code, add_code, negate_code, divided_code, unary_code, not_code, branch_code};
+ghost use Rattle.lowering_code.specs.Expressions.{load_from, address_code, narrow_type, fills_register, keeps_register, is_same_register, constant_code, move_code, moved_code, load_code, store_code, convert_code, sized_code, scaled_code, add_code, negate_code, divided_code, unary_code, not_code, branch_by_value_code};
 
 use crate::code::EmittedCode;
 use crate::registers::{Registers, memory_type, register_type};
@@ -335,7 +335,7 @@ impl EmittedCode {
         name: usize,
     ) -> Result<(), AllocError>
         requires { r.locals + 5 * (depth + 1) < 2 ^ 32 }
-        ensures { OnOk result (self.new ≡ branch_code r.locals op depth (type_view ty.now) name self.old) }
+        ensures { OnOk result (self.new ≡ branch_by_value_code r.locals op depth (type_view ty.now) name self.old) }
     {
         self.branch(op, register_type(ty), r.value(depth, ty), name)
     }

@@ -32,7 +32,7 @@ use Rattle.lowering_code.specs.declared.item.CodeItem.{CodeItem}
 use Rattle.lowering_code.specs.declared.item.CodeItem.TheVariants.{Start, Jump}
 use Rattle.lowering_code.specs.Items as items
 use Rattle.lowering_code.specs.Registers.{register_type, value_register}
-use Rattle.lowering_code.specs.Expressions.{plain_of, constant_code, branch_code, expr_code}
+use Rattle.lowering_code.specs.Expressions.{plain_of, constant_code, branch_by_value_code, expr_code}
 use Rattle.lowering_states.specs.Places.{CodePlace, next_place, next_block, start_of_block}
 use Rattle.lowering_states.specs.Runs.{opens, CodeObservation, finish, Meets}
 use Rattle.lowering_states.specs.States.{IsHeld, IsInRegister, KeepsLower}
@@ -41,7 +41,7 @@ use Rattle.lowering_states.proofs.States.{kept_on, kept_temporary, value_at, aft
 use Rattle.lowering_values.proofs.Accesses.{memories_correspond}
 use Rattle.lowering_expression_places.specs.Behind.{Somewhere}
 use Rattle.lowering_expression_places.proofs.Behind.{at_plain, at_start, at_jump, at_branch, left_expr}
-use Rattle.lowering_expression_laws.specs.Parts.{Setting, count, EndsSo, Stands, Fit, Aft, Follows, ExprMeets}
+use Rattle.lowering_expression_laws.specs.Parts.{Setting, first_depth, EndsSo, Stands, Fit, Aft, Follows, ExprMeets}
 use Rattle.lowering_expression_laws.specs.Laws.{IsScalarType}
 use Rattle.lowering_expression_laws.proofs.Forms.{held_word, word_held, value_of_word, insn_on, bound}
 
@@ -82,7 +82,7 @@ truth_word false = refl
 
 module _ (c : Setting) (found : slice_get c.functions c.number ≡ Some c.code) where
   abbrev L : ℕ
-  L = count c
+  L = first_depth c
 
   abbrev T : PlainType
   T = plain_of i.Int
@@ -109,7 +109,7 @@ module _ (c : Setting) (found : slice_get c.functions c.number ≡ Some c.code) 
 
   -- a branch by a value that was tested
   module _ (op : VmBranchOp) (d : ℕ) (ty : PlainType) (scalar : IsScalarType ty) (name : ℕ) (rest : List CodeItem) (heads : List ℕ) (q : CodePlace) (f : Names) (scope : Scope) (r : Registers) (s : CallState) (m : Memory) (v : Value) (x : Bool)
-      (at : Stands c heads q (branch_code L op d ty name rest)) (fit : Fit c f scope r s m) (held : IsHeld ty v) (stands : IsInRegister f ty v (r (value_register L d ty))) (is : TestIs s.world.outer.memory v x) where
+      (at : Stands c heads q (branch_by_value_code L op d ty name rest)) (fit : Fit c f scope r s m) (held : IsHeld ty v) (stands : IsInRegister f ty v (r (value_register L d ty))) (is : TestIs s.world.outer.memory v x) where
     holds : vm.value_holds m (register_type ty) (r (value_register L d ty)) ≡ Some x
     holds = holds_there f s.world.outer.memory m ty v (r (value_register L d ty)) x scalar fit.memory held stands is
 
@@ -127,7 +127,7 @@ module _ (c : Setting) (found : slice_get c.functions c.number ≡ Some c.code) 
       stops = constant_code L d T (truth stop) (Start ∷ rest)
 
       abbrev ends : List CodeItem
-      ends = branch_code L op d (type_of y) (items.block_total stops) (constant_code L d T (truth (not stop)) (Jump (items.block_total rest) ∷ stops))
+      ends = branch_by_value_code L op d (type_of y) (items.block_total stops) (constant_code L d T (truth (not stop)) (Jump (items.block_total rest) ∷ stops))
 
       -- where the code for the value that ends the evaluation stands, and what comes behind
       stops_at : (q : CodePlace) → Stands c heads q ends → Stands c heads (next_block (next_place (next_block q))) stops
@@ -185,17 +185,17 @@ module _ (c : Setting) (found : slice_get c.functions c.number ≡ Some c.code) 
         -- both
         first : (p : CodePlace) (run : Bool → Run Value) → ((t : CallState) → finish (run stop t) K ≡ K (Word (truth stop)) t)
             → ((t : CallState) → finish (run (not stop) t) K ≡ finish (and_then (and_then (eval c.structs c.locals c.calls scope y t) test) pure_truth) K)
-            → Stands c heads p (expr_code L c.structs c.locals d x (branch_code L op d (type_of x) (items.block_total stops) (expr_code L c.structs c.locals d y ends))) → Fit c f scope r s m → s.world.meter.turns ≤ c.level
+            → Stands c heads p (expr_code L c.structs c.locals d x (branch_by_value_code L op d (type_of x) (items.block_total stops) (expr_code L c.structs c.locals d y ends))) → Fit c f scope r s m → s.world.meter.turns ≤ c.level
             → EndsSo c (finish (and_then (and_then (eval c.structs c.locals c.calls scope x s) test) run) K) p r s.world m
         unfolding opens
         first p run at_stop at_go at fit low =
             bound c found (and_then (eval c.structs c.locals c.calls scope x s) test) run K p r s.world m
             (bound c found (eval c.structs c.locals c.calls scope x s) test (λ z t. finish (run z t) K) p r s.world m
-            (hx.by d (branch_code L op d (type_of x) (items.block_total stops) (expr_code L c.structs c.locals d y ends)) heads p f scope r s m (λ v t. finish (test v t) (λ z t. finish (run z t) K)) at fit low
+            (hx.by d (branch_by_value_code L op d (type_of x) (items.block_total stops) (expr_code L c.structs c.locals d y ends)) heads p f scope r s m (λ v t. finish (test v t) (λ z t. finish (run z t) K)) at fit low
             (λ q v g t q1 m1 at1 aft fit1 kept held stands.
             test_meets v t (λ z t. finish (run z t) K) _ (λ z is. by_test q g t q1 m1 v z at1 aft fit1 kept held stands is (either z stop)))))
           where
-            by_test : (q : CodePlace) (g : Names) (t : CallState) (q1 : Registers) (m1 : Memory) (v : Value) (z : Bool) → Stands c heads q (branch_code L op d (type_of x) (items.block_total stops) (expr_code L c.structs c.locals d y ends)) → Aft c f s m g t m1 → Fit c g scope q1 t m1 → KeepsLower L d r q1
+            by_test : (q : CodePlace) (g : Names) (t : CallState) (q1 : Registers) (m1 : Memory) (v : Value) (z : Bool) → Stands c heads q (branch_by_value_code L op d (type_of x) (items.block_total stops) (expr_code L c.structs c.locals d y ends)) → Aft c f s m g t m1 → Fit c g scope q1 t m1 → KeepsLower L d r q1
                 → IsHeld (type_of x) v → IsInRegister g (type_of x) v (q1 (value_register L d (type_of x))) → TestIs t.world.outer.memory v z → (z ≡ stop) ⊎ (z ≡ not stop) → EndsSo c (finish (run z t) K) q q1 t.world m1
             by_test q g t q1 m1 v z at1 aft fit1 kept held stands is (inl e) =
                 let behind : Somewhere c.code.blocks c.last c.end heads ends = left_expr c.code.blocks c.last c.end L c.structs c.locals y d heads ends (record { place = next_block q; at = at_branch c.code.blocks c.last c.end op _ _ _ at1 }) in
@@ -255,7 +255,7 @@ module _ (c : Setting) (found : slice_get c.functions c.number ≡ Some c.code) 
           (next (start_of_block block) v h u q3 m2 there (after_on aft aft2) fit2 (kept_on (omega arith) kept kept2)
           (subst (λ k. IsHeld k v) ey held) (subst (λ k. IsInRegister h k v (q3 (value_register L d k))) ey stands))))
 
-      choice_meets : (q : CodePlace) (g : Names) (t : CallState) (q1 : Registers) (m1 : Memory) (v : Value) (k : Bool) → Stands c heads q (branch_code L IfFalse d (type_of x) (items.block_total fails) (expr_code L c.structs c.locals d y (Jump (items.block_total rest) ∷ fails)))
+      choice_meets : (q : CodePlace) (g : Names) (t : CallState) (q1 : Registers) (m1 : Memory) (v : Value) (k : Bool) → Stands c heads q (branch_by_value_code L IfFalse d (type_of x) (items.block_total fails) (expr_code L c.structs c.locals d y (Jump (items.block_total rest) ∷ fails)))
           → Aft c f s m g t m1 → Fit c g scope q1 t m1 → KeepsLower L d r q1 → IsHeld (type_of x) v → IsInRegister g (type_of x) v (q1 (value_register L d (type_of x))) → TestIs t.world.outer.memory v k → t.world.meter.turns ≤ c.level
           → EndsSo c (finish (choose (value y) (value z) k t) K) q q1 t.world m1
       choice_meets q g t q1 m1 v true at aft fit kept held stands is low =

@@ -51,7 +51,7 @@ use Rattle.lowering_values.specs.Laws.{is_shift_operator, does_in}
 use Rattle.lowering_values.proofs.Integers.{kept_is, register-promoted, integer_of-plain, register-plain, promoted_word, kept_conversion, made_conversion}
 use Rattle.lowering_values.proofs.Operators.{word_true, unary_is, operators_correspond}
 use Rattle.lowering_expression_places.proofs.Behind.{at_plain}
-use Rattle.lowering_expression_laws.specs.Parts.{Setting, count, EndsSo, Stands, Fit, Aft, Follows, ExprMeets}
+use Rattle.lowering_expression_laws.specs.Parts.{Setting, first_depth, EndsSo, Stands, Fit, Aft, Follows, ExprMeets}
 use Rattle.lowering_expression_laws.specs.Laws.{is_logical_operator, result_type}
 
 -- ---- words in registers
@@ -112,7 +112,7 @@ result_word b.Remainder t c x y k e = of_outcome t _ k e (remainder-word t x y)
 
 module _ (c : Setting) (found : slice_get c.functions c.number ≡ Some c.code) where
   abbrev L : ℕ
-  L = count c
+  L = first_depth c
 
   pub insn_on : {o : CodeObservation} (insn : VmInsn) (p : CodePlace) (r : Registers) (w : World) (m : Memory) (vs : List Value) → stands_at c.code.blocks p ≡ Some (Some insn)
       → takes_turn insn ≡ false → does_in c.own r (outer_with_memory w.outer m) insn ≡ Writes vs (outer_with_memory w.outer m)

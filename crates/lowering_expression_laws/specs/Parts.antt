@@ -60,20 +60,20 @@ module _ (c : Setting) where
       After f s.world.outer.memory n s.world.meter.turns g t.world.outer.memory m t.world.meter.turns
 
   -- where the registers of expressions begin
-  abbrev pub count : ℕ
-  count = length c.locals
+  abbrev pub first_depth : ℕ
+  first_depth = length c.locals
 
   -- what follows a value of a type at a depth
   abbrev pub Follows : (depth : ℕ) → PlainType → (heads : List ℕ) → (rest : List CodeItem) → Names → Scope → Registers
       → CallState → Memory → (Value → CallState → CodeObservation) → Type 0
   Follows d ty heads rest f scope r s n K =
       (q : CodePlace) (v : Value) (g : Names) (t : CallState) (q1 : Registers) (m : Memory) → Stands heads q rest
-      → Aft f s n g t m → Fit g scope q1 t m → KeepsLower count d r q1 → IsHeld ty v
-      → IsInRegister g ty v (q1 (value_register count d ty)) → EndsSo (K v t) q q1 t.world m
+      → Aft f s n g t m → Fit g scope q1 t m → KeepsLower first_depth d r q1 → IsHeld ty v
+      → IsInRegister g ty v (q1 (value_register first_depth d ty)) → EndsSo (K v t) q q1 t.world m
 
   pub record ExprMeets (x : Expr) : Type 0 where
     pub by : (d : ℕ) (rest : List CodeItem) (heads : List ℕ) (p : CodePlace) (f : Names) (scope : Scope) (r : Registers)
         (s : CallState) (n : Memory) (K : Value → CallState → CodeObservation) →
-        Stands heads p (expr_code count c.structs c.locals d x rest) → Fit f scope r s n
+        Stands heads p (expr_code first_depth c.structs c.locals d x rest) → Fit f scope r s n
         → s.world.meter.turns ≤ c.level → Follows d (type_of x) heads rest f scope r s n K
         → EndsSo (finish (eval c.structs c.locals c.calls scope x s) K) p r s.world n

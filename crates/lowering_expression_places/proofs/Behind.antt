@@ -22,7 +22,7 @@ use Rattle.suifvm_ir.specs.declared.types.VmType.{VmType}
 use Rattle.lowering_code.specs.declared.item.CodeItem.{CodeItem}
 use Rattle.lowering_code.specs.declared.item.CodeItem.TheVariants.{Start, Plain, Jump, Branch}
 use Rattle.lowering_code.specs.Items.{block_total}
-use Rattle.lowering_code.specs.Expressions.{plain_of, operation_of, operation_insn, stride, member_plus, element_of, keeps_register, moved_code, load_code, convert_code, sized_code, scaled_code, divided_code, integer_code, converted_code, place_moved_code, step_code, step_back_code, pointers_code, binary_by, combine_by, element_by, stepped_code, step_register_code, step_memory_code, set_memory_code, combine_memory_code, register_if, register_of, local_code, change_code, assign_code, conversion_code, expr_code, place_code, exprs_code, commas_code, constant_code, branch_code}
+use Rattle.lowering_code.specs.Expressions.{plain_of, operation_of, operation_insn, stride, member_plus, element_of, keeps_register, moved_code, load_code, convert_code, sized_code, scaled_code, divided_code, integer_code, converted_code, place_moved_code, step_code, step_back_code, pointers_code, binary_by, combine_by, element_by, stepped_code, step_register_code, step_memory_code, set_memory_code, combine_memory_code, register_if, register_of, local_code, change_code, assign_code, conversion_code, expr_code, place_code, exprs_code, commas_code, constant_code, branch_by_value_code}
 use Rattle.lowering_states.specs.Places.{CodePlace, next_place, next_block, At}
 use Rattle.lowering_expression_places.specs.Behind.{IsLeft}
 
@@ -219,13 +219,13 @@ module _ (blocks : List (List VmInsn)) (last : ℕ) (end : List VmInsn) where
         left_conversion d (Struct n) to plus place value p v = left_on v (left_converted d (Struct n) to)
 
         left_both : (op : VmBranchOp) (first second d : ℕ) (ty tx tz : PlainType) (f g : List CodeItem → List CodeItem) → Left f → Left g
-            → Left (λ is. f (branch_code L op d tx (block_total (constant_code L d ty first (Start ∷ is))) (g (branch_code L op d tz (block_total (constant_code L d ty first (Start ∷ is)))
+            → Left (λ is. f (branch_by_value_code L op d tx (block_total (constant_code L d ty first (Start ∷ is))) (g (branch_by_value_code L op d tz (block_total (constant_code L d ty first (Start ∷ is)))
             (constant_code L d ty second (Jump (block_total is) ∷ constant_code L d ty first (Start ∷ is)))))))
         left_both op first second d ty tx tz f g a c heads rest h =
             left_start heads rest (left_plain _ heads _ (left_jump (λ is. block_total rest) heads _ (left_plain _ heads _ (left_branch _ _ _ _ heads _ (c heads _ (left_branch _ _ _ _ heads _ (a heads _ h)))))))
 
         left_choice : (d : ℕ) (tx : PlainType) (f g k : List CodeItem → List CodeItem) → Left f → Left g → Left k
-            → Left (λ is. f (branch_code L IfFalse d tx (block_total (k (Start ∷ is))) (g (Jump (block_total is) ∷ k (Start ∷ is)))))
+            → Left (λ is. f (branch_by_value_code L IfFalse d tx (block_total (k (Start ∷ is))) (g (Jump (block_total is) ∷ k (Start ∷ is)))))
         left_choice d tx f g k a c o heads rest h =
             left_start heads rest (o heads _ (left_jump (λ is. block_total rest) heads _ (c heads _ (left_branch _ _ _ _ heads _ (a heads _ h)))))
 

@@ -14,7 +14,7 @@ use Rattle.c_typed_tree.specs.Expressions.{Expr, Number, Local, Global, Call, Un
 use Rattle.c_typed_tree.specs.Typing.{Context, Signature, depth_of, is_fit, is_valid_type, is_scalar, has_local_type, has_global_type, points_to, is_element, is_member, target_of, is_place, is_memory_local, is_in_memory, has_rule, is_typed}
 use Rattle.c_typed_tree.specs.Lawful.{IsLawfulStruct, is_lawful_local, is_object_type, type_of_local}
 use Rattle.lowering_code.specs.Expressions.{register_if, register_of}
-use Rattle.lowering_expression_laws.specs.Parts.{Setting, count, ExprMeets}
+use Rattle.lowering_expression_laws.specs.Parts.{Setting, first_depth, ExprMeets}
 use Rattle.lowering_place_laws.specs.Places.{PlaceMeets}
 use Rattle.c_layout_laws.proofs.Truth.{no_true, front, back, either}
 use Rattle.lowering_bounds.proofs.Typing.{one, two, same}
@@ -27,7 +27,7 @@ context_in c globals signatures = record { structs = c.structs; globals = global
 
 -- the local whose register holds a place
 abbrev pub in_register_of : Setting → Expr → Option ℕ
-in_register_of c x = register_of (count c) c.structs c.locals x
+in_register_of c x = register_of (first_depth c) c.structs c.locals x
 
 or_first : (a b : Bool) → b ≡ false → IsTrue (a || b) → IsTrue a
 or_first true b e h = refl
@@ -105,7 +105,7 @@ module _ (c : Setting) (found : slice_get c.functions c.number ≡ Some c.code) 
   pub unregistered : (x : Expr) → IsTrue (is_in_memory c.locals x) → in_register_of c x ≡ None
   unregistered (Local ty k) h = by (slice_get c.locals k) h
     where
-      by : (o : Option l.Local) → IsTrue (is_memory_local o) → register_if (count c) c.structs c.locals k o ≡ None
+      by : (o : Option l.Local) → IsTrue (is_memory_local o) → register_if (first_depth c) c.structs c.locals k o ≡ None
       by None h = refl
       by (Some x) h = ap (λ z. if◌then◌else◌ {A = Option ℕ} z None (Some k)) h
   unregistered (Number ty n) h = refl

@@ -13,9 +13,9 @@ use Rattle.c_typed_tree.specs.Expressions.{type_of}
 use Rattle.lowering_code.specs.Registers.{value_register}
 use Rattle.lowering_expressions.specs.declared.scope.LoweringScope.{LoweringScope}
 use Rattle.lowering_expressions.specs.Scopes.{call_registers}
-use Rattle.lowering_expressions.specs.Levels.{levels, levels_above, levels_of_each}
+use Rattle.lowering_expressions.specs.Levels.{register_levels, levels_above, levels_of_each}
 
-pub own_levels : (x : Expr) → 5 ≤ levels x
+pub own_levels : (x : Expr) → 5 ≤ register_levels x
 own_levels (p.Number ty n) = omega arith
 own_levels (p.Local ty k) = omega arith
 own_levels (p.Global ty k) = omega arith
@@ -32,12 +32,12 @@ own_levels (p.Arrow ty x k) = omega arith
 own_levels (p.Postfix ty op x) = omega arith
 own_levels (p.Comma ty xs) = omega arith
 
-pub above_at : (xs : List e.TExpr) (i : ℕ) (x : e.TExpr) → i < length xs → i + levels (expr_view (get_or xs i x)) ≤ levels_above (exprs_view xs)
+pub above_at : (xs : List e.TExpr) (i : ℕ) (x : e.TExpr) → i < length xs → i + register_levels (expr_view (get_or xs i x)) ≤ levels_above (exprs_view xs)
 above_at [] i x h = absurd (omega arith)
 above_at (y ∷ xs) zero x h = omega arith
 above_at (y ∷ xs) (suc i) x h = omega (arith, above_at xs i x (omega arith))
 
-pub each_at : (xs : List e.TExpr) (i : ℕ) (x : e.TExpr) → i < length xs → levels (expr_view (get_or xs i x)) ≤ levels_of_each (exprs_view xs)
+pub each_at : (xs : List e.TExpr) (i : ℕ) (x : e.TExpr) → i < length xs → register_levels (expr_view (get_or xs i x)) ≤ levels_of_each (exprs_view xs)
 each_at [] i x h = absurd (omega arith)
 each_at (y ∷ xs) zero x h = omega arith
 each_at (y ∷ xs) (suc i) x h = omega (arith, each_at xs i x (omega arith))

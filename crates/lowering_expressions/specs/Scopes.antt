@@ -95,5 +95,6 @@ conversion_code s d to x rest =
     (λ is. place_code s d x 0 is) (λ is. expr_code s d x is) rest
 
 -- any operator with one operand
-abbrev pub unary_code : LoweringScope → (depth : ℕ) → PlainType → UnaryOp → Expr → List CodeItem → List CodeItem
-unary_code s d ty op x rest = expr_code s d (Unary ty op x) rest
+abbrev pub unary_expression_code : LoweringScope → (depth : ℕ) → PlainType → UnaryOp → Expr → List CodeItem →
+    List CodeItem
+unary_expression_code s d ty op x rest = expr_code s d (Unary ty op x) rest

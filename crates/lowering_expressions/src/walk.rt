@@ -3,8 +3,8 @@
 ghost use Rattle.std.specs.Prelude.{◌≡◌, ◌^◌, ◌<◌, OnOk};
 ghost use Rattle.c_typed_tree.specs.View.{type_view, expr_view};
 ghost use Rattle.c_typed_tree.specs.model.View.{exprs_view};
-ghost use Rattle.lowering_expressions.specs.Levels.{levels, levels_above, levels_of_each};
-ghost use Rattle.lowering_expressions.specs.Scopes.{HasLevels, expr_code, place_code, exprs_code, commas_code, unary_code, conversion_code};
+ghost use Rattle.lowering_expressions.specs.Levels.{register_levels, levels_above, levels_of_each};
+ghost use Rattle.lowering_expressions.specs.Scopes.{HasLevels, expr_code, place_code, exprs_code, commas_code, unary_expression_code, conversion_code};
 
 use crate::forms::{call, combine_register, decision, global, local, local_place};
 use crate::places::{is_array, member, plus_of, register_of, target_member};
@@ -27,7 +27,7 @@ pub fn expr(
     depth: u32,
     e: &TExpr,
 ) -> Result<(), AllocError>
-    requires { HasLevels scope.now depth (levels (expr_view e.now)) }
+    requires { HasLevels scope.now depth (register_levels (expr_view e.now)) }
     ensures { OnOk result (code.new ≡ expr_code scope.now depth (expr_view e.now) code.old) }
 {
     let r = scope.registers;
@@ -168,9 +168,9 @@ fn unary(
     op: UnaryOp,
 ) -> Result<(), AllocError>
     requires own { HasLevels scope.now depth 5 }
-    requires operand { HasLevels scope.now depth (levels (expr_view operand.now)) }
+    requires operand { HasLevels scope.now depth (register_levels (expr_view operand.now)) }
     ensures { OnOk result (code.new ≡
-        unary_code scope.now depth (type_view ty.now) op (expr_view operand.now) code.old) }
+        unary_expression_code scope.now depth (type_view ty.now) op (expr_view operand.now) code.old) }
 {
     let r = scope.registers;
     match op {
@@ -230,7 +230,7 @@ fn conversion(
     ty: &CType,
 ) -> Result<(), AllocError>
     requires own { HasLevels scope.now depth 5 }
-    requires operand { HasLevels scope.now depth (levels (expr_view operand.now)) }
+    requires operand { HasLevels scope.now depth (register_levels (expr_view operand.now)) }
     ensures { OnOk result (code.new ≡
         conversion_code scope.now depth (type_view ty.now) (expr_view operand.now) code.old) }
 {
@@ -255,7 +255,7 @@ pub fn place(
     e: &TExpr,
     plus: u64,
 ) -> Result<(), AllocError>
-    requires levels { HasLevels scope.now depth (levels (expr_view e.now)) }
+    requires levels { HasLevels scope.now depth (register_levels (expr_view e.now)) }
     requires plus { plus < 2 ^ 63 }
     ensures { OnOk result (code.new ≡ place_code scope.now depth (expr_view e.now) plus code.old) }
 {

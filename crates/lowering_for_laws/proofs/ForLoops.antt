@@ -24,7 +24,7 @@ use Rattle.lowering_states.proofs.Steps.{meets_same, fall, jump, no_turn, turnin
 use Rattle.lowering_states.proofs.States.{after_on}
 use Rattle.lowering_expression_places.specs.Behind.{Somewhere}
 use Rattle.lowering_expression_places.proofs.Behind.{at_start}
-use Rattle.lowering_expression_laws.specs.Parts.{Setting, count, EndsSo, Stands, Fit, Aft}
+use Rattle.lowering_expression_laws.specs.Parts.{Setting, first_depth, EndsSo, Stands, Fit, Aft}
 use Rattle.lowering_expression_laws.proofs.Forms.{bound}
 use Rattle.lowering_expression_laws.proofs.Choices.{at_block}
 use Rattle.lowering_statement_laws.specs.Parts.{IsApart, Onward, StmtMeets}
@@ -37,14 +37,14 @@ use Rattle.lowering_for_laws.proofs.Pieces.{left_condition, left_step, step_lead
 module _ (c : Setting) (levels : LevelMeanings) (found : slice_get c.functions c.number ≡ Some c.code) (are : AreLevels c levels) (test step : Option Expr) (body : Stmt)
     (ht : (k : ℕ) → ConditionMeets (at_level c levels k) test) (hs : (k : ℕ) → StepMeets (at_level c levels k) step) (hb : (k : ℕ) → StmtMeets (at_level c levels k) (levels.statements k) body) where
   abbrev L : ℕ
-  L = count c
+  L = first_depth c
 
   abbrev loop : Stmt
   loop = For q.Nothing test step body
 
   -- what the loop does behind its body
   abbrev again_run : ℕ → Scope → Run StatementFlow
-  again_run k scope = executes.step c.structs c.locals (levels.functions k) scope step >> levels.statements k scope loop
+  again_run k scope = executes.loop_step c.structs c.locals (levels.functions k) scope step >> levels.statements k scope loop
 
   -- what it does from its mark on
   abbrev round_run : ℕ → Scope → Run StatementFlow
@@ -52,7 +52,7 @@ module _ (c : Setting) (levels : LevelMeanings) (found : slice_get c.functions c
 
   -- what it does from its condition on
   abbrev loop_run : ℕ → Scope → Run StatementFlow
-  loop_run k scope = executes.condition c.structs c.locals (levels.functions k) scope test >>= choose (round_run k scope) (pure Goes)
+  loop_run k scope = executes.loop_condition c.structs c.locals (levels.functions k) scope test >>= choose (round_run k scope) (pure Goes)
 
   -- what follows, from a later state
   onward_on : {scope : Scope} {f g : Names} {s t : CallState} {m m1 : Memory} {K : StatementFlow → CallState → CodeObservation} {heads : List ℕ} {rest : List CodeItem} {brk con : ℕ} → Aft c f s m g t m1 → Onward c scope f s m K heads rest brk con → Onward c scope g t m1 K heads rest brk con

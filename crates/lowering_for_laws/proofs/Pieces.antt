@@ -8,7 +8,7 @@ use Rattle.c_semantics.specs.Runs.{CallState, Run, and_then, pure}
 use Rattle.c_semantics.specs.Objects.{Scope}
 use Rattle.c_semantics.specs.Operators.{test}
 use Rattle.c_semantics.specs.Evaluates.{eval, choose}
-use Rattle.c_semantics.specs.Executes.{StatementFlow, Goes, condition, step}
+use Rattle.c_semantics.specs.Executes.{StatementFlow, Goes, loop_condition, loop_step}
 use Rattle.suifvm_ir.specs.declared.insn.VmBranchOp.TheVariants.{IfTrue}
 use Rattle.vm_meaning.specs.Operations as vm
 use Rattle.vm_meaning.specs.Behave.{Registers}
@@ -21,7 +21,7 @@ use Rattle.lowering_states.specs.Runs.{opens, CodeObservation, finish}
 use Rattle.lowering_states.proofs.Steps.{fall, jump, branch_taken, branch_passed}
 use Rattle.lowering_states.proofs.States.{after_same}
 use Rattle.lowering_expression_places.proofs.Behind.{at_start, left_expr}
-use Rattle.lowering_expression_laws.specs.Parts.{Setting, count, EndsSo, Stands, Fit, Aft}
+use Rattle.lowering_expression_laws.specs.Parts.{Setting, first_depth, EndsSo, Stands, Fit, Aft}
 use Rattle.lowering_expression_laws.specs.Laws.{IsScalarType}
 use Rattle.lowering_expression_laws.proofs.Forms.{bound}
 use Rattle.lowering_expression_laws.proofs.Choices.{holds_there, test_meets}
@@ -34,27 +34,27 @@ module _ (c : Setting) where
   Begins heads is = (block : ℕ) × Stands c heads (start_of_block block) is
 
   -- the condition closes the loop
-  pub left_condition : (x : Option Expr) (head : ℕ) (heads : List ℕ) (rest : List CodeItem) → Begins (head ∷ heads) (test_code (count c) c.structs c.locals x rest) → Begins heads rest
+  pub left_condition : (x : Option Expr) (head : ℕ) (heads : List ℕ) (rest : List CodeItem) → Begins (head ∷ heads) (test_code (first_depth c) c.structs c.locals x rest) → Begins heads rest
   left_condition None head heads rest h = (suc h.0, at_repeat c.code.blocks c.last c.end h.1)
   left_condition (Some x) head heads rest h =
-      let a = left_expr c.code.blocks c.last c.end (count c) c.structs c.locals x 0 (head ∷ heads) _ (record { place = start_of_block h.0; at = h.1 }) in
+      let a = left_expr c.code.blocks c.last c.end (first_depth c) c.structs c.locals x 0 (head ∷ heads) _ (record { place = start_of_block h.0; at = h.1 }) in
       (suc a.place.block, at_again c.code.blocks c.last c.end _ _ a.at)
 
-  pub left_step : (x : Option Expr) (heads : List ℕ) (rest : List CodeItem) → Begins heads (after_code (count c) c.structs c.locals x rest) → Begins heads rest
+  pub left_step : (x : Option Expr) (heads : List ℕ) (rest : List CodeItem) → Begins heads (after_code (first_depth c) c.structs c.locals x rest) → Begins heads rest
   left_step None heads rest h = h
   left_step (Some x) heads rest h =
-      let a = left_expr c.code.blocks c.last c.end (count c) c.structs c.locals x 0 heads _ (record { place = start_of_block h.0; at = h.1 }) in
+      let a = left_expr c.code.blocks c.last c.end (first_depth c) c.structs c.locals x 0 heads _ (record { place = start_of_block h.0; at = h.1 }) in
       (suc a.place.block, at_start c.code.blocks c.last c.end a.at)
 
 module _ (c : Setting) (found : slice_get c.functions c.number ≡ Some c.code) where
   abbrev L : ℕ
-  L = count c
+  L = first_depth c
 
   -- the step of a loop, and what comes behind it
   pub step_leads : (x : Option Expr) → StepMeets c x → (go : Run StatementFlow) (items : List CodeItem) (heads : List ℕ) (f : Names) (scope : Scope) (r : Registers) (s : CallState) (m : Memory) (K : StatementFlow → CallState → CodeObservation)
       → ((q : CodePlace) (g : Names) (t : CallState) (r1 : Registers) (m1 : Memory) → Stands c heads q items → Aft c f s m g t m1 → Fit c g scope r1 t m1 → EndsSo c (finish (go t) K) q r1 t.world m1)
       → (q : CodePlace) → Stands c heads q (after_code L c.structs c.locals x items) → Fit c f scope r s m → s.world.meter.turns ≤ c.level
-      → EndsSo c (finish (and_then (step c.structs c.locals c.calls scope x s) (λ _. go)) K) q r s.world m
+      → EndsSo c (finish (and_then (loop_step c.structs c.locals c.calls scope x s) (λ _. go)) K) q r s.world m
   unfolding opens
   step_leads None hx go items heads f scope r s m K next q at fit low = next q f s r m at after_same fit
   step_leads (Some x) hx go items heads f scope r s m K next q at fit low =
@@ -80,7 +80,7 @@ module _ (c : Setting) (found : slice_get c.functions c.number ≡ Some c.code) 
         (on_true g t r1 m1 aft fit)
 
     pub condition_leads : (x : Option Expr) → ConditionMeets c x → (q : CodePlace) → Stands c (head ∷ heads) q (test_code L c.structs c.locals x rest) → Fit c f scope r s m → s.world.meter.turns ≤ c.level
-        → EndsSo c (finish (and_then (condition c.structs c.locals c.calls scope x s) (choose go (pure Goes))) K) q r s.world m
+        → EndsSo c (finish (and_then (loop_condition c.structs c.locals c.calls scope x s) (choose go (pure Goes))) K) q r s.world m
     unfolding opens
     condition_leads None hx q at fit low = jump c.rooms c.functions c.number c.code found c.own c.waiting head q r s.world m at.has.0 (on_true f s r m after_same fit)
     condition_leads (Some x) hx q at fit low =

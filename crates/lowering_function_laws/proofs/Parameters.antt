@@ -35,7 +35,7 @@ use Rattle.lowering_states.specs.States.{IsHeld, type_at}
 use Rattle.lowering_states.proofs.Steps.{meets_same}
 use Rattle.lowering_states.proofs.States.{ne_eqb, set_same, set_other, after_on, fits_temporary, fits_local}
 use Rattle.lowering_expression_places.proofs.Behind.{at_plain}
-use Rattle.lowering_expression_laws.specs.Parts.{Setting, count, EndsSo, Stands, Fit, Aft}
+use Rattle.lowering_expression_laws.specs.Parts.{Setting, first_depth, EndsSo, Stands, Fit, Aft}
 use Rattle.lowering_expression_laws.specs.Laws.{IsScalarType}
 use Rattle.lowering_expression_laws.proofs.Forms.{bound}
 use Rattle.lowering_place_laws.proofs.Places.{byte_of, address_meets, address_of}
@@ -63,7 +63,7 @@ set_back r k j = elim (cases_eq j k) [
 
 module _ (c : Setting) (found : slice_get c.functions c.number ≡ Some c.code) where
   abbrev L : ℕ
-  L = count c
+  L = first_depth c
 
   -- a parameter has its argument in its register
   fits_argument : {f : Names} {scope : Scope} {r : Registers} {m : Memory} (s : CallState) (k : ℕ) (v : Value) → IsValueOf f v (r k) → IsHeld (type_at (slice_get c.locals k)) v → Fit c f scope r s m

@@ -26,7 +26,7 @@ use Rattle.lowering_code.specs.Statements as code
 use Rattle.lowering_code.specs.Statements.{Target}
 use Rattle.lowering_code.specs.Functions as f
 use Rattle.c_typed_tree.specs.declared.units.TypedFn.{TypedFn}
-use Rattle.lowering_expressions.specs.Levels.{levels}
+use Rattle.lowering_expressions.specs.Levels.{register_levels}
 use Rattle.lowering_statements.specs.Levels.{optional_levels, declared_levels, locals_levels, first_levels, stmt_levels, stmts_levels, sections_levels}
 use Rattle.lowering_layout.specs.Good.{IsGood}
 use Rattle.lowering_functions.specs.Parts.{locals_parts, first_parts, stmt_parts, stmts_parts, sections_parts}
@@ -44,7 +44,7 @@ module _ (most locals : ℕ) (ds : List StructDef) (ls : List Local) (same : len
   abbrev same_code : (n : ℕ) (rest : List CodeItem) → E n rest rest
   same_code n rest = m.at_most most 0 n rest rest (omega arith) (m.none most rest)
 
-  value_emits : (y : Expr) (rest : List CodeItem) → Has most locals 0 (levels y) → E (16 * expr_nodes y) rest (code.value_code locals ds ls y rest)
+  value_emits : (y : Expr) (rest : List CodeItem) → Has most locals 0 (register_levels y) → E (16 * expr_nodes y) rest (code.value_code locals ds ls y rest)
   value_emits y rest h = expr_emits most locals ds ls same 0 y rest h
 
   -- ---- values come into locals
@@ -97,7 +97,7 @@ module _ (most locals : ℕ) (ds : List StructDef) (ls : List Local) (same : len
     grows : block_total rest ≤ block_total is
     size : length is ≤ k + length rest
 
-  again_closes : (y : Expr) (rest : List CodeItem) → Has most locals 0 (max 5 (levels y)) → Closes (16 * expr_nodes y + 1) rest (code.again_code locals ds ls y rest)
+  again_closes : (y : Expr) (rest : List CodeItem) → Has most locals 0 (max 5 (register_levels y)) → Closes (16 * expr_nodes y + 1) rest (code.again_code locals ds ls y rest)
   again_closes y rest h =
       let over : List CodeItem = Again (register_type (type_of y)) (value_register locals 0 (type_of y)) ∷ rest in
       let e : E (16 * expr_nodes y) over (code.value_code locals ds ls y over) = value_emits y over (omega (arith, h)) in
@@ -188,8 +188,8 @@ module _ (most locals : ℕ) (ds : List StructDef) (ls : List Local) (same : len
 
   -- ---- statements
 
-  if_emits : (i j k : ℕ) (rest : List CodeItem) (condition : Expr) (over body : List CodeItem) (name : ℕ) → Has most locals 0 (max 5 (levels condition)) → E j rest over → E k over body → name ≤ block_total over
-      → E (16 * expr_nodes condition + (1 + (k + j))) rest (code.value_code locals ds ls condition (x.branch_code locals IfFalse 0 (type_of condition) name body))
+  if_emits : (i j k : ℕ) (rest : List CodeItem) (condition : Expr) (over body : List CodeItem) (name : ℕ) → Has most locals 0 (max 5 (register_levels condition)) → E j rest over → E k over body → name ≤ block_total over
+      → E (16 * expr_nodes condition + (1 + (k + j))) rest (code.value_code locals ds ls condition (x.branch_by_value_code locals IfFalse 0 (type_of condition) name body))
   if_emits i j k rest condition over body name h a e le =
       m.joins most (16 * expr_nodes condition) (1 + (k + j)) rest _ _ (value_emits condition _ (omega (arith, h)))
       (m.joins most 1 (k + j) rest body _ (m.branch_emits most locals IfFalse 0 (type_of condition) name body (omega (arith, h)) (omega (arith, le, e.grows)))

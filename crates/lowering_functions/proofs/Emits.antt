@@ -168,7 +168,7 @@ module _ (most : ℕ) where
         joins 1 1 rest _ _ (constant_emits (suc d) operand 0 _ (omega (arith, h)))
         (plain _ rest (refl, refl) (omega (arith, value_there d ty (omega (arith, h)), value_there d operand (omega (arith, h)), value_there (suc d) operand (omega (arith, h)))))
 
-    pub branch_emits : (op : VmBranchOp) (d : ℕ) (ty : PlainType) (name : ℕ) (rest : List CodeItem) → Has locals d 1 → name ≤ block_total rest → Emits 1 rest (code.branch_code locals op d ty name rest)
+    pub branch_emits : (op : VmBranchOp) (d : ℕ) (ty : PlainType) (name : ℕ) (rest : List CodeItem) → Has locals d 1 → name ≤ block_total rest → Emits 1 rest (code.branch_by_value_code locals op d ty name rest)
     branch_emits op d ty name rest h k = branch op _ _ name rest (value_there d ty h) k
 
     -- ---- operators

@@ -23,7 +23,7 @@ use Rattle.lowering_code.specs.declared.item.CodeItem.TheVariants.{Start, Jump}
 use Rattle.lowering_code.specs.Items.{block_total}
 use Rattle.lowering_code.specs.Registers.{object_index}
 use Rattle.lowering_code.specs.Expressions as code
-use Rattle.lowering_expressions.specs.Levels.{levels, levels_above, levels_of_each}
+use Rattle.lowering_expressions.specs.Levels.{register_levels, levels_above, levels_of_each}
 use Rattle.lowering_expressions.proofs.Depths.{own_levels}
 use Rattle.lowering_layout.specs.Tops.{registers_top}
 use Rattle.lowering_functions.proofs.Emits as m
@@ -87,32 +87,32 @@ module _ (most locals : ℕ) (ds : List StructDef) (ls : List Local) (same : len
   decides_emits : (op : _) (d : ℕ) (ty tx ty' : PlainType) (word other : ℕ) (j k : ℕ) (fx fy : List CodeItem → List CodeItem)
       → ((is : List CodeItem) → Emits most j is (fx is)) → ((is : List CodeItem) → Emits most k is (fy is)) → (rest : List CodeItem) → Has most locals d 1
       → Emits most (j + (k + 6)) rest
-      (fx (code.branch_code locals op d tx (block_total (code.constant_code locals d ty word (Start ∷ rest)))
-      (fy (code.branch_code locals op d ty' (block_total (code.constant_code locals d ty word (Start ∷ rest)))
+      (fx (code.branch_by_value_code locals op d tx (block_total (code.constant_code locals d ty word (Start ∷ rest)))
+      (fy (code.branch_by_value_code locals op d ty' (block_total (code.constant_code locals d ty word (Start ∷ rest)))
       (code.constant_code locals d ty other (Jump (block_total rest) ∷ code.constant_code locals d ty word (Start ∷ rest)))))))
   decides_emits op d ty tx ty' word other j k fx fy ex ey rest h =
       let fails : List CodeItem = code.constant_code locals d ty word (Start ∷ rest) in
       let last : List CodeItem = code.constant_code locals d ty other (Jump (block_total rest) ∷ fails) in
-      let second : List CodeItem = code.branch_code locals op d ty' (block_total fails) last in
+      let second : List CodeItem = code.branch_by_value_code locals op d ty' (block_total fails) last in
       let f : Emits most 2 rest fails = m.joins most 1 1 rest (Start ∷ rest) fails (m.constant_emits most locals d ty word (Start ∷ rest) h) (m.start most rest) in
       let g : Emits most 4 rest last = m.joins most 1 3 rest (Jump (block_total rest) ∷ fails) last (m.constant_emits most locals d ty other (Jump (block_total rest) ∷ fails) h) (m.joins most 1 2 rest fails (Jump (block_total rest) ∷ fails) (m.jump most (block_total rest) fails (f.grows)) f) in
       let b : Emits most 5 rest second = m.joins most 1 4 rest last second (m.branch_emits most locals op d ty' (block_total fails) last h (omega arith)) g in
       let c : Emits most (k + 5) rest (fy second) = m.joins most k 5 rest second (fy second) (ey second) b in
-      let first : List CodeItem = code.branch_code locals op d tx (block_total fails) (fy second) in
+      let first : List CodeItem = code.branch_by_value_code locals op d tx (block_total fails) (fy second) in
       let a : Emits most 1 (fy second) first = m.branch_emits most locals op d tx (block_total fails) (fy second) h (omega (arith, (ey second).grows)) in
       next j (1 + (k + 5)) (j + (k + 6)) rest first (fx first) (omega arith) (ex first) (m.joins most 1 (k + 5) rest (fy second) first a c)
 
   choice_emits : (d : ℕ) (tx : PlainType) (i j k : ℕ) (fx fy fz : List CodeItem → List CodeItem)
       → ((is : List CodeItem) → Emits most i is (fx is)) → ((is : List CodeItem) → Emits most j is (fy is)) → ((is : List CodeItem) → Emits most k is (fz is))
       → (rest : List CodeItem) → Has most locals d 1
-      → Emits most (i + (j + (k + 3))) rest (fx (code.branch_code locals IfFalse d tx (block_total (fz (Start ∷ rest))) (fy (Jump (block_total rest) ∷ fz (Start ∷ rest)))))
+      → Emits most (i + (j + (k + 3))) rest (fx (code.branch_by_value_code locals IfFalse d tx (block_total (fz (Start ∷ rest))) (fy (Jump (block_total rest) ∷ fz (Start ∷ rest)))))
   choice_emits d tx i j k fx fy fz ex ey ez rest h =
       let fails : List CodeItem = fz (Start ∷ rest) in
       let f : Emits most (k + 1) rest fails = m.joins most k 1 rest (Start ∷ rest) fails (ez (Start ∷ rest)) (m.start most rest) in
       let over : List CodeItem = Jump (block_total rest) ∷ fails in
       let g : Emits most (1 + (k + 1)) rest over = m.joins most 1 (k + 1) rest fails over (m.jump most (block_total rest) fails (f.grows)) f in
       let c : Emits most (j + (1 + (k + 1))) rest (fy over) = m.joins most j (1 + (k + 1)) rest over (fy over) (ey over) g in
-      let first : List CodeItem = code.branch_code locals IfFalse d tx (block_total fails) (fy over) in
+      let first : List CodeItem = code.branch_by_value_code locals IfFalse d tx (block_total fails) (fy over) in
       let a : Emits most 1 (fy over) first = m.branch_emits most locals IfFalse d tx (block_total fails) (fy over) h (omega (arith, (ey over).grows)) in
       next i (1 + (j + (1 + (k + 1)))) (i + (j + (k + 3))) rest first (fx first) (omega arith) (ex first) (m.joins most 1 (j + (1 + (k + 1))) rest (fy over) first a c)
 
@@ -169,7 +169,7 @@ module _ (most locals : ℕ) (ds : List StructDef) (ls : List Local) (same : len
   conversion_emits d (Struct number) to plus j place value ep ev rest h = next j 1 (j + 2) rest _ _ (omega arith) (ev _) (m.converted_emits most locals d (Struct number) to rest h)
 
   mutual
-    pub expr_emits : (d : ℕ) (x : Expr) (rest : List CodeItem) → Has most locals d (levels x) → E (16 * expr_nodes x) rest (xcode d x rest)
+    pub expr_emits : (d : ℕ) (x : Expr) (rest : List CodeItem) → Has most locals d (register_levels x) → E (16 * expr_nodes x) rest (xcode d x rest)
     expr_emits d (Number ty word) rest h = m.at_most most 1 16 rest _ (omega arith) (m.constant_emits most locals d ty word rest (omega (arith, h)))
     expr_emits d (e.Local ty k) rest h = m.at_most most 3 16 rest _ (omega arith) (local_emits d ty k rest (omega (arith, h)))
     expr_emits d (Global ty k) rest h =
@@ -244,7 +244,7 @@ module _ (most locals : ℕ) (ds : List StructDef) (ls : List Local) (same : len
         m.at_most most (16 * expr_nodes x + 10) _ rest _ (omega arith) (changed_emits op true d ty x (16 * expr_nodes x) (λ is. place_emits d x 0 is (omega (arith, h))) rest (omega (arith, h)))
     expr_emits d (Comma ty xs) rest h = m.at_most most (16 * exprs_nodes xs) _ rest _ (omega arith) (commas_emits d xs rest (omega (arith, h)))
 
-    pub place_emits : (d : ℕ) (x : Expr) (plus : ℕ) (rest : List CodeItem) → Has most locals d (levels x) → E (16 * expr_nodes x) rest (code.place_code locals ds ls d x plus rest)
+    pub place_emits : (d : ℕ) (x : Expr) (plus : ℕ) (rest : List CodeItem) → Has most locals d (register_levels x) → E (16 * expr_nodes x) rest (code.place_code locals ds ls d x plus rest)
     place_emits d (e.Local ty k) plus rest h = m.at_most most 1 16 rest _ (omega arith) (m.address_emits most locals d (p.Local (object_index ls k)) plus rest (omega (arith, h)))
     place_emits d (Global ty k) plus rest h = m.at_most most 1 16 rest _ (omega arith) (m.address_emits most locals d (p.Global k) plus rest (omega (arith, h)))
     place_emits d (Unary ty u.Dereference x) plus rest h = m.at_most most (16 * expr_nodes x) _ rest _ (omega arith) (expr_emits d x rest (omega (arith, h)))

@@ -14,7 +14,7 @@ ghost use Rattle.lowering_code.specs.Items.{block_total};
 ghost use Rattle.lowering_code.specs.Expressions.{expr_code};
 ghost use Rattle.lowering_code.specs.Statements.{stmt_code};
 ghost use Rattle.lowering_code.specs.Functions.{items_of};
-ghost use Rattle.lowering_expressions.specs.Levels.{levels};
+ghost use Rattle.lowering_expressions.specs.Levels.{register_levels};
 ghost use Rattle.lowering_statements.specs.Levels.{stmt_levels};
 ghost use Rattle.lowering_layout.specs.Good.{IsGood};
 ghost use Rattle.lowering_functions.specs.Parts.{stmt_parts};
@@ -22,10 +22,10 @@ ghost use Rattle.lowering_functions.specs.Parts.{stmt_parts};
 /// Of an expression, in front of good code, where registers are enough.
 pub fn expressions_are_good()
     ensures good { (most locals depth loops : ℕ) (ds : List StructDef) (ls : List Local) (x : Expr)
-        (rest : List CodeItem) → length ls ≡ locals → locals + 5 * (depth + levels x) ≤ most → IsGood most loops rest →
-        IsGood most loops (expr_code locals ds ls depth x rest) }
+        (rest : List CodeItem) → length ls ≡ locals → locals + 5 * (depth + register_levels x) ≤ most →
+        IsGood most loops rest → IsGood most loops (expr_code locals ds ls depth x rest) }
     ensures size { (most locals depth : ℕ) (ds : List StructDef) (ls : List Local) (x : Expr) (rest : List CodeItem) →
-        length ls ≡ locals → locals + 5 * (depth + levels x) ≤ most →
+        length ls ≡ locals → locals + 5 * (depth + register_levels x) ≤ most →
         length (expr_code locals ds ls depth x rest) ≤ 16 * expr_nodes x + length rest }
 {}
 

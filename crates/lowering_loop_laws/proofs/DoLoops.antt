@@ -26,7 +26,7 @@ use Rattle.lowering_states.proofs.Steps.{meets_same, fall, branch_taken, branch_
 use Rattle.lowering_states.proofs.States.{after_on}
 use Rattle.lowering_expression_places.specs.Behind.{Somewhere}
 use Rattle.lowering_expression_places.proofs.Behind.{at_start, left_expr}
-use Rattle.lowering_expression_laws.specs.Parts.{Setting, count, EndsSo, Stands, Fit, Aft, ExprMeets}
+use Rattle.lowering_expression_laws.specs.Parts.{Setting, first_depth, EndsSo, Stands, Fit, Aft, ExprMeets}
 use Rattle.lowering_expression_laws.specs.Laws.{IsScalarType}
 use Rattle.lowering_expression_laws.proofs.Forms.{bound}
 use Rattle.lowering_expression_laws.proofs.Choices.{holds_there, test_meets, at_block}
@@ -38,7 +38,7 @@ use Rattle.lowering_loop_laws.specs.Laws.{LevelMeanings, at_level, AreLevels, Do
 module _ (c : Setting) (levels : LevelMeanings) (found : slice_get c.functions c.number ≡ Some c.code) (are : AreLevels c levels) (x : Expr) (body : Stmt) (scalar : IsScalarType (type_of x))
     (hx : (k : ℕ) → ExprMeets (at_level c levels k) x) (hb : (k : ℕ) → StmtMeets (at_level c levels k) (levels.statements k) body) where
   abbrev L : ℕ
-  L = count c
+  L = first_depth c
 
   abbrev loop_run : ℕ → Scope → Run StatementFlow
   loop_run k scope = exec c.structs c.locals (levels.functions k) (levels.statements k) scope (Do body x)

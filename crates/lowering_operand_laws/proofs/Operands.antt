@@ -22,7 +22,7 @@ use Rattle.c_semantics.specs.Reasons.{UsesNoValue}
 use Rattle.c_semantics.specs.Runs.{CallState, Run, and_then}
 use Rattle.c_semantics.specs.Objects.{Scope}
 use Rattle.c_semantics.specs.Operators.{test, pure_truth, convert}
-use Rattle.c_semantics.specs.Evaluates.{eval, place, choose, last_of, converted_from}
+use Rattle.c_semantics.specs.Evaluates.{eval, place, choose, value_of_last, converted_from}
 use Rattle.suifvm_ir.specs.declared.insn.CompareOp.TheVariants.{Equal}
 use Rattle.suifvm_ir.specs.declared.insn.VmInsn.TheVariants as n
 use Rattle.vm_meaning.specs.declared.answer.Answer.TheVariants.{Gives, Fails}
@@ -40,7 +40,7 @@ use Rattle.lowering_states.proofs.States.{set_same, set_other, other_depth, kept
 use Rattle.lowering_values.proofs.Integers.{register-promoted, promoted_word, word_is}
 use Rattle.lowering_values.proofs.Operators.{word_true, compare_is}
 use Rattle.lowering_expression_places.proofs.Behind.{at_plain}
-use Rattle.lowering_expression_laws.specs.Parts.{Setting, count, EndsSo, Stands, Fit, Follows, ExprMeets}
+use Rattle.lowering_expression_laws.specs.Parts.{Setting, first_depth, EndsSo, Stands, Fit, Follows, ExprMeets}
 use Rattle.lowering_expression_laws.specs.Laws.{IsScalarType}
 use Rattle.lowering_expression_laws.proofs.Forms.{held_word, word_held, value_of_word, insn_on, bound}
 use Rattle.lowering_expression_laws.proofs.Choices.{TestIs, test_meets}
@@ -118,7 +118,7 @@ held_pointer t o Unset h = h
 
 module _ (c : Setting) (found : slice_get c.functions c.number ≡ Some c.code) where
   abbrev L : ℕ
-  L = count c
+  L = first_depth c
 
   abbrev T : PlainType
   T = plain_of i.Int
@@ -127,12 +127,12 @@ module _ (c : Setting) (found : slice_get c.functions c.number ≡ Some c.code) 
 
   commas_on : (x : Expr) (xs : Exprs) → ExprMeets c x → AllOperandsMeet c xs → (d : ℕ) (rest : List CodeItem) (heads : List ℕ) (p : CodePlace) (f : Names) (scope : Scope) (r : Registers) (s : CallState) (m : Memory) (K : Value → CallState → CodeObservation)
       → Stands c heads p (expr_code L c.structs c.locals d x (commas_code L c.structs c.locals d xs rest)) → Fit c f scope r s m → s.world.meter.turns ≤ c.level → Follows c d (last_type x xs) heads rest f scope r s m K
-      → EndsSo c (finish (last_of c.structs c.locals c.calls scope (eval c.structs c.locals c.calls scope x) xs s) K) p r s.world m
+      → EndsSo c (finish (value_of_last c.structs c.locals c.calls scope (eval c.structs c.locals c.calls scope x) xs s) K) p r s.world m
   unfolding opens
   commas_on x no_exprs hx all d rest heads p f scope r s m K at fit low next = hx.by d rest heads p f scope r s m K at fit low next
   commas_on x (more_exprs y ys) hx all d rest heads p f scope r s m K at fit low next =
-      bound c found (eval c.structs c.locals c.calls scope x s) (λ _. last_of c.structs c.locals c.calls scope (eval c.structs c.locals c.calls scope y) ys) K p r s.world m
-      (hx.by d (commas_code L c.structs c.locals d (more_exprs y ys) rest) heads p f scope r s m (λ _ t. finish (last_of c.structs c.locals c.calls scope (eval c.structs c.locals c.calls scope y) ys t) K) at fit low
+      bound c found (eval c.structs c.locals c.calls scope x s) (λ _. value_of_last c.structs c.locals c.calls scope (eval c.structs c.locals c.calls scope y) ys) K p r s.world m
+      (hx.by d (commas_code L c.structs c.locals d (more_exprs y ys) rest) heads p f scope r s m (λ _ t. finish (value_of_last c.structs c.locals c.calls scope (eval c.structs c.locals c.calls scope y) ys t) K) at fit low
       (λ q v g t q1 m1 at1 aft fit1 kept held stands.
       commas_on y ys all.0 all.1 d rest heads q g scope q1 t m1 K at1 fit1 (omega (arith, aft.turned, low))
       (λ q2 w h u q3 m2 at2 aft2 fit2 kept2 held2 stands2. next q2 w h u q3 m2 at2 (after_on aft aft2) fit2 (kept_on (omega arith) kept kept2) held2 stands2)))

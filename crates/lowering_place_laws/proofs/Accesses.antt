@@ -47,7 +47,7 @@ use Rattle.lowering_values.specs.Laws.{IsMoved, load_result}
 use Rattle.lowering_values.proofs.Integers.{memory-plain, integer_of-plain}
 use Rattle.lowering_values.proofs.Accesses.{memories_correspond}
 use Rattle.lowering_expression_places.proofs.Behind.{at_plain}
-use Rattle.lowering_expression_laws.specs.Parts.{Setting, count, EndsSo, Stands, Fit, Aft, Follows, ExprMeets}
+use Rattle.lowering_expression_laws.specs.Parts.{Setting, first_depth, EndsSo, Stands, Fit, Aft, Follows, ExprMeets}
 use Rattle.lowering_expression_laws.proofs.Forms.{held_word, insn_on, bound}
 use Rattle.lowering_place_laws.specs.Places.{left_of, PlaceMeets}
 use Rattle.lowering_place_laws.specs.Laws.{MemberIsWithin, HasWholeIntegers}
@@ -112,7 +112,7 @@ some i.UnsignedLong = omega arith
 
 module _ (c : Setting) (found : slice_get c.functions c.number ≡ Some c.code) where
   abbrev L : ℕ
-  L = count c
+  L = first_depth c
 
   -- the pointer is moved by the bytes that are left
   pub moved_on : {o : CodeObservation} (d left : ℕ) (rest : List CodeItem) (heads : List ℕ) (scope : Scope) (r : Registers) (q : CodePlace) (base at : Value) (g : Names) (t : CallState) (q1 : Registers) (m1 : Memory) → Stands c heads q (moved_code L d left rest)

@@ -37,7 +37,7 @@ use Rattle.lowering_states.proofs.Steps.{meets_same, used_meets, known_meets}
 use Rattle.lowering_states.proofs.States.{kept_all, kept_temporary, value_at, after_same, fits_temporary}
 use Rattle.lowering_values.specs.Laws.{IsMoved}
 use Rattle.lowering_expression_places.proofs.Behind.{at_plain}
-use Rattle.lowering_expression_laws.specs.Parts.{Setting, count, EndsSo, Stands, ExprMeets}
+use Rattle.lowering_expression_laws.specs.Parts.{Setting, first_depth, EndsSo, Stands, ExprMeets}
 use Rattle.lowering_expression_laws.proofs.Forms.{insn_on, bound}
 use Rattle.lowering_place_laws.specs.Places.{IsBase, left_of, PlaceMeets}
 use Rattle.lowering_place_laws.specs.Laws.{MemberIsWithin}
@@ -101,7 +101,7 @@ long_word n le = omega (arith, le)
 
 module _ (c : Setting) (found : slice_get c.functions c.number ≡ Some c.code) where
   abbrev L : ℕ
-  L = count c
+  L = first_depth c
 
   -- the address of an object comes into the register of pointers at a depth
   pub address_meets : {o : CodeObservation} (d : ℕ) (to : vp.VmObject) (plus : ℕ) (rest : List CodeItem) (heads : List ℕ) (q : CodePlace) (r : Registers) (w : World) (m : Memory) → Stands c heads q (address_code L d to plus rest)

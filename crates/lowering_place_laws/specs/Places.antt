@@ -19,7 +19,7 @@ use Rattle.lowering_states.specs.Places.{CodePlace}
 use Rattle.lowering_states.specs.Runs.{CodeObservation, finish}
 use Rattle.lowering_states.specs.States.{IsHeld, KeepsLower}
 use Rattle.lowering_values.specs.Laws.{IsMoved}
-use Rattle.lowering_expression_laws.specs.Parts.{Setting, count, EndsSo, Stands, Fit, Aft}
+use Rattle.lowering_expression_laws.specs.Parts.{Setting, first_depth, EndsSo, Stands, Fit, Aft}
 
 -- the base moved by the bytes that are left is where the place is, moved by so many more
 abbrev pub IsBase : Memory → (base : Value) → (left : ℕ) → (at : Value) → (plus : ℕ) → Type 0
@@ -28,7 +28,7 @@ IsBase m base left at plus = (u : Value) → IsMoved m at plus u → IsMoved m b
 module _ (c : Setting) where
   -- how many bytes are left
   abbrev pub left_of : Expr → (plus : ℕ) → ℕ
-  left_of x plus = plus_of (count c) c.structs c.locals x plus
+  left_of x plus = plus_of (first_depth c) c.structs c.locals x plus
 
   -- what follows a place in memory whose code gave a pointer at a depth
   abbrev pub PlaceFollows : (depth plus : ℕ) → Expr → (heads : List ℕ) → (rest : List CodeItem) → Names → Scope
@@ -36,8 +36,8 @@ module _ (c : Setting) where
   PlaceFollows d plus x heads rest f scope r s n K =
       (q : CodePlace) (base at : Value) (g : Names) (t : CallState) (q1 : Registers) (m : Memory) →
       Stands c heads q rest
-      → Aft c f s n g t m → Fit c g scope q1 t m → KeepsLower (count c) d r q1 → IsHeld (Pointer Void) at
-      → IsValueOf g base (q1 (address_register (count c) d)) → left_of x plus ≤ MOST_DATA
+      → Aft c f s n g t m → Fit c g scope q1 t m → KeepsLower (first_depth c) d r q1 → IsHeld (Pointer Void) at
+      → IsValueOf g base (q1 (address_register (first_depth c) d)) → left_of x plus ≤ MOST_DATA
       → IsBase t.world.outer.memory base (left_of x plus) at plus → EndsSo c (K (objects.At at) t) q q1 t.world m
 
   -- the place is to be moved by no more bytes than it has
@@ -46,6 +46,6 @@ module _ (c : Setting) where
         (r : Registers)
         (s : CallState) (n : Memory) (K : objects.ValuePlace → CallState → CodeObservation) → plus ≤ MOST_DATA
         → plus ≤ size_of c.structs (type_of x) →
-        Stands c heads p (place_code (count c) c.structs c.locals d x plus rest) → Fit c f scope r s n
+        Stands c heads p (place_code (first_depth c) c.structs c.locals d x plus rest) → Fit c f scope r s n
         → s.world.meter.turns ≤ c.level → PlaceFollows d plus x heads rest f scope r s n K
         → EndsSo c (finish (place c.structs c.locals c.calls scope x s) K) p r s.world n

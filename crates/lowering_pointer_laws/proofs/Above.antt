@@ -38,7 +38,7 @@ use Rattle.lowering_states.specs.States.{IsInRegister, KeepsLower}
 use Rattle.lowering_states.proofs.Steps.{meets_same, number_meets, known_meets}
 use Rattle.lowering_states.proofs.States.{kept_on, kept_reads, kept_temporary, after_on, value_at, fits_temporary}
 use Rattle.lowering_expression_places.proofs.Behind.{at_plain}
-use Rattle.lowering_expression_laws.specs.Parts.{Setting, count, EndsSo, Stands, Fit, Follows, ExprMeets}
+use Rattle.lowering_expression_laws.specs.Parts.{Setting, first_depth, EndsSo, Stands, Fit, Follows, ExprMeets}
 use Rattle.lowering_expression_laws.proofs.Forms.{WordIn, word_in, insn_on, bound}
 use Rattle.lowering_place_laws.specs.Places.{PlaceMeets}
 use Rattle.lowering_place_laws.specs.Laws.{HasWholeIntegers}
@@ -95,17 +95,17 @@ element_code_by L ds d target i.UnsignedLong rest = refl
 module _ (c : Setting) (found : slice_get c.functions c.number ≡ Some c.code) (rest : List CodeItem) (heads : List ℕ) (g : Names) (scope : Scope) (s : CallState) (m : Memory) where
   -- the pointer above is moved by the elements at a depth, and comes there
   moved_there : {o : CodeObservation} (d : ℕ) (t : IntegerType) (k size : ℕ) (v u : Value) (q : CodePlace) (r : Registers) → size ≤ MOST_DATA → IsMovedBy s.world.outer.memory v (value t k *ℤ pos size) u
-      → Stands c heads q (scaled_code (count c) d (suc (suc d)) (plain_of t) (cap_offset size) (add_code (address_register (count c) d) (address_register (count c) (suc d)) (bytes_register (count c) d) rest)) → Fit c g scope r s m
-      → IsValueOf g v (r (address_register (count c) (suc d))) → WordIn (count c) d t k r
-      → ((q1 : CodePlace) (r1 : Registers) → Stands c heads q1 rest → Fit c g scope r1 s m → KeepsLower (count c) d r r1 → IsValueOf g u (r1 (address_register (count c) d)) → EndsSo c o q1 r1 s.world m) → EndsSo c o q r s.world m
+      → Stands c heads q (scaled_code (first_depth c) d (suc (suc d)) (plain_of t) (cap_offset size) (add_code (address_register (first_depth c) d) (address_register (first_depth c) (suc d)) (bytes_register (first_depth c) d) rest)) → Fit c g scope r s m
+      → IsValueOf g v (r (address_register (first_depth c) (suc d))) → WordIn (first_depth c) d t k r
+      → ((q1 : CodePlace) (r1 : Registers) → Stands c heads q1 rest → Fit c g scope r1 s m → KeepsLower (first_depth c) d r r1 → IsValueOf g u (r1 (address_register (first_depth c) d)) → EndsSo c o q1 r1 s.world m) → EndsSo c o q r s.world m
   moved_there {o = o} d t k size v u q r le is at fit rel one next =
-      let addr = address_register (count c) d in
-      let above = address_register (count c) (suc d) in
-      let reg = bytes_register (count c) d in
+      let addr = address_register (first_depth c) d in
+      let above = address_register (first_depth c) (suc d) in
+      let reg = bytes_register (first_depth c) d in
       let small : IsSmall (value t k *ℤ pos size) = is.small (λ p live. fit.small p.object live) in
       let capped : cap_offset size ≡ size = omega (arith, le) in
-      let at1 = subst (λ z. Stands c heads q (scaled_code (count c) d (suc (suc d)) (plain_of t) z (add_code addr above reg rest))) capped at in
-      long_leads c found rest heads g scope s m d t k (sized_code (count c) d (suc (suc d)) size (add_code addr above reg rest)) q r at1 fit one
+      let at1 = subst (λ z. Stands c heads q (scaled_code (first_depth c) d (suc (suc d)) (plain_of t) z (add_code addr above reg rest))) capped at in
+      long_leads c found rest heads g scope s m d t k (sized_code (first_depth c) d (suc (suc d)) size (add_code addr above reg rest)) q r at1 fit one
       (λ q1 r1 at2 fit1 kept1 held1.
       sized_leads c found rest heads g scope s m d (suc (suc d)) (omega arith) size (conversion t i.Long k) (value t k *ℤ pos size) (add_code addr above reg rest) q1 r1 le (long_bytes t k size small) small (is_word-extension i.Long _) at2 fit1 held1
       (λ q2 r2 bytes at3 fit2 kept2 held2 value_is word_is.
@@ -125,24 +125,24 @@ module _ (c : Setting) (found : slice_get c.functions c.number ≡ Some c.code) 
   run_by done scope = λ s. and_then (eval c.structs c.locals c.calls scope x s) (λ v t1. and_then (eval c.structs c.locals c.calls scope y t1) (done v))
 
   moves_lead : (d : ℕ) (rest : List CodeItem) (heads : List ℕ) (p : CodePlace) (f : Names) (scope : Scope) (r : Registers) (s : CallState) (m : Memory) (K : Value → CallState → CodeObservation)
-      → Stands c heads p (expr_code (count c) c.structs c.locals d x (expr_code (count c) c.structs c.locals (suc d) y (back_tail (count c) c.structs d target t rest))) → Fit c f scope r s m → s.world.meter.turns ≤ c.level → Follows c d (Pointer target) heads rest f scope r s m K
+      → Stands c heads p (expr_code (first_depth c) c.structs c.locals d x (expr_code (first_depth c) c.structs c.locals (suc d) y (back_tail (first_depth c) c.structs d target t rest))) → Fit c f scope r s m → s.world.meter.turns ≤ c.level → Follows c d (Pointer target) heads rest f scope r s m K
       → EndsSo c (finish (run_by (λ v w. move_by c.structs target t w v) scope s) K) p r s.world m
   unfolding opens
   moves_lead d rest heads p f scope r s m K at fit low next =
-      let tail : List CodeItem = back_tail (count c) c.structs d target t rest in
+      let tail : List CodeItem = back_tail (first_depth c) c.structs d target t rest in
       let run : Value → Run Value = (λ v t1. and_then (eval c.structs c.locals c.calls scope y t1) (λ w. move_by c.structs target t w v)) in
       bound c found (eval c.structs c.locals c.calls scope x s) run K p r s.world m
-      (hx.by d (expr_code (count c) c.structs c.locals (suc d) y tail) heads p f scope r s m (λ v t1. finish (run v t1) K) at fit low
+      (hx.by d (expr_code (first_depth c) c.structs c.locals (suc d) y tail) heads p f scope r s m (λ v t1. finish (run v t1) K) at fit low
       (λ q v g t1 q1 m1 at1 aft fit1 kept held stands.
       bound c found (eval c.structs c.locals c.calls scope y t1) (λ w. move_by c.structs target t w v) K q q1 t1.world m1
       (hy.by (suc d) tail heads q g scope q1 t1 m1 (λ w u. finish (move_by c.structs target t w v u) K) at1 fit1 (omega (arith, aft.turned, low))
       (λ q2 w h u q3 m2 at2 aft2 fit2 kept2 held2 stands2.
       let moves : ℕ → Run Value = (λ k. move_elements w (value t k *ℤ pos size)) in
-      let rel : IsValueOf h w (q3 (address_register (count c) (suc d))) = subst (λ z. IsInRegister h z w (q3 (value_register (count c) (suc d) z))) ey stands2 in
+      let rel : IsValueOf h w (q3 (address_register (first_depth c) (suc d))) = subst (λ z. IsInRegister h z w (q3 (value_register (first_depth c) (suc d) z))) ey stands2 in
       bound c found (use_number v u) moves K q2 q3 u.world m2
       (number_meets c.rooms c.functions v u (λ k u1. finish (moves k u1) K) _ (λ k is.
-      let word1 = word_in g (count c) d (type_of x) t v k q1 ex is held stands in
-      let word2 : WordIn (count c) d t k q3 = record { is_one = word1.is_one; stands = kept_reads d (register_type (plain_of t)) (omega arith) kept2 ∙ word1.stands } in
+      let word1 = word_in g (first_depth c) d (type_of x) t v k q1 ex is held stands in
+      let word2 : WordIn (first_depth c) d t k q3 = record { is_one = word1.is_one; stands = kept_reads d (register_type (plain_of t)) (omega arith) kept2 ∙ word1.stands } in
       known_meets c.rooms c.functions (move_reason u.world.outer.memory w) (element_plus u.world.outer.memory w (value t k *ℤ pos size)) u K _ (λ result e.
       let moved = moved_by u.world.outer.memory w (value t k *ℤ pos size) result e in
       moved_there c found rest heads h scope u m2 d t k size w result q2 q3 le moved at2 fit2 rel word2
@@ -153,16 +153,16 @@ module _ (c : Setting) (found : slice_get c.functions c.number ≡ Some c.code) 
   unfolding opens
   sums = record {
     by = λ d rest heads p f scope r s m K at fit low next.
-        let code_e : binary_code (count c) c.structs b.Add d (Pointer target) (type_of x) (type_of y) rest ≡ back_tail (count c) c.structs d target t rest =
-        ap (λ z. binary_code (count c) c.structs b.Add d (Pointer target) z (type_of y) rest) ex ∙ ap (λ z. binary_code (count c) c.structs b.Add d (Pointer target) (plain_of t) z rest) ey ∙ sum_code (count c) c.structs d target t rest in
+        let code_e : binary_code (first_depth c) c.structs b.Add d (Pointer target) (type_of x) (type_of y) rest ≡ back_tail (first_depth c) c.structs d target t rest =
+        ap (λ z. binary_code (first_depth c) c.structs b.Add d (Pointer target) z (type_of y) rest) ex ∙ ap (λ z. binary_code (first_depth c) c.structs b.Add d (Pointer target) (plain_of t) z rest) ey ∙ sum_code (first_depth c) c.structs d target t rest in
         meets_same c.rooms c.functions
         (ap (λ z. finish (run_by (λ v w. apply_binary c.structs b.Add z (type_of y) v w) scope s) K) ex ∙ ap (λ z. finish (run_by (λ v w. apply_binary c.structs b.Add (plain_of t) z v w) scope s) K) ey
         ∙ ap (λ z. finish (run_by z scope s) K) (sum_is c.structs target t))
-        (moves_lead d rest heads p f scope r s m K (subst (λ z. Stands c heads p (expr_code (count c) c.structs c.locals d x (expr_code (count c) c.structs c.locals (suc d) y z))) code_e at) fit low next);
+        (moves_lead d rest heads p f scope r s m K (subst (λ z. Stands c heads p (expr_code (first_depth c) c.structs c.locals d x (expr_code (first_depth c) c.structs c.locals (suc d) y z))) code_e at) fit low next);
   }
 
-  element_code_is : (d : ℕ) (rest : List CodeItem) → element_code (count c) c.structs d (type_of x) (type_of y) rest ≡ back_tail (count c) c.structs d target t rest
-  element_code_is d rest = ap (λ z. element_code (count c) c.structs d z (type_of y) rest) ex ∙ ap (λ z. element_code (count c) c.structs d (plain_of t) z rest) ey ∙ element_code_by (count c) c.structs d target t rest
+  element_code_is : (d : ℕ) (rest : List CodeItem) → element_code (first_depth c) c.structs d (type_of x) (type_of y) rest ≡ back_tail (first_depth c) c.structs d target t rest
+  element_code_is d rest = ap (λ z. element_code (first_depth c) c.structs d z (type_of y) rest) ex ∙ ap (λ z. element_code (first_depth c) c.structs d (plain_of t) z rest) ey ∙ element_code_by (first_depth c) c.structs d target t rest
 
   element_run : (scope : Scope) (s : CallState) → run_by (element_pointer c.structs (type_of x) (type_of y)) scope s ≡ run_by (λ v w. move_by c.structs target t w v) scope s
   element_run scope s =
@@ -175,8 +175,8 @@ module _ (c : Setting) (found : slice_get c.functions c.number ≡ Some c.code) 
         let K1 : Value → CallState → CodeObservation = (λ v u. finish (read_at ty v u) K) in
         bound c found (run_by (element_pointer c.structs (type_of x) (type_of y)) scope s) (read_at ty) K p r s.world m
         (meets_same c.rooms c.functions (ap (λ z. finish z K1) (element_run scope s))
-        (moves_lead d (load_code (count c) d ty 0 rest) heads p f scope r s m K1
-        (subst (λ z. Stands c heads p (expr_code (count c) c.structs c.locals d x (expr_code (count c) c.structs c.locals (suc d) y z))) (element_code_is d (load_code (count c) d ty 0 rest)) at) fit low
+        (moves_lead d (load_code (first_depth c) d ty 0 rest) heads p f scope r s m K1
+        (subst (λ z. Stands c heads p (expr_code (first_depth c) c.structs c.locals d x (expr_code (first_depth c) c.structs c.locals (suc d) y z))) (element_code_is d (load_code (first_depth c) d ty 0 rest)) at) fit low
         (λ q v g u q1 m1 at1 aft fit1 kept held rel.
         load_on c found d 0 rest heads f scope r s m K q v v g u q1 m1 aft fit1 kept (held_pointer target Void v held) rel (omega arith) (inl (refl, refl)) ty whole next at1)));
   }
@@ -188,7 +188,7 @@ module _ (c : Setting) (found : slice_get c.functions c.number ≡ Some c.code) 
         let K1 : Value → CallState → CodeObservation = (λ v u. K (obj.At v) u) in
         bound c found (run_by (element_pointer c.structs (type_of x) (type_of y)) scope s) (λ v. pure (obj.At v)) K p r s.world m
         (meets_same c.rooms c.functions (ap (λ z. finish z K1) (element_run scope s))
-        (moves_lead d rest heads p f scope r s m K1 (subst (λ z. Stands c heads p (expr_code (count c) c.structs c.locals d x (expr_code (count c) c.structs c.locals (suc d) y z))) (element_code_is d rest) at) fit low
+        (moves_lead d rest heads p f scope r s m K1 (subst (λ z. Stands c heads p (expr_code (first_depth c) c.structs c.locals d x (expr_code (first_depth c) c.structs c.locals (suc d) y z))) (element_code_is d rest) at) fit low
         (λ q v g u q1 m1 at1 aft fit1 kept held rel. next q v v g u q1 m1 at1 aft fit1 kept (held_pointer target Void v held) rel small (own_base u.world.outer.memory v plus))));
   }
 

@@ -38,7 +38,7 @@ use Rattle.lowering_states.specs.States.{IsInRegister, KeepsLower}
 use Rattle.lowering_states.proofs.Steps.{meets_same, known_meets}
 use Rattle.lowering_states.proofs.States.{kept_on, kept_reads, kept_temporary, after_on, value_at, fits_temporary}
 use Rattle.lowering_expression_places.proofs.Behind.{at_plain}
-use Rattle.lowering_expression_laws.specs.Parts.{Setting, count, EndsSo, Stands, Fit, Aft, Follows, ExprMeets}
+use Rattle.lowering_expression_laws.specs.Parts.{Setting, first_depth, EndsSo, Stands, Fit, Aft, Follows, ExprMeets}
 use Rattle.lowering_expression_laws.proofs.Forms.{held_word, insn_on, bound}
 use Rattle.lowering_pointer_laws.specs.Laws.{PointersAreCompared}
 
@@ -48,7 +48,7 @@ truth_word false = refl
 
 module _ (c : Setting) (found : slice_get c.functions c.number ≡ Some c.code) (target other : PlainType) (x y : Expr) (ex : type_of x ≡ Pointer target) (ey : type_of y ≡ Pointer other) (hx : ExprMeets c x) (hy : ExprMeets c y) where
   abbrev L : ℕ
-  L = count c
+  L = first_depth c
 
   abbrev T : PlainType
   T = plain_of i.Int

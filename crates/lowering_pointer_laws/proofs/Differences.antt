@@ -43,7 +43,7 @@ use Rattle.lowering_states.specs.States.{IsInRegister, KeepsLower}
 use Rattle.lowering_states.proofs.Steps.{meets_same, number_meets, known_meets}
 use Rattle.lowering_states.proofs.States.{set_same, kept_all, kept_on, kept_reads, kept_temporary, after_on, value_at, fits_temporary}
 use Rattle.lowering_expression_places.proofs.Behind.{at_plain}
-use Rattle.lowering_expression_laws.specs.Parts.{Setting, count, EndsSo, Stands, Fit, ExprMeets}
+use Rattle.lowering_expression_laws.specs.Parts.{Setting, first_depth, EndsSo, Stands, Fit, ExprMeets}
 use Rattle.lowering_expression_laws.proofs.Forms.{WordIn, word_in, insn_on, unary_on, bound}
 use Rattle.lowering_place_laws.proofs.Places.{moved_held}
 use Rattle.lowering_pointer_laws.specs.Laws.{PointersAreMoved}
@@ -97,26 +97,26 @@ run_by c x y done scope = λ s. and_then (eval c.structs c.locals c.calls scope 
 module _ (c : Setting) (found : slice_get c.functions c.number ≡ Some c.code) (rest : List CodeItem) (heads : List ℕ) (g : Names) (scope : Scope) (s : CallState) (m : Memory) where
   -- the pointer at a depth is moved back by the elements at another one; what stands below both stays
   pub moved_back : {o : CodeObservation} (a d free low : ℕ) → d < free → low ≤ a → low ≤ d → (t : IntegerType) (k size : ℕ) (v u : Value) (q : CodePlace) (r : Registers) → size ≤ MOST_DATA → IsMovedBy s.world.outer.memory v (neg_ℤ (value t k) *ℤ pos size) u
-      → Stands c heads q (scaled_code (count c) d free (plain_of t) (cap_offset size) (negate_code (bytes_register (count c) d) (add_code (address_register (count c) a) (address_register (count c) a) (bytes_register (count c) d) rest)))
-      → Fit c g scope r s m → IsValueOf g v (r (address_register (count c) a)) → WordIn (count c) d t k r
-      → ((q1 : CodePlace) (r1 : Registers) → Stands c heads q1 rest → Fit c g scope r1 s m → KeepsLower (count c) low r r1 → IsValueOf g u (r1 (address_register (count c) a)) → EndsSo c o q1 r1 s.world m) → EndsSo c o q r s.world m
+      → Stands c heads q (scaled_code (first_depth c) d free (plain_of t) (cap_offset size) (negate_code (bytes_register (first_depth c) d) (add_code (address_register (first_depth c) a) (address_register (first_depth c) a) (bytes_register (first_depth c) d) rest)))
+      → Fit c g scope r s m → IsValueOf g v (r (address_register (first_depth c) a)) → WordIn (first_depth c) d t k r
+      → ((q1 : CodePlace) (r1 : Registers) → Stands c heads q1 rest → Fit c g scope r1 s m → KeepsLower (first_depth c) low r r1 → IsValueOf g u (r1 (address_register (first_depth c) a)) → EndsSo c o q1 r1 s.world m) → EndsSo c o q r s.world m
   moved_back {o = o} a d free low above below_a below_d t k size v u q r le is at fit rel one next =
-      let addr = address_register (count c) a in
-      let reg = bytes_register (count c) d in
+      let addr = address_register (first_depth c) a in
+      let reg = bytes_register (first_depth c) d in
       let z : ℤ = value t k *ℤ pos size in
       let back : IsSmall (neg_ℤ z) = subst IsSmall (neg_times (value t k) size) (is.small (λ p live. fit.small p.object live)) in
       let small : IsSmall z = small_negated z back in
       let capped : cap_offset size ≡ size = omega (arith, le) in
       let tail : List CodeItem = negate_code reg (add_code addr addr reg rest) in
-      let at1 = subst (λ n. Stands c heads q (scaled_code (count c) d free (plain_of t) n tail)) capped at in
-      long_leads c found rest heads g scope s m d t k (sized_code (count c) d free size tail) q r at1 fit one
+      let at1 = subst (λ n. Stands c heads q (scaled_code (first_depth c) d free (plain_of t) n tail)) capped at in
+      long_leads c found rest heads g scope s m d t k (sized_code (first_depth c) d free size tail) q r at1 fit one
       (λ q1 r1 at2 fit1 kept1 held1.
       sized_leads c found rest heads g scope s m d free above size (conversion t i.Long k) z tail q1 r1 le (long_bytes t k size small) small (is_word-extension i.Long _) at2 fit1 held1
       (λ q2 r2 b at3 fit2 kept2 held2 value_is word_is.
       let w1 : ℕ = word i.Long (neg_ℤ z) in
       let r3 : Registers = set_register reg (Word w1) r2 in
       let at4 = at_plain c.code.blocks c.last c.end _ at3 in
-      let kept3 : KeepsOthers (count c) d r r3 = kept_bytes d (Word w1) (omega arith) (kept_both kept1 kept2) in
+      let kept3 : KeepsOthers (first_depth c) d r r3 = kept_bytes d (Word w1) (omega arith) (kept_both kept1 kept2) in
       let same : r3 addr ≡ r addr = kept3.addresses a in
       let moved : pointer_plus s.world.outer.memory v (neg_ℤ z) ≡ Some u = ap (λ y. pointer_plus s.world.outer.memory v y) (sym (neg_times (value t k) size)) ∙ is.moved in
       let x = moves_correspond g s.world.outer.memory m fit2.memory v (r3 addr) u (neg_ℤ z) (subst (λ n. IsValueOf g v n) (sym same) rel) moved in
@@ -135,29 +135,29 @@ module _ (c : Setting) (found : slice_get c.functions c.number ≡ Some c.code) 
   unfolding opens
   differences = record {
     by = λ d rest heads p f scope r s m K at fit low next.
-        let addr : ℕ = address_register (count c) d in
-        let tail : List CodeItem = difference_tail (count c) c.structs d target t rest in
-        let code_e : binary_code (count c) c.structs b.Subtract d (Pointer target) (type_of x) (type_of y) rest ≡ tail =
-        ap (λ z. binary_code (count c) c.structs b.Subtract d (Pointer target) z (type_of y) rest) ex ∙ ap (λ z. binary_code (count c) c.structs b.Subtract d (Pointer target) (Pointer target) z rest) ey ∙ difference_code (count c) c.structs d target t rest in
+        let addr : ℕ = address_register (first_depth c) d in
+        let tail : List CodeItem = difference_tail (first_depth c) c.structs d target t rest in
+        let code_e : binary_code (first_depth c) c.structs b.Subtract d (Pointer target) (type_of x) (type_of y) rest ≡ tail =
+        ap (λ z. binary_code (first_depth c) c.structs b.Subtract d (Pointer target) z (type_of y) rest) ex ∙ ap (λ z. binary_code (first_depth c) c.structs b.Subtract d (Pointer target) (Pointer target) z rest) ey ∙ difference_code (first_depth c) c.structs d target t rest in
         meets_same c.rooms c.functions
         (ap (λ z. finish (run_by c x y (λ v w. apply_binary c.structs b.Subtract z (type_of y) v w) scope s) K) ex ∙ ap (λ z. finish (run_by c x y (λ v w. apply_binary c.structs b.Subtract (Pointer target) z v w) scope s) K) ey
         ∙ ap (λ z. finish (run_by c x y z scope s) K) (difference_is c.structs target t))
         (bound c found (eval c.structs c.locals c.calls scope x s) (λ v t1. and_then (eval c.structs c.locals c.calls scope y t1) (pointer_and_integer c.structs b.Subtract target t v)) K p r s.world m
-        (hx.by d (expr_code (count c) c.structs c.locals (suc d) y tail) heads p f scope r s m (λ v t1. finish (and_then (eval c.structs c.locals c.calls scope y t1) (pointer_and_integer c.structs b.Subtract target t v)) K)
-        (subst (λ z. Stands c heads p (expr_code (count c) c.structs c.locals d x (expr_code (count c) c.structs c.locals (suc d) y z))) code_e at) fit low
+        (hx.by d (expr_code (first_depth c) c.structs c.locals (suc d) y tail) heads p f scope r s m (λ v t1. finish (and_then (eval c.structs c.locals c.calls scope y t1) (pointer_and_integer c.structs b.Subtract target t v)) K)
+        (subst (λ z. Stands c heads p (expr_code (first_depth c) c.structs c.locals d x (expr_code (first_depth c) c.structs c.locals (suc d) y z))) code_e at) fit low
         (λ q v g t1 q1 m1 at1 aft fit1 kept held stands.
         bound c found (eval c.structs c.locals c.calls scope y t1) (pointer_and_integer c.structs b.Subtract target t v) K q q1 t1.world m1
         (hy.by (suc d) tail heads q g scope q1 t1 m1 (λ w u. finish (pointer_and_integer c.structs b.Subtract target t v w u) K) at1 fit1 (omega (arith, aft.turned, low))
         (λ q2 w h u q3 m2 at2 aft2 fit2 kept2 held2 stands2.
         let moves : ℕ → Run Value = (λ k. move_elements v (neg_ℤ (value t k) *ℤ pos size)) in
-        let first : IsInRegister g (Pointer target) v (q1 addr) = subst (λ z. IsInRegister g z v (q1 (value_register (count c) d z))) ex stands in
+        let first : IsInRegister g (Pointer target) v (q1 addr) = subst (λ z. IsInRegister g z v (q1 (value_register (first_depth c) d z))) ex stands in
         let same : q3 addr ≡ q1 addr = kept_reads d P64 (omega arith) kept2 in
         let rel : IsValueOf h v (q3 addr) = subst (λ z. IsValueOf h v z) (sym same) (values_stay g h v (q1 addr) aft2.names first) in
         bound c found (use_number w u) moves K q2 q3 u.world m2
         (number_meets c.rooms c.functions w u (λ k u1. finish (moves k u1) K) _ (λ k is.
         known_meets c.rooms c.functions (move_reason u.world.outer.memory v) (element_plus u.world.outer.memory v (neg_ℤ (value t k) *ℤ pos size)) u K _ (λ result e.
         let moved = moved_by u.world.outer.memory v (neg_ℤ (value t k) *ℤ pos size) result e in
-        moved_back c found rest heads h scope u m2 d (suc d) (suc (suc d)) d (omega arith) (omega arith) (omega arith) t k size v result q2 q3 le moved at2 fit2 rel (word_in h (count c) (suc d) (type_of y) t w k q3 ey is held2 stands2)
+        moved_back c found rest heads h scope u m2 d (suc d) (suc (suc d)) d (omega arith) (omega arith) (omega arith) t k size v result q2 q3 le moved at2 fit2 rel (word_in h (first_depth c) (suc d) (type_of y) t w k q3 ey is held2 stands2)
         (λ q4 r4 at4 fit4 kept4 rel4.
         next q4 result h u r4 m2 at4 (after_on aft aft2) fit4 (kept_on (omega arith) (kept_on (omega arith) kept kept2) kept4) (moved_held u.world.outer.memory v result (neg_ℤ (value t k) *ℤ pos size) target moved.moved) rel4)))))))));
   }

@@ -52,7 +52,7 @@ use Rattle.lowering_values.proofs.Operators.{operators_correspond}
 use Rattle.lowering_expression_places.proofs.Behind.{at_plain}
 use Rattle.lowering_states.specs.States.{KeepsLower}
 use Rattle.mem_model.specs.Related.{Names}
-use Rattle.lowering_expression_laws.specs.Parts.{Setting, count, EndsSo, Stands, Fit, Follows, ExprMeets}
+use Rattle.lowering_expression_laws.specs.Parts.{Setting, first_depth, EndsSo, Stands, Fit, Follows, ExprMeets}
 use Rattle.lowering_expression_laws.proofs.Forms.{held_word, insn_on, bound, value_of_word}
 use Rattle.lowering_pointer_laws.specs.Laws.{DistancesMeet}
 use Rattle.lowering_pointer_laws.proofs.Numbers.{IsSmall, small_fits, not_less}
@@ -131,10 +131,10 @@ module _ (c : Setting) (found : slice_get c.functions c.number ≡ Some c.code) 
   module _ (d : ℕ) (rest : List CodeItem) (heads : List ℕ) (f : Names) (scope : Scope) (r : Registers) (s : CallState) (m : Memory) (K : Value → CallState → CodeObservation) (next : Follows c d T heads rest f scope r s m K) (v w : Value) (h : Names) (u : CallState) (q1 : Registers) (n1 : Memory)
       (both1 : Both c found target other x y ex ey hx hy d f scope r s m v w h u q1 n1) (z : ℤ) (small : IsSmall z) where
     abbrev reg : ℕ
-    reg = bytes_register (count c) d
+    reg = bytes_register (first_depth c) d
 
     abbrev above : ℕ
-    above = bytes_register (count c) (suc d)
+    above = bytes_register (first_depth c) (suc d)
 
     abbrev bytes : ℕ
     bytes = word i.Long z
@@ -143,16 +143,16 @@ module _ (c : Setting) (found : slice_get c.functions c.number ≡ Some c.code) 
     r1 = set_register reg (Word bytes) q1
 
     -- the number of elements stands in its register
-    given : (k : ℕ) (r2 : Registers) (q : CodePlace) → Stands c heads q rest → Fit c h scope r2 u n1 → KeepsLower (count c) d r r2 → is_word i.Long k ≡ true → r2 reg ≡ Word k → EndsSo c (K (Word k) u) q r2 u.world n1
+    given : (k : ℕ) (r2 : Registers) (q : CodePlace) → Stands c heads q rest → Fit c h scope r2 u n1 → KeepsLower (first_depth c) d r r2 → is_word i.Long k ≡ true → r2 reg ≡ Word k → EndsSo c (K (Word k) u) q r2 u.world n1
     given k r2 q at fit kept one held = next q (Word k) h u r2 n1 at both1.aft fit kept (held_word i.Long k one) held
 
     fit1 : Fit c h scope r1 u n1
     fit1 = fits_temporary d S64 (Word bytes) both1.fit
 
-    kept1 : KeepsLower (count c) d r r1
+    kept1 : KeepsLower (first_depth c) d r r1
     kept1 = kept_temporary d S64 (Word bytes) (omega arith) both1.kept
 
-    divided : (k : ℕ) → suc k ≤ MOST_DATA → int_rem z (pos (suc k)) ≡ pos 0 → (q : CodePlace) → Stands c heads q (divided_code (count c) d (suc d) (suc k) rest) → EndsSo c (K (Word (word i.Long (int_div z (pos (suc k))))) u) q r1 u.world n1
+    divided : (k : ℕ) → suc k ≤ MOST_DATA → int_rem z (pos (suc k)) ≡ pos 0 → (q : CodePlace) → Stands c heads q (divided_code (first_depth c) d (suc d) (suc k) rest) → EndsSo c (K (Word (word i.Long (int_div z (pos (suc k))))) u) q r1 u.world n1
     divided k small_size exact q at = by_one (suc k == 1) (eqb-true (suc k) 1) at
       where
         quotient1 : ℕ
@@ -162,7 +162,7 @@ module _ (c : Setting) (found : slice_get c.functions c.number ≡ Some c.code) 
         r2 = set_register above (Word (suc k)) r1
 
         low : r2 reg ≡ Word bytes
-        low = set_other r1 above reg (Word (suc k)) (other_depth (count c) d (suc d) S64 S64 (omega arith)) ∙ set_same q1 reg (Word bytes)
+        low = set_other r1 above reg (Word (suc k)) (other_depth (first_depth c) d (suc d) S64 S64 (omega arith)) ∙ set_same q1 reg (Word bytes)
 
         by_one : (t : Bool) → (t ≡ true → suc k ≡ 1) → Stands c heads q (if t then rest else Plain (n.LoadConstant S64 above (suc k)) ∷ Plain (n.Binary Divide S64 reg reg above) ∷ rest) → EndsSo c (K (Word quotient1) u) q r1 u.world n1
         by_one true one_is at1 =
@@ -181,7 +181,7 @@ module _ (c : Setting) (found : slice_get c.functions c.number ≡ Some c.code) 
             (given quotient1 (set_register reg (Word quotient1) r2) (next_place (next_place q)) (at_plain c.code.blocks c.last c.end _ at2) (fits_temporary d S64 (Word quotient1) (fits_temporary (suc d) S64 (Word (suc k)) fit1))
             (kept_temporary d S64 (Word quotient1) (omega arith) (kept_temporary (suc d) S64 (Word (suc k)) (omega arith) kept1)) (is_word-extension i.Long _) (set_same r2 reg (Word quotient1))))
 
-    elements_meet : (size : ℕ) → size ≤ MOST_DATA → (q : CodePlace) → Stands c heads q (divided_code (count c) d (suc d) size rest) → EndsSo c (finish (elements z size u) K) q r1 u.world n1
+    elements_meet : (size : ℕ) → size ≤ MOST_DATA → (q : CodePlace) → Stands c heads q (divided_code (first_depth c) d (suc d) size rest) → EndsSo c (finish (elements z size u) K) q r1 u.world n1
     unfolding opens
     elements_meet zero small_size q at = meets_anything c.rooms c.functions refl
     elements_meet (suc k) small_size q at =
@@ -196,7 +196,7 @@ module _ (c : Setting) (found : slice_get c.functions c.number ≡ Some c.code) 
   unfolding opens
   distances = record {
     by = λ d rest heads p f scope r s m K at fit low next.
-        let L : ℕ = count c in
+        let L : ℕ = first_depth c in
         let size : ℕ = size_of c.structs target in
         let reg : ℕ = bytes_register L d in
         let insn_code : ℕ → List CodeItem = (λ n0. Plain (n.Binary Subtract P64 reg (address_register L d) (address_register L (suc d))) ∷ divided_code L d (suc d) n0 rest) in

@@ -53,7 +53,7 @@ use Rattle.lowering_states.proofs.States.{set_same, set_other, other_depth, kept
 use Rattle.lowering_values.proofs.Integers.{kept_is, register-promoted, kept_conversion, made_conversion}
 use Rattle.lowering_values.proofs.Operators.{operators_correspond}
 use Rattle.lowering_expression_places.proofs.Behind.{at_plain}
-use Rattle.lowering_expression_laws.specs.Parts.{Setting, count, EndsSo, Stands, Fit, Follows, ExprMeets}
+use Rattle.lowering_expression_laws.specs.Parts.{Setting, first_depth, EndsSo, Stands, Fit, Follows, ExprMeets}
 use Rattle.lowering_expression_laws.proofs.Forms.{WordIn, word_in, insn_on, bound, value_of_word}
 use Rattle.lowering_place_laws.specs.Places.{PlaceMeets}
 use Rattle.lowering_place_laws.specs.Laws.{HasWholeIntegers}
@@ -125,7 +125,7 @@ kept_both a1 a2 = record { lower = kept_on (omega arith) a1.lower a2.lower; addr
 
 module _ (c : Setting) (found : slice_get c.functions c.number ≡ Some c.code) (rest : List CodeItem) (heads : List ℕ) (g : Names) (scope : Scope) (s : CallState) (m : Memory) where
   abbrev L : ℕ
-  L = count c
+  L = first_depth c
 
   -- an integer becomes a `long`
   pub long_leads : {o : CodeObservation} (j : ℕ) (t : IntegerType) (k : ℕ) (tail : List CodeItem) (q : CodePlace) (r : Registers) → Stands c heads q (convert_code L j (plain_of t) (plain_of i.Long) tail) → Fit c g scope r s m → WordIn L j t k r
@@ -248,28 +248,28 @@ module _ (c : Setting) (found : slice_get c.functions c.number ≡ Some c.code) 
   run_by done scope = λ s. and_then (eval c.structs c.locals c.calls scope x s) (λ v t1. and_then (eval c.structs c.locals c.calls scope y t1) (done v))
 
   moves_lead : (d : ℕ) (rest : List CodeItem) (heads : List ℕ) (p : CodePlace) (f : Names) (scope : Scope) (r : Registers) (s : CallState) (m : Memory) (K : Value → CallState → CodeObservation)
-      → Stands c heads p (expr_code (count c) c.structs c.locals d x (expr_code (count c) c.structs c.locals (suc d) y (sum_tail (count c) c.structs d target t rest))) → Fit c f scope r s m → s.world.meter.turns ≤ c.level → Follows c d (Pointer target) heads rest f scope r s m K
+      → Stands c heads p (expr_code (first_depth c) c.structs c.locals d x (expr_code (first_depth c) c.structs c.locals (suc d) y (sum_tail (first_depth c) c.structs d target t rest))) → Fit c f scope r s m → s.world.meter.turns ≤ c.level → Follows c d (Pointer target) heads rest f scope r s m K
       → EndsSo c (finish (run_by (move_by c.structs target t) scope s) K) p r s.world m
   unfolding opens
   moves_lead d rest heads p f scope r s m K at fit low next =
-      let addr : ℕ = address_register (count c) d in
-      let tail : List CodeItem = sum_tail (count c) c.structs d target t rest in
+      let addr : ℕ = address_register (first_depth c) d in
+      let tail : List CodeItem = sum_tail (first_depth c) c.structs d target t rest in
       let run : Value → Run Value = (λ v t1. and_then (eval c.structs c.locals c.calls scope y t1) (move_by c.structs target t v)) in
       bound c found (eval c.structs c.locals c.calls scope x s) run K p r s.world m
-      (hx.by d (expr_code (count c) c.structs c.locals (suc d) y tail) heads p f scope r s m (λ v t1. finish (run v t1) K) at fit low
+      (hx.by d (expr_code (first_depth c) c.structs c.locals (suc d) y tail) heads p f scope r s m (λ v t1. finish (run v t1) K) at fit low
       (λ q v g t1 q1 m1 at1 aft fit1 kept held stands.
       bound c found (eval c.structs c.locals c.calls scope y t1) (move_by c.structs target t v) K q q1 t1.world m1
       (hy.by (suc d) tail heads q g scope q1 t1 m1 (λ w u. finish (move_by c.structs target t v w u) K) at1 fit1 (omega (arith, aft.turned, low))
       (λ q2 w h u q3 m2 at2 aft2 fit2 kept2 held2 stands2.
       let moves : ℕ → Run Value = (λ k. move_elements v (value t k *ℤ pos size)) in
-      let first : IsInRegister g (Pointer target) v (q1 addr) = subst (λ z. IsInRegister g z v (q1 (value_register (count c) d z))) ex stands in
+      let first : IsInRegister g (Pointer target) v (q1 addr) = subst (λ z. IsInRegister g z v (q1 (value_register (first_depth c) d z))) ex stands in
       let same : q3 addr ≡ q1 addr = kept_reads d P64 (omega arith) kept2 in
       let rel : IsValueOf h v (q3 addr) = subst (λ z. IsValueOf h v z) (sym same) (values_stay g h v (q1 addr) aft2.names first) in
       bound c found (use_number w u) moves K q2 q3 u.world m2
       (number_meets c.rooms c.functions w u (λ k u1. finish (moves k u1) K) _ (λ k is.
       known_meets c.rooms c.functions (move_reason u.world.outer.memory v) (element_plus u.world.outer.memory v (value t k *ℤ pos size)) u K _ (λ result e.
       let moved = moved_by u.world.outer.memory v (value t k *ℤ pos size) result e in
-      moved_leads c found rest heads h scope u m2 d (suc d) (suc (suc d)) d (omega arith) (omega arith) (omega arith) t k size v result q2 q3 le moved at2 fit2 rel (word_in h (count c) (suc d) (type_of y) t w k q3 ey is held2 stands2)
+      moved_leads c found rest heads h scope u m2 d (suc d) (suc (suc d)) d (omega arith) (omega arith) (omega arith) t k size v result q2 q3 le moved at2 fit2 rel (word_in h (first_depth c) (suc d) (type_of y) t w k q3 ey is held2 stands2)
       (λ q4 r4 at4 fit4 kept4 rel4.
       next q4 result h u r4 m2 at4 (after_on aft aft2) fit4 (kept_on (omega arith) (kept_on (omega arith) kept kept2) kept4) (moved_held u.world.outer.memory v result (value t k *ℤ pos size) target moved.moved) rel4))))))))
 
@@ -277,19 +277,19 @@ module _ (c : Setting) (found : slice_get c.functions c.number ≡ Some c.code) 
   unfolding opens
   sums = record {
     by = λ d rest heads p f scope r s m K at fit low next.
-        let code_e : binary_code (count c) c.structs b.Add d (Pointer target) (type_of x) (type_of y) rest ≡ sum_tail (count c) c.structs d target t rest =
-        ap (λ z. binary_code (count c) c.structs b.Add d (Pointer target) z (type_of y) rest) ex ∙ ap (λ z. binary_code (count c) c.structs b.Add d (Pointer target) (Pointer target) z rest) ey ∙ sum_code (count c) c.structs d target t rest in
+        let code_e : binary_code (first_depth c) c.structs b.Add d (Pointer target) (type_of x) (type_of y) rest ≡ sum_tail (first_depth c) c.structs d target t rest =
+        ap (λ z. binary_code (first_depth c) c.structs b.Add d (Pointer target) z (type_of y) rest) ex ∙ ap (λ z. binary_code (first_depth c) c.structs b.Add d (Pointer target) (Pointer target) z rest) ey ∙ sum_code (first_depth c) c.structs d target t rest in
         meets_same c.rooms c.functions
         (ap (λ z. finish (run_by (λ v w. apply_binary c.structs b.Add z (type_of y) v w) scope s) K) ex ∙ ap (λ z. finish (run_by (λ v w. apply_binary c.structs b.Add (Pointer target) z v w) scope s) K) ey
         ∙ ap (λ z. finish (run_by z scope s) K) (sum_is c.structs target t))
-        (moves_lead d rest heads p f scope r s m K (subst (λ z. Stands c heads p (expr_code (count c) c.structs c.locals d x (expr_code (count c) c.structs c.locals (suc d) y z))) code_e at) fit low next);
+        (moves_lead d rest heads p f scope r s m K (subst (λ z. Stands c heads p (expr_code (first_depth c) c.structs c.locals d x (expr_code (first_depth c) c.structs c.locals (suc d) y z))) code_e at) fit low next);
   }
 
   -- the code of an element, behind its two operands
-  element_code_is : (d : ℕ) (rest : List CodeItem) → element_code (count c) c.structs d (type_of x) (type_of y) rest ≡ sum_tail (count c) c.structs d target t rest
-  element_code_is d rest = ap (λ z. element_code (count c) c.structs d z (type_of y) rest) ex ∙ ap (λ z. element_code (count c) c.structs d (Pointer target) z rest) ey ∙ by_type t
+  element_code_is : (d : ℕ) (rest : List CodeItem) → element_code (first_depth c) c.structs d (type_of x) (type_of y) rest ≡ sum_tail (first_depth c) c.structs d target t rest
+  element_code_is d rest = ap (λ z. element_code (first_depth c) c.structs d z (type_of y) rest) ex ∙ ap (λ z. element_code (first_depth c) c.structs d (Pointer target) z rest) ey ∙ by_type t
     where
-      by_type : (t : IntegerType) → element_code (count c) c.structs d (Pointer target) (plain_of t) rest ≡ sum_tail (count c) c.structs d target t rest
+      by_type : (t : IntegerType) → element_code (first_depth c) c.structs d (Pointer target) (plain_of t) rest ≡ sum_tail (first_depth c) c.structs d target t rest
       by_type i.Char = refl
       by_type i.UnsignedChar = refl
       by_type i.Short = refl
@@ -310,8 +310,8 @@ module _ (c : Setting) (found : slice_get c.functions c.number ≡ Some c.code) 
         let K1 : Value → CallState → CodeObservation = (λ v u. finish (read_at ty v u) K) in
         bound c found (run_by (element_pointer c.structs (type_of x) (type_of y)) scope s) (read_at ty) K p r s.world m
         (meets_same c.rooms c.functions (ap (λ z. finish z K1) (element_run scope s))
-        (moves_lead d (load_code (count c) d ty 0 rest) heads p f scope r s m K1
-        (subst (λ z. Stands c heads p (expr_code (count c) c.structs c.locals d x (expr_code (count c) c.structs c.locals (suc d) y z))) (element_code_is d (load_code (count c) d ty 0 rest)) at) fit low
+        (moves_lead d (load_code (first_depth c) d ty 0 rest) heads p f scope r s m K1
+        (subst (λ z. Stands c heads p (expr_code (first_depth c) c.structs c.locals d x (expr_code (first_depth c) c.structs c.locals (suc d) y z))) (element_code_is d (load_code (first_depth c) d ty 0 rest)) at) fit low
         (λ q v g u q1 m1 at1 aft fit1 kept held rel.
         load_on c found d 0 rest heads f scope r s m K q v v g u q1 m1 aft fit1 kept (held_pointer target Void v held) rel (omega arith) (inl (refl, refl)) ty whole next at1)));
   }
@@ -323,6 +323,6 @@ module _ (c : Setting) (found : slice_get c.functions c.number ≡ Some c.code) 
         let K1 : Value → CallState → CodeObservation = (λ v u. K (obj.At v) u) in
         bound c found (run_by (element_pointer c.structs (type_of x) (type_of y)) scope s) (λ v. pure (obj.At v)) K p r s.world m
         (meets_same c.rooms c.functions (ap (λ z. finish z K1) (element_run scope s))
-        (moves_lead d rest heads p f scope r s m K1 (subst (λ z. Stands c heads p (expr_code (count c) c.structs c.locals d x (expr_code (count c) c.structs c.locals (suc d) y z))) (element_code_is d rest) at) fit low
+        (moves_lead d rest heads p f scope r s m K1 (subst (λ z. Stands c heads p (expr_code (first_depth c) c.structs c.locals d x (expr_code (first_depth c) c.structs c.locals (suc d) y z))) (element_code_is d rest) at) fit low
         (λ q v g u q1 m1 at1 aft fit1 kept held rel. next q v v g u q1 m1 at1 aft fit1 kept (held_pointer target Void v held) rel small (own_base u.world.outer.memory v plus))));
   }

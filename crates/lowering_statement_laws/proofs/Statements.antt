@@ -26,7 +26,7 @@ use Rattle.lowering_code.specs.declared.item.CodeItem.{CodeItem}
 use Rattle.lowering_code.specs.declared.item.CodeItem.TheVariants.{Start, Jump, Return}
 use Rattle.lowering_code.specs.Items as items
 use Rattle.lowering_code.specs.Registers.{register_type, value_register}
-use Rattle.lowering_code.specs.Expressions.{plain_of, branch_code, expr_code}
+use Rattle.lowering_code.specs.Expressions.{plain_of, branch_by_value_code, expr_code}
 use Rattle.lowering_code.specs.Statements.{stmt_code, stmts_code}
 use Rattle.lowering_states.specs.Places.{CodePlace, next_block, start_of_block}
 use Rattle.lowering_states.specs.Runs.{opens, CodeObservation, finish}
@@ -35,7 +35,7 @@ use Rattle.lowering_states.proofs.Steps.{fall, jump, returning, used_meets}
 use Rattle.lowering_states.proofs.States.{after_same, after_on}
 use Rattle.lowering_expression_places.specs.Behind.{Somewhere}
 use Rattle.lowering_expression_places.proofs.Behind.{at_start, at_jump, at_branch}
-use Rattle.lowering_expression_laws.specs.Parts.{Setting, count, EndsSo, Stands, Fit, Aft, ExprMeets}
+use Rattle.lowering_expression_laws.specs.Parts.{Setting, first_depth, EndsSo, Stands, Fit, Aft, ExprMeets}
 use Rattle.lowering_expression_laws.specs.Laws.{IsScalarType}
 use Rattle.lowering_expression_laws.proofs.Forms.{word_held, value_of_word, bound}
 use Rattle.lowering_expression_laws.proofs.Choices.{TestIs, test_meets, at_block, goes, passes}
@@ -62,7 +62,7 @@ returnable f ty v w (inr t) held rel set =
 
 module _ (c : Setting) (found : slice_get c.functions c.number ≡ Some c.code) (again : Scope → Stmt → Run StatementFlow) where
   abbrev L : ℕ
-  L = count c
+  L = first_depth c
 
   -- what follows, from a later state
   pub onward_on : {scope : Scope} {f g : Names} {s t : CallState} {m m1 : Memory} {K : StatementFlow → CallState → CodeObservation} {heads : List ℕ} {rest : List CodeItem} {brk con : ℕ} → Aft c f s m g t m1 → Onward c scope f s m K heads rest brk con → Onward c scope g t m1 K heads rest brk con
@@ -126,17 +126,17 @@ module _ (c : Setting) (found : slice_get c.functions c.number ≡ Some c.code) 
   module _ (x : Expr) (scalar : IsScalarType (type_of x)) (hx : ExprMeets c x) (name : ℕ) (holds_code : List CodeItem) (heads : List ℕ) (f : Names) (scope : Scope) (r : Registers) (s : CallState) (m : Memory) (K : StatementFlow → CallState → CodeObservation) (run : Bool → Run StatementFlow)
       (on_true : (q : CodePlace) (g : Names) (t : CallState) (q1 : Registers) (m1 : Memory) → Stands c heads q holds_code → Aft c f s m g t m1 → Fit c g scope q1 t m1 → EndsSo c (finish (run true t) K) q q1 t.world m1)
       (on_false : (q : CodePlace) (g : Names) (t : CallState) (q1 : Registers) (m1 : Memory) → Stands c heads q holds_code → Aft c f s m g t m1 → Fit c g scope q1 t m1 → (block : ℕ) × ((block + name ≡ c.last) × EndsSo c (finish (run false t) K) (start_of_block block) q1 t.world m1)) where
-    test_leads : (p : CodePlace) → Stands c heads p (expr_code L c.structs c.locals 0 x (branch_code L IfFalse 0 (type_of x) name holds_code)) → Fit c f scope r s m → s.world.meter.turns ≤ c.level
+    test_leads : (p : CodePlace) → Stands c heads p (expr_code L c.structs c.locals 0 x (branch_by_value_code L IfFalse 0 (type_of x) name holds_code)) → Fit c f scope r s m → s.world.meter.turns ≤ c.level
         → EndsSo c (finish (and_then (and_then (eval c.structs c.locals c.calls scope x s) test) run) K) p r s.world m
     unfolding opens
     test_leads p at fit low =
         bound c found (and_then (eval c.structs c.locals c.calls scope x s) test) run K p r s.world m
         (bound c found (eval c.structs c.locals c.calls scope x s) test (λ k t. finish (run k t) K) p r s.world m
-        (hx.by 0 (branch_code L IfFalse 0 (type_of x) name holds_code) heads p f scope r s m (λ v t. finish (test v t) (λ k t1. finish (run k t1) K)) at fit low
+        (hx.by 0 (branch_by_value_code L IfFalse 0 (type_of x) name holds_code) heads p f scope r s m (λ v t. finish (test v t) (λ k t1. finish (run k t1) K)) at fit low
         (λ q v g t q1 m1 at1 aft fit1 kept held stands.
         test_meets c found v t (λ k t1. finish (run k t1) K) _ (λ k is. by_test q g t q1 m1 v k at1 aft fit1 held stands is))))
       where
-        by_test : (q : CodePlace) (g : Names) (t : CallState) (q1 : Registers) (m1 : Memory) (v : Value) (k : Bool) → Stands c heads q (branch_code L IfFalse 0 (type_of x) name holds_code) → Aft c f s m g t m1 → Fit c g scope q1 t m1
+        by_test : (q : CodePlace) (g : Names) (t : CallState) (q1 : Registers) (m1 : Memory) (v : Value) (k : Bool) → Stands c heads q (branch_by_value_code L IfFalse 0 (type_of x) name holds_code) → Aft c f s m g t m1 → Fit c g scope q1 t m1
             → IsHeld (type_of x) v → IsInRegister g (type_of x) v (q1 (value_register L 0 (type_of x))) → TestIs t.world.outer.memory v k → EndsSo c (finish (run k t) K) q q1 t.world m1
         by_test q g t q1 m1 v true at1 aft fit1 held stands is =
             passes c found IfFalse 0 (type_of x) scalar name holds_code heads q g scope q1 t m1 v true at1 fit1 held stands is refl

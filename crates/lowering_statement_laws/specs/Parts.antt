@@ -19,7 +19,7 @@ use Rattle.lowering_code.specs.Statements.{stmt_code, stmts_code}
 use Rattle.lowering_states.specs.Places.{CodePlace, start_of_block}
 use Rattle.lowering_states.specs.Runs.{CodeObservation, finish, Resumes}
 use Rattle.lowering_states.specs.States.{IsHeld}
-use Rattle.lowering_expression_laws.specs.Parts.{Setting, count, EndsSo, Stands, Fit, Aft}
+use Rattle.lowering_expression_laws.specs.Parts.{Setting, first_depth, EndsSo, Stands, Fit, Aft}
 
 -- ---- locals that are objects
 
@@ -73,7 +73,8 @@ module _ (c : Setting) where
           (scope : Scope)
           (r : Registers) (s : CallState) (n : Memory) (K : StatementFlow → CallState → CodeObservation) →
           IsApart scope x →
-          Stands c heads p (stmt_code (count c) c.structs c.locals break_to continue_to x rest) → Fit c f scope r s n
+          Stands c heads p (stmt_code (first_depth c) c.structs c.locals break_to continue_to x rest) →
+          Fit c f scope r s n
           → s.world.meter.turns ≤ c.level → Onward scope f s n K heads rest break_to continue_to
           → EndsSo c (finish (exec c.structs c.locals c.calls again scope x s) K) p r s.world n
 
@@ -82,6 +83,7 @@ module _ (c : Setting) where
           (scope : Scope)
           (r : Registers) (s : CallState) (n : Memory) (K : StatementFlow → CallState → CodeObservation) →
           AreApart scope xs →
-          Stands c heads p (stmts_code (count c) c.structs c.locals break_to continue_to xs rest) → Fit c f scope r s n
+          Stands c heads p (stmts_code (first_depth c) c.structs c.locals break_to continue_to xs rest) →
+          Fit c f scope r s n
           → s.world.meter.turns ≤ c.level → Onward scope f s n K heads rest break_to continue_to
           → EndsSo c (finish (execs c.structs c.locals c.calls again scope xs s) K) p r s.world n

@@ -12,7 +12,7 @@ use Rattle.c_typed_tree.proofs.Views.{view_block, view_switch}
 use Rattle.suifvm_ir.specs.declared.insn.VmBranchOp.TheVariants.{IfFalse}
 use Rattle.c_typed_tree.specs.Expressions.{Expr, type_of}
 use Rattle.lowering_code.specs.declared.item.CodeItem.{CodeItem}
-use Rattle.lowering_code.specs.Expressions.{branch_code}
+use Rattle.lowering_code.specs.Expressions.{branch_by_value_code}
 use Rattle.lowering_expressions.specs.declared.scope.LoweringScope.{LoweringScope}
 use Rattle.lowering_expressions.specs.Scopes.{expr_code}
 use Rattle.lowering_statements.specs.Scopes.{stmt_code, else_code, else_name}
@@ -43,6 +43,6 @@ switch_is v x xs ys h same = ap stmt_view h ∙ view_switch x xs ∙ ap (λ l. q
 
 -- an `if` with its second branch, or without
 pub if_code : (s : LoweringScope) (brk con : ℕ) (x : Expr) (y : q.Stmt) (h : q.Else) (rest : List CodeItem)
-    → stmt_code s brk con (q.If x y h) rest ≡ expr_code s 0 x (branch_code s.registers.locals IfFalse 0 (type_of x) (else_name s brk con h rest) (stmt_code s brk con y (else_code s brk con h rest)))
+    → stmt_code s brk con (q.If x y h) rest ≡ expr_code s 0 x (branch_by_value_code s.registers.locals IfFalse 0 (type_of x) (else_name s brk con h rest) (stmt_code s brk con y (else_code s brk con h rest)))
 if_code s brk con x y q.no_else rest = refl
 if_code s brk con x y (q.else_stmt z) rest = refl

@@ -2,7 +2,7 @@
 
 ghost use Rattle.std.specs.Prelude.{◌≡◌, OnOk, option_map, map, slice_get};
 ghost use Rattle.c_typed_tree.specs.View.{type_view, expr_view, local_view, first_view};
-ghost use Rattle.lowering_expressions.specs.Levels.{levels};
+ghost use Rattle.lowering_expressions.specs.Levels.{register_levels};
 ghost use Rattle.lowering_expressions.specs.Scopes.{HasLevels};
 ghost use Rattle.lowering_statements.specs.Levels.{optional_levels, declared_levels, locals_levels, first_levels};
 ghost use Rattle.lowering_statements.specs.Scopes.{put_code, put_scalar_code, put_local_code, initialise_code, declare_code, declares_code, first_code, again_code, test_code, after_code, return_code};
@@ -155,7 +155,7 @@ pub fn again(
     e: &TExpr,
 ) -> Result<(), AllocError>
     requires own { HasLevels scope.now 0 5 }
-    requires value { HasLevels scope.now 0 (levels (expr_view e.now)) }
+    requires value { HasLevels scope.now 0 (register_levels (expr_view e.now)) }
     ensures { OnOk result (code.new ≡ again_code scope.now (expr_view e.now) code.old) }
 {
     let source = scope.registers.value(0, e.ty());

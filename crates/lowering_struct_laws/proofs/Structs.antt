@@ -23,7 +23,7 @@ use Rattle.lowering_states.specs.Runs.{opens, CodeObservation, finish}
 use Rattle.lowering_states.specs.States.{IsHeld, IsInRegister}
 use Rattle.lowering_states.proofs.Steps.{meets_same}
 use Rattle.lowering_states.proofs.States.{kept_on, kept_reads, after_on}
-use Rattle.lowering_expression_laws.specs.Parts.{Setting, count, EndsSo, Stands, Fit, Follows, ExprMeets}
+use Rattle.lowering_expression_laws.specs.Parts.{Setting, first_depth, EndsSo, Stands, Fit, Follows, ExprMeets}
 use Rattle.lowering_expression_laws.proofs.Forms.{bound}
 use Rattle.lowering_place_laws.specs.Places.{left_of, PlaceMeets}
 use Rattle.lowering_place_laws.proofs.Accesses.{moved_on}
@@ -44,7 +44,7 @@ struct_held number Unset = tt
 
 module _ (c : Setting) (found : slice_get c.functions c.number ≡ Some c.code) where
   abbrev L : ℕ
-  L = count c
+  L = first_depth c
 
   -- ---- arrays
 

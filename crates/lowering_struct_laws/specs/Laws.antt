@@ -4,7 +4,7 @@ use Rattle.c_tree.specs.declared.expressions.AssignOp.TheVariants as a
 use Rattle.c_typed_tree.specs.Types.{PlainType, Pointer, Array, Struct}
 use Rattle.c_typed_tree.specs.Expressions.{Expr, Assign, Cast, Convert, type_of}
 use Rattle.lowering_code.specs.Expressions.{register_of}
-use Rattle.lowering_expression_laws.specs.Parts.{Setting, count, ExprMeets}
+use Rattle.lowering_expression_laws.specs.Parts.{Setting, first_depth, ExprMeets}
 use Rattle.lowering_place_laws.specs.Places.{PlaceMeets}
 use Rattle.lowering_access_laws.specs.Laws.{IsWholeStruct}
 
@@ -13,7 +13,7 @@ pub record StructsAndArrays (c : Setting) : Type 0 where
       → ExprMeets c (Convert (Pointer target) x)
   pub casts : (target element : PlainType) (n : ℕ) (x : Expr) → type_of x ≡ Array element n → PlaceMeets c x
       → ExprMeets c (Cast (Pointer target) x)
-  pub structs : (number : ℕ) (x y : Expr) → register_of (count c) c.structs c.locals x ≡ None
+  pub structs : (number : ℕ) (x y : Expr) → register_of (first_depth c) c.structs c.locals x ≡ None
       → type_of y ≡ Struct number → IsWholeStruct c number → PlaceMeets c x → ExprMeets c y
       → ExprMeets c (Assign (Struct number) a.Set x y)
 

@@ -27,7 +27,7 @@ use Rattle.vm_meaning.specs.Effect.{writes}
 use Rattle.vm_meaning.specs.Behave.{Registers, set_register}
 use Rattle.lowering_code.specs.declared.item.CodeItem.{CodeItem}
 use Rattle.lowering_code.specs.Registers.{register_type, temporary, value_register}
-use Rattle.lowering_code.specs.Expressions.{plain_of, branch_code}
+use Rattle.lowering_code.specs.Expressions.{plain_of, branch_by_value_code}
 use Rattle.lowering_code.specs.Statements.{Target, label_code, labels_code}
 use Rattle.lowering_states.specs.Places.{CodePlace, next_place, next_block, start_of_block}
 use Rattle.lowering_states.specs.Runs.{CodeObservation}
@@ -36,7 +36,7 @@ use Rattle.lowering_states.proofs.States.{set_same, set_other, other_depth, fits
 use Rattle.lowering_values.proofs.Operators.{operators_correspond}
 use Rattle.lowering_values.proofs.Accesses.{memories_correspond}
 use Rattle.lowering_expression_places.proofs.Behind.{at_plain, at_branch}
-use Rattle.lowering_expression_laws.specs.Parts.{Setting, count, EndsSo, Stands, Fit}
+use Rattle.lowering_expression_laws.specs.Parts.{Setting, first_depth, EndsSo, Stands, Fit}
 use Rattle.lowering_expression_laws.proofs.Forms.{insn_on, value_of_word}
 use Rattle.lowering_switch_laws.specs.Laws.{IsLabelOf}
 use Rattle.lowering_switch_laws.proofs.Names.{case_in, case_of}
@@ -84,7 +84,7 @@ AreLabelsOf t (l ∷ ls) = IsLabelOf t l.label × AreLabelsOf t ls
 
 module _ (c : Setting) (found : slice_get c.functions c.number ≡ Some c.code) (t : IntegerType) (pt : promote t ≡ t) (k : ℕ) (word : is_word t k ≡ true) (rest : List CodeItem) (heads : List ℕ) (f : Names) (scope : Scope) (s : CallState) (m : Memory) where
   abbrev L : ℕ
-  L = count c
+  L = first_depth c
 
   abbrev value : ℕ
   value = value_register L 0 (plain_of t)
@@ -95,7 +95,7 @@ module _ (c : Setting) (found : slice_get c.functions c.number ≡ Some c.code) 
     pub stands : r value ≡ Word k
 
   -- the branch behind a comparison
-  tested : {o : CodeObservation} (x : Bool) (label_word name : ℕ) (tail : List CodeItem) (q : CodePlace) (r : Registers) → (k == label_word) ≡ x → Holds r → vm.value_holds m (register_type (plain_of i.Int)) (r (temporary L 1 S32)) ≡ Some x → Stands c heads q (branch_code L IfTrue 1 (plain_of i.Int) name tail)
+  tested : {o : CodeObservation} (x : Bool) (label_word name : ℕ) (tail : List CodeItem) (q : CodePlace) (r : Registers) → (k == label_word) ≡ x → Holds r → vm.value_holds m (register_type (plain_of i.Int)) (r (temporary L 1 S32)) ≡ Some x → Stands c heads q (branch_by_value_code L IfTrue 1 (plain_of i.Int) name tail)
       → ((k == label_word) ≡ true → (q1 : Registers) → Holds q1 → EndsSo c o (start_of_block (c.last - name)) q1 s.world m)
       → ((k == label_word) ≡ false → (p : CodePlace) (q1 : Registers) → Stands c heads p tail → Holds q1 → EndsSo c o p q1 s.world m) → EndsSo c o q r s.world m
   tested true label_word name tail q r e h holds at hit miss =

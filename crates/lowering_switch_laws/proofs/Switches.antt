@@ -24,7 +24,7 @@ use Rattle.lowering_states.proofs.Steps.{fall, jump, number_meets}
 use Rattle.lowering_states.proofs.States.{after_same}
 use Rattle.lowering_expression_places.specs.Behind.{Somewhere}
 use Rattle.lowering_expression_places.proofs.Behind.{at_start, at_jump}
-use Rattle.lowering_expression_laws.specs.Parts.{Setting, count, EndsSo, Stands, Fit, ExprMeets}
+use Rattle.lowering_expression_laws.specs.Parts.{Setting, first_depth, EndsSo, Stands, Fit, ExprMeets}
 use Rattle.lowering_expression_laws.proofs.Forms.{bound, word_in}
 use Rattle.lowering_expression_laws.proofs.Choices.{at_block}
 use Rattle.lowering_statement_laws.specs.Parts.{AreApart, inner_of_all, Onward, StmtMeets, StmtsMeet}
@@ -45,7 +45,7 @@ inner_all k (more_stmts s ss) = let h = inner_all k ss in let least = inner_leas
 
 module _ (c : Setting) (found : slice_get c.functions c.number ≡ Some c.code) (again : Scope → Stmt → Run StatementFlow) (t : IntegerType) (con : ℕ) (rest : List CodeItem) (heads : List ℕ) where
   abbrev L : ℕ
-  L = count c
+  L = first_depth c
 
   abbrev brk : ℕ
   brk = items.block_total rest
@@ -124,7 +124,7 @@ module _ (c : Setting) (found : slice_get c.functions c.number ≡ Some c.code) 
       by_label false next = next
 
 -- the labels of sections
-labels_of : (c : Setting) (again : Scope → Stmt → Run StatementFlow) (t : IntegerType) (brk con : ℕ) (sections : Sections) (rest : List CodeItem) → SectionsMeet c again t sections → AreLabelsOf t (switch_targets (count c) c.structs c.locals brk con sections rest)
+labels_of : (c : Setting) (again : Scope → Stmt → Run StatementFlow) (t : IntegerType) (brk con : ℕ) (sections : Sections) (rest : List CodeItem) → SectionsMeet c again t sections → AreLabelsOf t (switch_targets (first_depth c) c.structs c.locals brk con sections rest)
 labels_of c again t brk con no_sections rest h = tt
 labels_of c again t brk con (more_sections label ss sections) rest h = (h.0, labels_of c again t brk con sections rest h.2)
 
@@ -141,44 +141,44 @@ module _ (c : Setting) (found : slice_get c.functions c.number ≡ Some c.code) 
   }
 
   -- behind all sections a block begins with what comes behind
-  block_behind : (con : ℕ) (rest : List CodeItem) (heads : List ℕ) (ss : Sections) (p : CodePlace) → Stands c heads p (sections_code (count c) c.structs c.locals (items.block_total rest) con ss (Start ∷ rest)) → (block : ℕ) × Stands c heads (start_of_block block) rest
+  block_behind : (con : ℕ) (rest : List CodeItem) (heads : List ℕ) (ss : Sections) (p : CodePlace) → Stands c heads p (sections_code (first_depth c) c.structs c.locals (items.block_total rest) con ss (Start ∷ rest)) → (block : ℕ) × Stands c heads (start_of_block block) rest
   block_behind con rest heads no_sections p at = (suc p.block, at_start c.code.blocks c.last c.end at)
   block_behind con rest heads (more_sections label ss others) p at =
-      let behind : Somewhere c.code.blocks c.last c.end heads (sections_code (count c) c.structs c.locals (items.block_total rest) con others (Start ∷ rest)) =
-      left_stmts c.code.blocks c.last c.end (count c) c.structs c.locals ss (items.block_total rest) con heads (sections_code (count c) c.structs c.locals (items.block_total rest) con others (Start ∷ rest)) (record { place = next_block p; at = at_start c.code.blocks c.last c.end at }) in
+      let behind : Somewhere c.code.blocks c.last c.end heads (sections_code (first_depth c) c.structs c.locals (items.block_total rest) con others (Start ∷ rest)) =
+      left_stmts c.code.blocks c.last c.end (first_depth c) c.structs c.locals ss (items.block_total rest) con heads (sections_code (first_depth c) c.structs c.locals (items.block_total rest) con others (Start ∷ rest)) (record { place = next_block p; at = at_start c.code.blocks c.last c.end at }) in
       block_behind con rest heads others behind.place behind.at
 
   switches : StmtMeets c again (Switch x sections)
   unfolding opens
   switches = record {
     by = λ brk con rest heads p f scope r s m K apart at fit low way.
-        let bodies = sections_code (count c) c.structs c.locals (items.block_total rest) con sections (Start ∷ rest) in
-        let targets = switch_targets (count c) c.structs c.locals (items.block_total rest) con sections (Start ∷ rest) in
+        let bodies = sections_code (first_depth c) c.structs c.locals (items.block_total rest) con sections (Start ∷ rest) in
+        let targets = switch_targets (first_depth c) c.structs c.locals (items.block_total rest) con sections (Start ∷ rest) in
         let tail : List CodeItem = Jump (default_name (items.block_total rest) targets) ∷ bodies in
         let chosen : ℕ → Run StatementFlow = (λ k. exec_from c.structs c.locals c.calls again scope (target_in k sections) sections) in
         let K1 : StatementFlow → CallState → CodeObservation = (λ z u. finish (after_switch z u) K) in
         bound c found (and_then (and_then (eval c.structs c.locals c.calls scope x s) use_number) chosen) after_switch K p r s.world m
         (bound c found (and_then (eval c.structs c.locals c.calls scope x s) use_number) chosen K1 p r s.world m
         (bound c found (eval c.structs c.locals c.calls scope x s) use_number (λ k u. finish (chosen k u) K1) p r s.world m
-        (hx.by 0 (labels_code (count c) c.structs c.locals (type_of x) targets tail) heads p f scope r s m (λ v u. finish (use_number v u) (λ k u1. finish (chosen k u1) K1)) at fit low
+        (hx.by 0 (labels_code (first_depth c) c.structs c.locals (type_of x) targets tail) heads p f scope r s m (λ v u. finish (use_number v u) (λ k u1. finish (chosen k u1) K1)) at fit low
         (λ q v g u q1 m1 at1 aft fit1 kept held stands.
         number_meets c.rooms c.functions v u (λ k u1. finish (chosen k u1) K1) _ (λ k is.
-        let word = word_in g (count c) 0 (type_of x) t v k q1 ex is held stands in
-        let at2 : Stands c heads q (labels_code (count c) c.structs c.locals (plain_of t) targets tail) = subst (λ z. Stands c heads q (labels_code (count c) c.structs c.locals z targets tail)) ex at1 in
-        let jump_at : Somewhere c.code.blocks c.last c.end heads tail = left_labels c.code.blocks c.last c.end (count c) c.structs c.locals (plain_of t) targets heads tail (record { place = q; at = at2 }) in
+        let word = word_in g (first_depth c) 0 (type_of x) t v k q1 ex is held stands in
+        let at2 : Stands c heads q (labels_code (first_depth c) c.structs c.locals (plain_of t) targets tail) = subst (λ z. Stands c heads q (labels_code (first_depth c) c.structs c.locals z targets tail)) ex at1 in
+        let jump_at : Somewhere c.code.blocks c.last c.end heads tail = left_labels c.code.blocks c.last c.end (first_depth c) c.structs c.locals (plain_of t) targets heads tail (record { place = q; at = at2 }) in
         let bodies_at : Stands c heads (next_block jump_at.place) bodies = at_jump c.code.blocks c.last c.end (default_name (items.block_total rest) targets) jump_at.at in
         let behind = block_behind con rest heads sections (next_block jump_at.place) bodies_at in
         let way1 : Onward c scope g u m1 K1 heads rest (items.block_total rest) con =
         behind_switch {s = u} behind.0 behind.1 (let w : Onward c scope g u m1 K heads rest brk con = onward_on c found again {s = s} {t = u} aft way in record { goes = w.goes; breaks = w.breaks; continues = w.continues; returns = w.returns }) in
-        let there : (q2 : Registers) → Fit c g scope q2 u m1 → EndsSo c (finish (chosen k u) K1) (start_of_block (c.last - section_name (count c) c.structs c.locals (items.block_total rest) con (Start ∷ rest) (target_in k sections) (items.block_total rest) sections)) q2 u.world m1 =
+        let there : (q2 : Registers) → Fit c g scope q2 u m1 → EndsSo c (finish (chosen k u) K1) (start_of_block (c.last - section_name (first_depth c) c.structs c.locals (items.block_total rest) con (Start ∷ rest) (target_in k sections) (items.block_total rest) sections)) q2 u.world m1 =
         (λ q2 fit2.
         from_leads c found again t con rest heads sections hs (target_in k sections) (next_block jump_at.place) bodies_at g scope q2 u m1 K1 (λ j lt. apart j (omega (arith, lt))) fit2 (omega (arith, aft.turned, low)) way1) in
         labels_lead c found t pt k word.is_one tail heads g scope u m1 targets (labels_of c again t (items.block_total rest) con sections (Start ∷ rest) hs) q q1 at2 (record { fit = fit1; stands = word.stands })
         (λ name e q2 h.
-        at_block c found q2 u.world m1 _ (c.last - name) (ap (λ z. c.last - z) (found_name (count c) c.structs c.locals (items.block_total rest) con (Start ∷ rest) k name (items.block_total rest) sections e)) (there q2 h.fit))
+        at_block c found q2 u.world m1 _ (c.last - name) (ap (λ z. c.last - z) (found_name (first_depth c) c.structs c.locals (items.block_total rest) con (Start ∷ rest) k name (items.block_total rest) sections e)) (there q2 h.fit))
         (λ e p2 q2 at3 h.
         jump c.rooms c.functions c.number c.code found c.own c.waiting (c.last - default_name (items.block_total rest) targets) p2 q2 u.world m1 at3.has.0
-        (at_block c found q2 u.world m1 _ (c.last - default_name (items.block_total rest) targets) (ap (λ z. c.last - z) (missing_name (count c) c.structs c.locals (items.block_total rest) con (Start ∷ rest) k (items.block_total rest) sections e)) (there q2 h.fit))))))));
+        (at_block c found q2 u.world m1 _ (c.last - default_name (items.block_total rest) targets) (ap (λ z. c.last - z) (missing_name (first_depth c) c.structs c.locals (items.block_total rest) con (Start ∷ rest) k (items.block_total rest) sections e)) (there q2 h.fit))))))));
   }
 
 pub switches_meet : SwitchesMeet

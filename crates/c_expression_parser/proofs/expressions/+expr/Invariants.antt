@@ -18,11 +18,11 @@ decreases-parameter l = 10 * l.depth + 1
 abbrev pub decreases-parameter_list : goal.decreases-parameter_list
 decreases-parameter_list l = 10 * l.depth + 2
 
-abbrev pub decreases-parameters : goal.decreases-parameters
-decreases-parameters l = 10 * l.depth + 3
+abbrev pub decreases-parameters_behind : goal.decreases-parameters_behind
+decreases-parameters_behind l = 10 * l.depth + 3
 
-abbrev pub decreases-arguments : goal.decreases-arguments
-decreases-arguments l = 10 * l.depth + 2
+abbrev pub decreases-arguments_behind : goal.decreases-arguments_behind
+decreases-arguments_behind l = 10 * l.depth + 2
 
 abbrev pub decreases-behind_name : goal.decreases-behind_name
 decreases-behind_name l = 10 * l.depth + 3
@@ -33,14 +33,14 @@ decreases-cast_behind l = 10 * l.depth + 2
 abbrev pub decreases-brackets_behind : goal.decreases-brackets_behind
 decreases-brackets_behind l = 10 * l.depth + 3
 
-abbrev pub decreases-size_of_type : goal.decreases-size_of_type
-decreases-size_of_type l = 10 * l.depth + 2
+abbrev pub decreases-sizeof_type_name : goal.decreases-sizeof_type_name
+decreases-sizeof_type_name l = 10 * l.depth + 2
 
-abbrev pub decreases-size_of_value : goal.decreases-size_of_value
-decreases-size_of_value l = 10 * l.depth + 1
+abbrev pub decreases-sizeof_unary : goal.decreases-sizeof_unary
+decreases-sizeof_unary l = 10 * l.depth + 1
 
-abbrev pub decreases-size_of : goal.decreases-size_of
-decreases-size_of l = 10 * l.depth + 3
+abbrev pub decreases-sizeof_behind : goal.decreases-sizeof_behind
+decreases-sizeof_behind l = 10 * l.depth + 3
 
 abbrev pub decreases-assignment : goal.decreases-assignment
 decreases-assignment l = 10 * l.depth + 1

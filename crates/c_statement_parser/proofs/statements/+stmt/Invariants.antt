@@ -29,20 +29,20 @@ decreases-sections l = 10 * l.inner + 3
 abbrev pub decreases-alternative : goal.decreases-alternative
 decreases-alternative l = 10 * l.inner + 1
 
-abbrev pub decreases-if_else : goal.decreases-if_else
-decreases-if_else l = 10 * l.inner + 2
+abbrev pub decreases-if_behind : goal.decreases-if_behind
+decreases-if_behind l = 10 * l.inner + 2
 
-abbrev pub decreases-while_loop : goal.decreases-while_loop
-decreases-while_loop l = 10 * l.inner + 1
+abbrev pub decreases-while_behind : goal.decreases-while_behind
+decreases-while_behind l = 10 * l.inner + 1
 
-abbrev pub decreases-do_loop : goal.decreases-do_loop
-decreases-do_loop l = 10 * l.inner + 1
+abbrev pub decreases-do_behind : goal.decreases-do_behind
+decreases-do_behind l = 10 * l.inner + 1
 
-abbrev pub decreases-for_loop : goal.decreases-for_loop
-decreases-for_loop l = 10 * l.inner + 1
+abbrev pub decreases-for_behind : goal.decreases-for_behind
+decreases-for_behind l = 10 * l.inner + 1
 
-abbrev pub decreases-switch : goal.decreases-switch
-decreases-switch l = 10 * l.inner + 4
+abbrev pub decreases-switch_behind : goal.decreases-switch_behind
+decreases-switch_behind l = 10 * l.inner + 4
 
 abbrev pub decreases-block : goal.decreases-block
 decreases-block l = 10 * l.inner + 2
