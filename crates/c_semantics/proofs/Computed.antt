@@ -1,10 +1,7 @@
 -- The small units, computed.
 use Rattle.std.proofs.Common.{◌≡◌, [], ◌∷◌, refl}
-use denote.Hole.Carrier as Carrier
-use Rattle.c_typed_tree.specs.declared.types.CType.TheBlock as tb
-use Rattle.c_typed_tree.specs.declared.expressions.TExpr.TheBlock as eb
 use Rattle.c_typed_tree.specs.declared.statements.TStmt.TheBlock as sb
-use Rattle.c_typed_tree.specs.View.{type_view, expr_view, stmt_view}
+use Rattle.c_typed_tree.specs.model.View.{opens}
 use Rattle.mem_model.specs.Memory.{load_at, store_at, copy_at}
 use Rattle.mem_model.specs.Cells.{bytes_of, parts_of, cells_of, number_of, pointer_of, value_or_fault}
 use Rattle.c_mean.specs.Behaviour.{Done, Trap, Undefined, More}
@@ -15,7 +12,7 @@ use Rattle.c_semantics.specs.Examples.{returns_seven, returns_nothing, status_is
 
 -- opens the meaning, and the trees of the units
 unfoldable pub the_meaning : Unit {0}
-unfolding ◌>>=◌ pure undefined trap exit no_turn turn on_memory set_memory read_register write_register put_character get load_at store_at copy_at bytes_of parts_of cells_of number_of pointer_of value_or_fault type_view expr_view stmt_view tb.hidden-the_row-CType-0 eb.hidden-the_row-TExpr-0 eb.hidden-the_row-TExpr-1 sb.hidden-the_row-TStmt-0 sb.hidden-the_row-TStmt-1 sb.hidden-the_row-TSection-2 Carrier.hidden
+unfolding ◌>>=◌ pure undefined trap exit no_turn turn on_memory set_memory read_register write_register put_character get load_at store_at copy_at bytes_of parts_of cells_of number_of pointer_of value_or_fault opens sb.hidden-the_row-TSection-2
 the_meaning = tt
 
 pub is-returns_seven : behave_c returns_seven [] 0 ≡ Done [] 7
