@@ -53,7 +53,7 @@ RULES = {
              "the later name", "6.2.1 p4, 6.7 p3", ["c_judgements::named_parameter"]),
             ("two locals or parameters of one scope have the same name, in the definition of a function; its "
              "parameters and the outermost block are one scope", "the later name", "6.2.1 p4, 6.7 p3",
-             ["c_statement_rules::local_named"]),
+             ["c_local_rules::local_named"]),
             ("the tag of an enumeration stands behind `struct`", "the tag", "6.7.2.3",
              ["c_judgements::struct_tagged"]),
             ("the tag of a struct stands behind `enum`", "the tag", "6.7.2.3", ["c_judgements::enum_tagged"]),
@@ -100,7 +100,7 @@ RULES = {
             ("a struct that is larger than the limit", "the tag, or the word `struct`", "5.2.4.1, 6.7.2.1",
              ["c_tag_bodies::too_large"]),
             ("a local that is void, a function, an incomplete struct or an array without a length, or whose type "
-             "is deeper than the limit", NAME, "6.7 p7", ["c_statement_rules::no_object_type"]),
+             "is deeper than the limit", NAME, "6.7 p7", ["c_local_rules::no_object_type"]),
             ("an object at file scope of such a type; an array without a length may stand there where an "
              "initialiser gives it one", NAME, "6.7 p7, 6.9.2", ["c_declarations::no_object_type"]),
             ("a body behind a declarator whose type is no function's", NAME, "6.9.1 p2",
@@ -108,7 +108,7 @@ RULES = {
             ("a body behind a declarator that is no function's own, but has its type from a typedef name", NAME,
              "6.9.1 p2", ["c_declarations::defined_type"]),
             ("a parameter without a name in the definition of a function", "the parameter's first token",
-             "6.9.1 p5", ["c_declarations::name_judged", "c_statement_rules::nameless_local"]),
+             "6.9.1 p5", ["c_declarations::name_judged", "c_local_rules::nameless_local"]),
         ],
     ),
     "NotConstant": (
@@ -301,7 +301,7 @@ RULES = {
             ("a list stands as the initialiser of a function", "the brace", "6.7.8 p3",
              ["c_declarations::refusal_of"]),
             ("a local array has an initialiser (left out here)", "the initialiser", "6.7.8 p14, p16",
-             ["c_statement_rules::no_initialiser"]),
+             ["c_local_rules::no_initialiser"]),
         ],
     ),
 }

@@ -19,8 +19,8 @@ use Rattle.c_checks.specs.Checks.{each}
 use Rattle.c_judgements.specs.Types.{JudgementState, type_named}
 use Rattle.c_tag_bodies.specs.Bodies.{TagScope, declared_type}
 use Rattle.c_declarations.specs.Unfit.{judge_init}
-use Rattle.c_statements.specs.declared.functions.FunctionType.{FunctionType}
-use Rattle.c_statements.specs.Functions.{judge_function}
+use Rattle.c_function_bodies.specs.declared.functions.FunctionType.{FunctionType}
+use Rattle.c_function_bodies.specs.Functions.{judge_function}
 use Rattle.c_unit_names.specs.declared.names.NameDeclaration.{NameDeclaration}
 use Rattle.c_declarations.specs.declared.walk.UnitSoFar.{UnitSoFar}
 use Rattle.c_declarations.specs.Walk.{UnitWalk, in_notes, with_state, declare, body_kept}

@@ -14,10 +14,10 @@ use c_declarations::{
 };
 use c_declared_types::DeclaredType;
 use c_definitions::Definitions;
+use c_function_bodies::{FunctionType, function};
 use c_judgements::leaves::copy_types;
 use c_judgements::types::type_named;
 use c_scopes::NameTable;
-use c_statements::{FunctionType, function};
 use c_tag_bodies::declared_type;
 use c_tree::{Declaration, External, FunctionEnd, Init, Stmt, Storage, TypeNode};
 use c_typed_tree::CType;

@@ -10,10 +10,10 @@ use Rattle.c_checks.specs.Checks.{walk, append_part}
 use Rattle.c_checks.specs.Scopes.{enter}
 use Rattle.c_judgements.specs.Types.{JudgementState}
 use Rattle.c_statement_rules.specs.Jumps.{no_jumps}
-use Rattle.c_statement_rules.specs.Locals.{BodyState, parameter_named, with_addressed}
-use Rattle.c_statements.specs.declared.functions.FunctionType.{FunctionType}
+use Rattle.c_local_rules.specs.Locals.{BodyState, parameter_named, with_addressed}
+use Rattle.c_function_bodies.specs.declared.functions.FunctionType.{FunctionType}
 use Rattle.c_statements.specs.Statements.{statement}
-use Rattle.c_statements.specs.Functions.{parameters_of, judge_parameter, parameters, typed_parameters, declared_parameters, result_of, typed_function, judge_function}
+use Rattle.c_function_bodies.specs.Functions.{parameters_of, judge_parameter, parameters, typed_parameters, declared_parameters, result_of, typed_function, judge_function}
 use Rattle.c_found_laws.specs.Laws.{Tells, IsFound}
 use Rattle.c_found_laws.proofs.Forms.{no_true, also, tells_none, tells_as, tells_then, tells_both, append_found, left_tells}
 use Rattle.c_found_statement_laws.specs.Laws.{are_as_many, type_fits}

@@ -34,16 +34,16 @@ use Rattle.c_checks.specs.Scopes.{with_meaning, stands_here}
 use Rattle.c_judgements.specs.Leaves.{leaf}
 use Rattle.c_judgements.specs.Types.{JudgementState, parameter_type}
 use Rattle.c_expressions.specs.Expressions.{judge, derive}
-use Rattle.c_statement_rules.specs.Members.{is_member_type}
+use Rattle.c_local_rules.specs.Members.{is_member_type}
 use Rattle.c_statement_rules.specs.declared.jumps.Jumps.{Jumps}
 use Rattle.c_statement_rules.specs.declared.labels.Labels.{Labels}
-use Rattle.c_statement_rules.specs.declared.locals.NewLocal.{NewLocal}
-use Rattle.c_statement_rules.specs.Objects.{no_object_type, object_type}
+use Rattle.c_local_rules.specs.declared.locals.NewLocal.{NewLocal}
+use Rattle.c_local_rules.specs.Objects.{no_object_type, object_type}
 use Rattle.c_statement_rules.specs.Values.{condition_check, switch_check, full_expression, return_of, bad_return, return_value, return_nothing}
 use Rattle.c_statement_rules.specs.Jumps.{bad_jump, break_statement, continue_statement}
 use Rattle.c_statement_rules.specs.Labels.{has_word, with_words, with_default, LabelState, beside_labels, bad_label, operand_type, case_value, case_label, default_label}
-use Rattle.c_statement_rules.specs.Locals.{BodyState, with_notes, local_of_type, local_named, nameless_local, parameter_named, parameter_declared, no_initialiser, initialiser, with_initialiser, local_with_value, without_initialiser}
-use Rattle.c_statements.specs.Parts.{condition_of, full_value, operand_of, optional_condition, optional_value, return_statement, judge_type, initialiser_of, local_of, first_of, label_of}
+use Rattle.c_local_rules.specs.Locals.{BodyState, with_notes, local_of_type, local_named, nameless_local, parameter_named, parameter_declared, no_initialiser, initialiser, with_initialiser, local_with_value, without_initialiser}
+use Rattle.c_statement_parts.specs.Parts.{condition_of, full_value, operand_of, optional_condition, optional_value, return_statement, judge_type, initialiser_of, local_of, first_of, label_of}
 use Rattle.c_found_laws.specs.Laws.{Tells, IsFound, YieldsFound}
 use Rattle.c_found_laws.proofs.Forms.{no_true, tells_none, tells_fault, tells_as, tells_then, tells_both, tells_never, tells_named, ruled, map_found, each_tells, both_tells, each_under, append_found, parameter_type_tells, leaf_tells}
 use Rattle.c_found_laws.proofs.Walks.{one_part, judge_tells, derive_tells}

@@ -15,9 +15,9 @@ use Rattle.c_judgements.specs.Types.{JudgementState}
 use Rattle.c_statement_rules.specs.declared.jumps.Jumps.{Jumps}
 use Rattle.c_statement_rules.specs.Jumps.{in_loop, in_switch, break_statement, continue_statement}
 use Rattle.c_statement_rules.specs.Labels.{no_labels}
-use Rattle.c_statement_rules.specs.Locals.{BodyState}
+use Rattle.c_local_rules.specs.Locals.{BodyState}
 use Rattle.c_statement_rules.specs.Forms.{if_else, while_loop, do_loop, for_loop, switch, section_under, switch_type}
-use Rattle.c_statements.specs.Parts.{condition_of, full_value, operand_of, optional_condition, optional_value, local_of, first_of, label_of}
+use Rattle.c_statement_parts.specs.Parts.{condition_of, full_value, operand_of, optional_condition, optional_value, local_of, first_of, label_of}
 use Rattle.c_statements.specs.Statements.{SwitchState, in_scope, beside_locals, statement, statement_row, else_held, judge_section_row}
 use Rattle.c_found_laws.specs.Laws.{Tells, IsFound}
 use Rattle.c_found_laws.proofs.Forms.{no_true, tells_none, tells_as, tells_then, tells_both, append_found, map_found, left_tells}

@@ -3,8 +3,8 @@ use Rattle.std.specs.Prelude.{Bool, true, false, IsTrue, List, [], ◌∷◌, Op
 use Rattle.c_tree.specs.declared.types.Declaration.{Declaration}
 use Rattle.c_tree.specs.declared.statements.Stmt.{Stmt}
 use Rattle.c_judgements.specs.Types.{JudgementState}
-use Rattle.c_statements.specs.declared.functions.FunctionType.{FunctionType}
-use Rattle.c_statements.specs.Functions.{parameters_of, judge_function}
+use Rattle.c_function_bodies.specs.declared.functions.FunctionType.{FunctionType}
+use Rattle.c_function_bodies.specs.Functions.{parameters_of, judge_function}
 use Rattle.c_found_laws.specs.Laws.{Tells, IsFound}
 
 -- whether there is a type for each parameter

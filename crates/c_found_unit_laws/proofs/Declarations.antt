@@ -28,8 +28,8 @@ use Rattle.c_checks.specs.Scopes.{with_meaning, meaning_of}
 use Rattle.c_judgements.specs.Leaves.{no_type}
 use Rattle.c_judgements.specs.Types.{JudgementState, type_named}
 use Rattle.c_tag_bodies.specs.Members.{is_member_type}
-use Rattle.c_statements.specs.declared.functions.FunctionType.{FunctionType}
-use Rattle.c_statements.specs.Functions.{judge_function}
+use Rattle.c_function_bodies.specs.declared.functions.FunctionType.{FunctionType}
+use Rattle.c_function_bodies.specs.Functions.{judge_function}
 use Rattle.c_unit_names.specs.declared.names.NameDeclaration.{NameDeclaration}
 use Rattle.c_unit_names.specs.declared.names.UnitNames.{UnitNames}
 use Rattle.c_unit_names.specs.UnitNames.{may_follow, object_name, function_name, first_meaning, named_first, with_declared, with_value, meaning_before, redeclare, first_by, first_declared, follows, known_by, known_declared, judge_declaration}

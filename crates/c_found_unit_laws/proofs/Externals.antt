@@ -26,8 +26,8 @@ use Rattle.c_checks.specs.Notes.{with_fault}
 use Rattle.c_judgements.specs.Leaves.{no_type}
 use Rattle.c_judgements.specs.Types.{JudgementState}
 use Rattle.c_tag_bodies.specs.Bodies.{TagScope, declared_type}
-use Rattle.c_statements.specs.declared.functions.FunctionType.{FunctionType}
-use Rattle.c_statements.specs.Functions.{parameters_of, judge_function}
+use Rattle.c_function_bodies.specs.declared.functions.FunctionType.{FunctionType}
+use Rattle.c_function_bodies.specs.Functions.{parameters_of, judge_function}
 use Rattle.c_initialisers.specs.Unfit.{judge_init, no_place}
 use Rattle.data_object.specs.declared.DataCell.{DataCell}
 use Rattle.c_arithmetic.specs.declared.integer_type.IntegerType.TheVariants.{Int}

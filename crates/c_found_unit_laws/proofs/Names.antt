@@ -10,8 +10,8 @@ use Rattle.c_judgement_laws.specs.Covers.{IsLawfulContext}
 use Rattle.c_judgements.specs.Types.{JudgementState}
 use Rattle.c_expressions.specs.Expressions.{judge, derive}
 use Rattle.c_statement_laws.proofs.Expressions.{judge_walks, derive_walks}
-use Rattle.c_statements.specs.declared.functions.FunctionType.{FunctionType}
-use Rattle.c_statements.specs.Functions.{judge_function}
+use Rattle.c_function_bodies.specs.declared.functions.FunctionType.{FunctionType}
+use Rattle.c_function_bodies.specs.Functions.{judge_function}
 use Rattle.c_statement_laws.proofs.Functions.{function_leaves}
 
 -- the names are left whatever the context is

@@ -16,7 +16,7 @@ use Rattle.c_judgements.specs.Leaves.{leaf}
 use Rattle.c_judgements.specs.Types.{JudgementState, required_type, function, parameter_declared}
 use Rattle.c_expressions.specs.Expressions.{derive, judge_parameter_row}
 use Rattle.c_tag_bodies.specs.Bodies.{TagScope, bodies, declared_type}
-use Rattle.c_statements.specs.declared.functions.FunctionType.{FunctionType}
+use Rattle.c_function_bodies.specs.declared.functions.FunctionType.{FunctionType}
 use Rattle.c_found_statement_laws.specs.Laws.{are_as_many}
 use Rattle.c_found_unit_laws.specs.Steps.{declared_as}
 

@@ -24,12 +24,12 @@ use Rattle.c_judgements.specs.Types.{JudgementState}
 use Rattle.c_checks.specs.Checks.{walk}
 use Rattle.c_checks.specs.Scopes.{enter}
 use Rattle.c_statement_rules.specs.Jumps.{no_jumps}
-use Rattle.c_statement_rules.specs.Locals.{with_addressed}
+use Rattle.c_local_rules.specs.Locals.{with_addressed}
 use Rattle.c_statements.specs.Statements.{statement}
 use Rattle.c_tag_bodies.specs.Bodies.{TagScope}
 use Rattle.c_initialisers.specs.Initialisers.{object_cells, length_given}
-use Rattle.c_statements.specs.declared.functions.FunctionType.{FunctionType}
-use Rattle.c_statements.specs.Functions.{parameters_of, declared_parameters, result_of, typed_function, judge_function}
+use Rattle.c_function_bodies.specs.declared.functions.FunctionType.{FunctionType}
+use Rattle.c_function_bodies.specs.Functions.{parameters_of, declared_parameters, result_of, typed_function, judge_function}
 use Rattle.c_declarations.specs.declared.walk.UnitFunction.{UnitFunction}
 use Rattle.c_declarations.specs.declared.walk.UnitSoFar.{UnitSoFar}
 use Rattle.c_declarations.specs.Walk.{UnitWalk, in_notes, with_notes, declare, main_checked, next_object, object_number, add_numbered, with_unit_object, fill_numbered, keep_cells, function_at, add_function, keep_function}

@@ -13,10 +13,10 @@ use Rattle.c_checks.specs.Checks.{walk}
 use Rattle.c_checks.specs.Scopes.{enter}
 use Rattle.c_judgements.specs.Types.{JudgementState}
 use Rattle.c_statement_rules.specs.Jumps.{no_jumps}
-use Rattle.c_statement_rules.specs.Locals.{memory_local_at, with_addressed}
+use Rattle.c_local_rules.specs.Locals.{memory_local_at, with_addressed}
 use Rattle.c_statements.specs.Statements.{statement}
-use Rattle.c_statements.specs.declared.functions.FunctionType.{FunctionType}
-use Rattle.c_statements.specs.Functions.{declared_parameters, parameters_of, result_of, typed_function, judge_function}
+use Rattle.c_function_bodies.specs.declared.functions.FunctionType.{FunctionType}
+use Rattle.c_function_bodies.specs.Functions.{declared_parameters, parameters_of, result_of, typed_function, judge_function}
 use Rattle.c_local_laws.specs.Laws.{DeclaresItsLocals}
 use Rattle.c_local_laws.proofs.Numbers.{Declares, declares_none, count_of, walk_says}
 use Rattle.c_local_laws.proofs.Statements.{stmt_here, stmts_here, stmts_push, statement_says}

@@ -30,9 +30,9 @@ use Rattle.c_statement_rules.specs.declared.jumps.Jumps.{Jumps}
 use Rattle.c_statement_rules.specs.Jumps.{in_loop, in_switch, break_statement, continue_statement}
 use Rattle.c_statement_rules.specs.Labels.{no_labels}
 use Rattle.c_statement_rules.specs.Values.{return_of, bad_return, return_value}
-use Rattle.c_statement_rules.specs.Locals.{BodyState}
+use Rattle.c_local_rules.specs.Locals.{BodyState}
 use Rattle.c_statement_rules.specs.Forms.{if_else, while_loop, do_loop, for_loop, switch, section_under, switch_type, block, expression_statement, local_statement}
-use Rattle.c_statements.specs.Parts.{condition_of, full_value, operand_of, optional_condition, optional_value, return_statement, local_of, first_of, label_of}
+use Rattle.c_statement_parts.specs.Parts.{condition_of, full_value, operand_of, optional_condition, optional_value, return_statement, local_of, first_of, label_of}
 use Rattle.c_statements.specs.Statements.{SwitchState, in_scope, statement, statement_row, else_held, judge_section_row}
 use Rattle.c_local_laws.proofs.Numbers.{Declares, Is, plus, declares_on, declares_as, declares_none, count_of, part_count}
 use Rattle.c_local_laws.proofs.Locals.{here, first_here, local_says, first_says}

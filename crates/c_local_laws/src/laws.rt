@@ -4,8 +4,8 @@ ghost use Rattle.std.specs.Prelude.{List, Option, IfSome};
 ghost use Rattle.c_tree.specs.declared.types.Declaration.{Declaration};
 ghost use Rattle.c_tree.specs.declared.statements.Stmt.{Stmt};
 ghost use Rattle.c_judgements.specs.Types.{JudgementState};
-ghost use Rattle.c_statements.specs.declared.functions.FunctionType.{FunctionType};
-ghost use Rattle.c_statements.specs.Functions.{judge_function};
+ghost use Rattle.c_function_bodies.specs.declared.functions.FunctionType.{FunctionType};
+ghost use Rattle.c_function_bodies.specs.Functions.{judge_function};
 ghost use Rattle.c_local_laws.specs.Laws.{DeclaresItsLocals};
 
 /// The parameters of a function that is judged are its first locals; its body declares none of them, and each other one

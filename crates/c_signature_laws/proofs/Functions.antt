@@ -19,12 +19,12 @@ use Rattle.c_checks.specs.Scopes.{enter, stands_here}
 use Rattle.c_judgements.specs.Types.{JudgementState}
 use Rattle.c_judgement_laws.specs.Covers.{IsLawfulContext}
 use Rattle.c_type_laws.proofs.Truth.{no_true, front, back}
-use Rattle.c_statement_rules.specs.declared.locals.NewLocal.{NewLocal}
+use Rattle.c_local_rules.specs.declared.locals.NewLocal.{NewLocal}
 use Rattle.c_statement_rules.specs.Jumps.{no_jumps}
-use Rattle.c_statement_rules.specs.Locals.{BodyState, with_notes, local_of_type, parameter_named, with_addressed}
-use Rattle.c_statements.specs.declared.functions.FunctionType.{FunctionType}
+use Rattle.c_local_rules.specs.Locals.{BodyState, with_notes, local_of_type, parameter_named, with_addressed}
+use Rattle.c_function_bodies.specs.declared.functions.FunctionType.{FunctionType}
 use Rattle.c_statements.specs.Statements.{statement}
-use Rattle.c_statements.specs.Functions.{parameters_of, typed_parameters, typed_function, judge_function}
+use Rattle.c_function_bodies.specs.Functions.{parameters_of, typed_parameters, typed_function, judge_function}
 use Rattle.c_statement_laws.proofs.Locals.{Grows, addressed_types}
 use Rattle.c_statement_laws.proofs.Moves.{moves_none, walk_moves}
 use Rattle.c_statement_laws.proofs.Forms.{IsStmt, AreStmts, stmts_more}

@@ -30,10 +30,10 @@ use Rattle.c_checks.specs.declared.notes.Notes.{Notes}
 use Rattle.c_checks.specs.Checks.{pure, and_then, append_part, note_fault, walk}
 use Rattle.c_judgements.specs.Types.{JudgementState}
 use Rattle.c_expressions.specs.Expressions.{judge}
-use Rattle.c_statement_rules.specs.declared.locals.NewLocal.{NewLocal}
-use Rattle.c_statement_rules.specs.Locals.{BodyState, local_declared, no_initialiser, initialiser, with_initialiser, local_with_value}
+use Rattle.c_local_rules.specs.declared.locals.NewLocal.{NewLocal}
+use Rattle.c_local_rules.specs.Locals.{BodyState, local_declared, no_initialiser, initialiser, with_initialiser, local_with_value}
 use Rattle.c_statement_rules.specs.Values.{condition_check, switch_check, full_expression, return_of, bad_return, return_value, return_nothing}
-use Rattle.c_statements.specs.Parts.{condition_of, full_value, operand_of, optional_condition, optional_value, return_statement, judge_type, initialiser_of, local_of, first_of}
+use Rattle.c_statement_parts.specs.Parts.{condition_of, full_value, operand_of, optional_condition, optional_value, return_statement, judge_type, initialiser_of, local_of, first_of}
 use Rattle.c_expression_height_laws.specs.Laws.{IsWithin}
 use Rattle.c_expression_height_laws.proofs.Rules.{StandsWithin, stands_roomy, decay_within, converted_within, taken_within, condition_within}
 use Rattle.c_expression_height_laws.proofs.Forms.{ruled, each_within, both_within, appended, either_found}

@@ -8,8 +8,8 @@ use Rattle.c_tree.specs.declared.declarations.External.TheVariants.{Function}
 use Rattle.c_tree.specs.Nodes.{external_node, node_height}
 use Rattle.c_typed_height.specs.Heights.{function_height}
 use Rattle.c_judgements.specs.Types.{JudgementState}
-use Rattle.c_statements.specs.declared.functions.FunctionType.{FunctionType}
-use Rattle.c_statements.specs.Functions.{judge_function}
+use Rattle.c_function_bodies.specs.declared.functions.FunctionType.{FunctionType}
+use Rattle.c_function_bodies.specs.Functions.{judge_function}
 
 abbrev pub FunctionsAreWithin : Type 0
 FunctionsAreWithin =

@@ -21,11 +21,11 @@ use Rattle.c_checks.specs.Checks.{walk}
 use Rattle.c_checks.specs.Scopes.{enter}
 use Rattle.c_judgements.specs.Types.{JudgementState}
 use Rattle.c_statement_rules.specs.Jumps.{no_jumps}
-use Rattle.c_statement_rules.specs.Locals.{BodyState, with_addressed}
+use Rattle.c_local_rules.specs.Locals.{BodyState, with_addressed}
 use Rattle.c_statements.specs.Statements.{statement}
-use Rattle.c_statements.specs.declared.functions.FunctionType.{FunctionType}
-use Rattle.c_statements.specs.Functions.{declared_parameters, result_of, typed_function, without_addresses, judge_function}
-use Rattle.c_statements.specs.Functions as own
+use Rattle.c_function_bodies.specs.declared.functions.FunctionType.{FunctionType}
+use Rattle.c_function_bodies.specs.Functions.{declared_parameters, result_of, typed_function, without_addresses, judge_function}
+use Rattle.c_function_bodies.specs.Functions as own
 use Rattle.c_type_laws.proofs.Truth.{front, back, also, along}
 use Rattle.c_judgement_laws.specs.Covers.{AreInMemory, HaveTexts, IsLawfulContext}
 use Rattle.c_judgement_laws.proofs.Structs.{object_fits}

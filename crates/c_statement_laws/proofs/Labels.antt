@@ -24,8 +24,8 @@ use Rattle.c_checks.specs.Checks.{and_then, each, note_fault}
 use Rattle.c_expressions.specs.Expressions.{judge}
 use Rattle.c_statement_rules.specs.declared.labels.Labels.{Labels}
 use Rattle.c_statement_rules.specs.Labels.{has_word, with_words, with_default, LabelState, beside_labels, bad_label, new_case, operand_type, case_value, case_label, default_label}
-use Rattle.c_statement_rules.specs.Locals.{BodyState}
-use Rattle.c_statements.specs.Parts.{label_of}
+use Rattle.c_local_rules.specs.Locals.{BodyState}
+use Rattle.c_statement_parts.specs.Parts.{label_of}
 use Rattle.c_type_laws.proofs.Truth.{no_true, front, back, three, either_right}
 use Rattle.c_type_laws.proofs.Primary.{label_word}
 use Rattle.c_judgement_laws.specs.Covers.{IsLawfulContext}

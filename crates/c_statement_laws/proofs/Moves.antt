@@ -9,7 +9,7 @@ use Rattle.c_checks.specs.declared.notes.Notes.{Notes}
 use Rattle.c_checks.specs.Checks.{each, both_parts, walk, append_part, note_fault}
 use Rattle.c_checks.specs.Scopes.{leave}
 use Rattle.c_judgements.specs.Types.{JudgementState}
-use Rattle.c_statement_rules.specs.Locals.{BodyState}
+use Rattle.c_local_rules.specs.Locals.{BodyState}
 use Rattle.c_statements.specs.Statements.{in_scope, behind_scope}
 use Rattle.c_judgement_laws.specs.Covers.{HasNames, Knows, Takes}
 use Rattle.c_judgement_laws.proofs.Notes.{Later, later_itself, later_then, later_fault}

@@ -26,7 +26,7 @@ use Rattle.c_declared_types.specs.declared.declared.DeclaredType.{DeclaredType}
 use Rattle.c_declared_types.specs.declared.declared.DeclaredType.TheVariants as d
 use Rattle.c_declared_types.specs.Declarators.{parameter_value, adjusted_parameter}
 use Rattle.c_declared_types.specs.Depth.{is_deep_at_most}
-use Rattle.c_statement_rules.specs.Members.{is_member_type}
+use Rattle.c_local_rules.specs.Members.{is_member_type}
 use Rattle.c_type_faults.specs.declared.faults.Kind.TheVariants.{BadType, BadInit, Redeclared}
 use Rattle.c_type_rules.specs.declared.typed.TypedExpression.{TypedExpression}
 use Rattle.c_operators.specs.Null.{take_value}
@@ -40,13 +40,13 @@ use Rattle.c_checks.specs.Notes.{with_fault}
 use Rattle.c_checks.specs.Scopes.{with_meaning, meaning_of, stands_here}
 use Rattle.c_judgements.specs.Types.{no_parameter, within_depth, parameter_type}
 use Rattle.c_expressions.specs.Expressions.{judge}
-use Rattle.c_statement_rules.specs.declared.locals.NewLocal.{NewLocal}
-use Rattle.c_statement_rules.specs.Objects.{no_object_type, object_type}
+use Rattle.c_local_rules.specs.declared.locals.NewLocal.{NewLocal}
+use Rattle.c_local_rules.specs.Objects.{no_object_type, object_type}
 use Rattle.c_statement_rules.specs.Forms.{first_value, first_locals}
-use Rattle.c_statement_rules.specs.Locals.{BodyState, with_notes, local_of_type, local_named, nameless_local, parameter_named, no_initialiser, with_initialiser, local_with_value, without_initialiser}
-use Rattle.c_statements.specs.Parts.{judge_type, full_value, initialiser_of, local_of, first_of}
-use Rattle.c_statements.specs.declared.functions.FunctionType.{FunctionType}
-use Rattle.c_statements.specs.Functions.{judge_parameter as one_parameter, parameters, typed_parameters, declared_parameters}
+use Rattle.c_local_rules.specs.Locals.{BodyState, with_notes, local_of_type, local_named, nameless_local, parameter_named, no_initialiser, with_initialiser, local_with_value, without_initialiser}
+use Rattle.c_statement_parts.specs.Parts.{judge_type, full_value, initialiser_of, local_of, first_of}
+use Rattle.c_function_bodies.specs.declared.functions.FunctionType.{FunctionType}
+use Rattle.c_function_bodies.specs.Functions.{judge_parameter as one_parameter, parameters, typed_parameters, declared_parameters}
 use Rattle.c_type_laws.specs.Typed.{AreKnown, IsTypedIn}
 use Rattle.c_type_laws.proofs.Truth.{no_true, front, back, also, three, along, either_left}
 use Rattle.c_type_laws.proofs.Types.{known_object}

@@ -22,8 +22,8 @@ use Rattle.c_judgements.specs.Leaves.{leaf}
 use Rattle.c_expressions.specs.Expressions.{judge, derive}
 use Rattle.c_statement_rules.specs.Values.{condition_check, switch_check, full_expression, return_of, bad_return, return_value, return_nothing}
 use Rattle.c_statement_rules.specs.Forms.{some_part}
-use Rattle.c_statement_rules.specs.Locals.{BodyState}
-use Rattle.c_statements.specs.Parts.{condition_of, full_value, operand_of, optional_condition, optional_value, return_statement, judge_type}
+use Rattle.c_local_rules.specs.Locals.{BodyState}
+use Rattle.c_statement_parts.specs.Parts.{condition_of, full_value, operand_of, optional_condition, optional_value, return_statement, judge_type}
 use Rattle.c_type_laws.specs.Typed.{IsTypedIn, IsSwitched}
 use Rattle.c_judgement_laws.specs.Covers.{Takes, IsLawfulContext, IsJudged}
 use Rattle.c_judgement_laws.proofs.Notes.{Later, later_itself, later_fault}

@@ -12,9 +12,9 @@ use Rattle.c_checks.specs.Checks.{append_part}
 use Rattle.c_statement_rules.specs.declared.jumps.Jumps.{Jumps}
 use Rattle.c_statement_rules.specs.Jumps.{in_loop, in_switch, break_statement, continue_statement}
 use Rattle.c_statement_rules.specs.Labels.{no_labels}
-use Rattle.c_statement_rules.specs.Locals.{BodyState}
+use Rattle.c_local_rules.specs.Locals.{BodyState}
 use Rattle.c_statement_rules.specs.Forms.{section_under, switch_type}
-use Rattle.c_statements.specs.Parts.{condition_of, full_value, operand_of, optional_condition, optional_value, local_of, first_of, label_of}
+use Rattle.c_statement_parts.specs.Parts.{condition_of, full_value, operand_of, optional_condition, optional_value, local_of, first_of, label_of}
 use Rattle.c_statements.specs.Statements.{SwitchState, in_scope, statement, statement_row, else_held, judge_section_row}
 use Rattle.c_judgement_laws.specs.Covers.{IsLawfulContext}
 use Rattle.c_statement_laws.proofs.Moves.{Moves, moves_none, moves_as, moves_then, moves_both, moves_noted, scope_moves, part_more}

@@ -13,8 +13,8 @@ use Rattle.c_typed_tree.specs.Lawful.{context_of, is_object_type, is_result, is_
 use Rattle.c_judgements.specs.Types.{JudgementState}
 use Rattle.c_judgement_laws.specs.Covers.{Knows, HaveTexts, IsLawfulContext}
 use Rattle.c_expression_laws.specs.Laws.{HasScope}
-use Rattle.c_statements.specs.declared.functions.FunctionType.{FunctionType}
-use Rattle.c_statements.specs.Functions.{judge_function}
+use Rattle.c_function_bodies.specs.declared.functions.FunctionType.{FunctionType}
+use Rattle.c_function_bodies.specs.Functions.{judge_function}
 
 -- a parameter is a scalar no deeper than a type may be
 abbrev pub is_parameter : List StructDef → CType → Bool

@@ -21,9 +21,9 @@ use Rattle.c_primary_rules.specs.Switches as w
 use Rattle.c_operators.specs.Null.{take_value}
 use Rattle.c_checks.specs.declared.notes.Notes.{Notes}
 use Rattle.c_checks.specs.Checks.{pure, and_then, note_fault}
-use Rattle.c_statement_rules.specs.declared.locals.NewLocal.{NewLocal}
+use Rattle.c_local_rules.specs.declared.locals.NewLocal.{NewLocal}
 use Rattle.c_statement_rules.specs.Values.{condition_check, switch_check, full_expression, return_of, bad_return, return_value, return_nothing}
-use Rattle.c_statement_rules.specs.Locals.{no_initialiser, with_initialiser, local_with_value}
+use Rattle.c_local_rules.specs.Locals.{no_initialiser, with_initialiser, local_with_value}
 use Rattle.c_type_laws.specs.Typed.{IsTypedIn, IsOfType, IsTested, IsSwitched}
 use Rattle.c_type_laws.proofs.Truth.{no_true, also, three, along}
 use Rattle.c_type_laws.proofs.Types.{same, equal, fit_type}

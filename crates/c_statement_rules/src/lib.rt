@@ -1,5 +1,5 @@
 //! What statements are, by their parts, and every fault that they have besides those of their parts (C99 6.8): jumps,
-//! labels, `return`, conditions, and the locals that are declared in blocks.
+//! labels, `return` and conditions.
 //!
 //! Nothing here goes down into a tree: each function is given what its parts were judged to be.
 #![tactic(auto)]
@@ -7,10 +7,7 @@
 pub mod forms;
 pub mod jumps;
 pub mod labels;
-pub mod locals;
-mod objects;
 pub mod values;
 
 pub use jumps::Jumps;
 pub use labels::Labels;
-pub use locals::NewLocal;

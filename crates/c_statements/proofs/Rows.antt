@@ -3,15 +3,11 @@ use Rattle.std.proofs.Common.{◌≡◌, List, [], Option, Some, None, refl, sym
 use mathlib.Core.Former.{Count}
 use Rattle.c_arithmetic.specs.declared.integer_type.IntegerType.{IntegerType}
 use Rattle.c_tree.specs.declared.expressions.Expr.{Expr}
-use Rattle.c_tree.specs.declared.expressions.Expr.TheBlock as k
-use Rattle.c_tree.specs.declared.types.TypeNode as n
-use Rattle.c_tree.specs.declared.types.Parameter.{Parameter}
 use Rattle.c_tree.specs.declared.statements.Stmt as s
 use Rattle.c_tree.specs.declared.statements.Stmt.TheBlock as b
 use Rattle.c_tree.specs.declared.statements.Section.{Section}
 use Rattle.c_tree.specs.declared.statements.Label.{Label}
 use Rattle.c_typed_tree.specs.declared.types.CType.{CType}
-use denote.Hole.Carrier as Carrier
 use Rattle.c_typed_tree.specs.declared.statements.TLabel.{TLabel}
 use Rattle.c_typed_tree.specs.declared.statements.TStmt.{TStmt}
 use Rattle.c_typed_tree.specs.declared.statements.TSection.{TSection}
@@ -19,11 +15,10 @@ use Rattle.c_checks.specs.Checks.{pure, and_then, walk, append_part}
 use Rattle.c_statement_rules.specs.declared.jumps.Jumps.{Jumps}
 use Rattle.c_statement_rules.specs.Jumps.{in_switch}
 use Rattle.c_statement_rules.specs.Labels.{no_labels}
-use Rattle.c_statement_rules.specs.Locals.{BodyState, locals_beside}
+use Rattle.c_local_rules.specs.Locals.{BodyState, locals_beside}
 use Rattle.c_statement_rules.specs.Forms.{if_else, switch, switch_type, section_under, block}
-use Rattle.c_statements.specs.Parts.{condition_of, operand_of, label_of}
+use Rattle.c_statement_parts.specs.Parts.{condition_of, operand_of, label_of}
 use Rattle.c_statements.specs.Statements.{SwitchState, beside_locals, in_scope, behind_scope, statement, statement_row, judge_section_row}
-use Rattle.c_statements.specs.Functions.{parameters_of}
 use Rattle.c_statements.specs.model.Lists.{else_statement, statement_block, section, switch_statement}
 use Rattle.c_statements.specs.model.Opens.{opens}
 
@@ -70,7 +65,3 @@ statement-Switch of j x xs w =
     ap (λ q. (switch (operand_of x w.1).0 q.0, q.1.1)) (section_row-hidden of (in_switch j) (switch_type (operand_of x w.1).0) xs (Some []) (no_labels, (w.0, (operand_of x w.1).1)))
 
 pub ruleset rows = (statement-Block, statement-If, statement-Switch)
-
-pub parameters_of_takes : (x : n.TypeNode) (list : List Parameter) → parameters_of (n.Takes x list) ≡ list
-unfolding parameters_of k.hidden-the_row-Parameter-6 k.hidden-the_row-TypeNode-5 Carrier.hidden
-parameters_of_takes x list = k.items_hidden-the_row-Parameter-6 list

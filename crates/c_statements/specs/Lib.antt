@@ -1,4 +1,2 @@
-pub mod Parts
 pub mod Statements
-pub mod Functions
 pub mod model

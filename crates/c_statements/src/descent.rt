@@ -5,13 +5,13 @@ ghost use Rattle.c_checks.specs.Checks.{Finds, walk};
 ghost use Rattle.c_statements.specs.Statements as spec;
 ghost use Rattle.c_statements.specs.model.Lists as model;
 
-use crate::parts::{
-    condition_of, first_of, label_of, local_of, operand_of, optional_condition, optional_value,
-    return_statement, value_of,
-};
 use c_arithmetic::integer_type::IntegerType;
 use c_checks::{Env, Notes, append_part, enter, leave};
 use c_primary_rules::switches::SwitchValue;
+use c_statement_parts::{
+    condition_of, first_of, label_of, local_of, operand_of, optional_condition, optional_value,
+    return_statement, value_of,
+};
 use c_statement_rules::forms::{
     block, do_loop, expression_statement, for_loop, if_else, local_statement, section_under,
     switch, switch_type, while_loop,

@@ -31,16 +31,16 @@ use Rattle.c_judgements.specs.Leaves.{leaf}
 use Rattle.c_judgements.specs.Types.{JudgementState, parameter_type}
 use Rattle.c_expressions.specs.Expressions.{judge}
 use Rattle.c_statement_rules.specs.declared.labels.Labels.{Labels}
-use Rattle.c_statement_rules.specs.declared.locals.NewLocal.{NewLocal}
+use Rattle.c_local_rules.specs.declared.locals.NewLocal.{NewLocal}
 use Rattle.c_statement_rules.specs.Labels.{LabelState, beside_labels, bad_label, operand_type, has_word, with_words, with_default, new_case, case_value, case_label, default_label}
-use Rattle.c_statement_rules.specs.Locals.{BodyState, in_body, local_of_type, with_notes, local_named, local_declared, nameless_local, parameter_named, no_initialiser, initialiser, local_with_value}
-use Rattle.c_statement_rules.specs.Objects.{no_object_type, object_type}
+use Rattle.c_local_rules.specs.Locals.{BodyState, in_body, local_of_type, with_notes, local_named, local_declared, nameless_local, parameter_named, no_initialiser, initialiser, local_with_value}
+use Rattle.c_local_rules.specs.Objects.{no_object_type, object_type}
 use Rattle.c_statement_rules.specs.Values.{condition_check, switch_check, return_of, bad_return, return_value, return_nothing}
 use Rattle.c_tag_bodies.specs.Members.{is_member_type}
-use Rattle.c_statements.specs.declared.functions.FunctionType.{FunctionType}
-use Rattle.c_statements.specs.Parts.{condition_of, operand_of, optional_condition, optional_value, return_statement, judge_type, initialiser_of, local_of, first_of, label_of}
-use Rattle.c_statements.specs.Functions.{parameters, typed_parameters, declared_parameters}
-use Rattle.c_statements.specs.Functions as fn
+use Rattle.c_function_bodies.specs.declared.functions.FunctionType.{FunctionType}
+use Rattle.c_statement_parts.specs.Parts.{condition_of, operand_of, optional_condition, optional_value, return_statement, judge_type, initialiser_of, local_of, first_of, label_of}
+use Rattle.c_function_bodies.specs.Functions.{parameters, typed_parameters, declared_parameters}
+use Rattle.c_function_bodies.specs.Functions as fn
 use Rattle.c_note_laws.specs.Steps.{NoteSteps}
 use Rattle.c_note_laws.proofs.Forms.{ruled, each_adds, both_adds, leaf_adds, within_adds}
 use Rattle.c_note_laws.proofs.Walks.{judge_adds, derive_adds}

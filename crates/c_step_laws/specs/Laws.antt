@@ -7,8 +7,8 @@ use Rattle.c_typed_tree.specs.declared.types.CType.{CType}
 use Rattle.c_type_faults.specs.declared.faults.Kind.{Kind}
 use Rattle.c_judgements.specs.Types.{JudgementState}
 use Rattle.c_note_laws.specs.Steps.{NoteSteps}
-use Rattle.c_statements.specs.declared.functions.FunctionType.{FunctionType}
-use Rattle.c_statements.specs.Functions.{judge_function}
+use Rattle.c_function_bodies.specs.declared.functions.FunctionType.{FunctionType}
+use Rattle.c_function_bodies.specs.Functions.{judge_function}
 use Rattle.c_initialisers.specs.Initialisers.{object_cells}
 use Rattle.c_initialisers.specs.Unfit.{judge_init, faulty_init}
 

@@ -12,8 +12,8 @@ use Rattle.c_tree.specs.Nodes.{nodes_of, external_node, node_height, nodes_heigh
 use Rattle.c_typed_tree.specs.declared.units.TypedFn.{TypedFn}
 use Rattle.c_typed_height.specs.Heights.{function_height}
 use Rattle.c_judgements.specs.Types.{JudgementState}
-use Rattle.c_statements.specs.declared.functions.FunctionType.{FunctionType}
-use Rattle.c_statements.specs.Functions.{judge_function}
+use Rattle.c_function_bodies.specs.declared.functions.FunctionType.{FunctionType}
+use Rattle.c_function_bodies.specs.Functions.{judge_function}
 use Rattle.c_statement_height_laws.proofs.Parts.{IsLow, fits_left, fits_right, no_more, found_lower}
 use Rattle.c_statement_height_laws.proofs.Statements.{function_within}
 use Rattle.c_units.specs.Units.{whole_unit}

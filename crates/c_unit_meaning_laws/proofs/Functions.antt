@@ -25,7 +25,7 @@ use Rattle.c_checks.specs.declared.notes.Notes.{Notes}
 use Rattle.c_checks.specs.declared.meanings.NameMeaning.{NameMeaning}
 use Rattle.c_checks.specs.declared.meanings.NameMeaning.TheVariants as m
 use Rattle.c_checks.specs.Scopes.{with_meaning, meaning_of}
-use Rattle.c_statements.specs.declared.functions.FunctionType.{FunctionType}
+use Rattle.c_function_bodies.specs.declared.functions.FunctionType.{FunctionType}
 use Rattle.c_unit_names.specs.declared.names.NameDeclaration.{NameDeclaration}
 use Rattle.c_unit_names.specs.declared.names.UnitNames.{UnitNames}
 use Rattle.c_unit_names.specs.UnitNames.{object_name, function_name, value_name, first_meaning, with_declared, with_value}

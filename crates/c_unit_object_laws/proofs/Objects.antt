@@ -16,7 +16,7 @@ use Rattle.c_checks.specs.declared.meanings.NameMeaning.TheVariants as m
 use Rattle.c_checks.specs.Scopes.{with_meaning, meaning_of}
 use Rattle.c_globals.specs.declared.objects.UnitObject.{UnitObject}
 use Rattle.c_globals.specs.Globals.{with_cells, replace_cells, set_cells}
-use Rattle.c_statements.specs.declared.functions.FunctionType.{FunctionType}
+use Rattle.c_function_bodies.specs.declared.functions.FunctionType.{FunctionType}
 use Rattle.c_unit_names.specs.declared.names.NameDeclaration.{NameDeclaration}
 use Rattle.c_unit_names.specs.declared.names.UnitNames.{UnitNames}
 use Rattle.c_unit_names.specs.UnitNames.{object_name, function_name, first_meaning, with_declared}

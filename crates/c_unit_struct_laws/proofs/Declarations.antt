@@ -25,8 +25,8 @@ use Rattle.c_checks.specs.Notes.{with_fault}
 use Rattle.c_judgements.specs.Leaves.{no_type}
 use Rattle.c_judgements.specs.Types.{JudgementState, type_named}
 use Rattle.c_tag_bodies.specs.Members.{is_member_type}
-use Rattle.c_statements.specs.declared.functions.FunctionType.{FunctionType}
-use Rattle.c_statements.specs.Functions.{judge_function}
+use Rattle.c_function_bodies.specs.declared.functions.FunctionType.{FunctionType}
+use Rattle.c_function_bodies.specs.Functions.{judge_function}
 use Rattle.c_initialisers.specs.Initialisers.{object_cells, length_given}
 use Rattle.c_initialisers.specs.Unfit.{judge_init}
 use Rattle.c_unit_names.specs.declared.names.NameDeclaration.{NameDeclaration}

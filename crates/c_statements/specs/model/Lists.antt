@@ -11,9 +11,9 @@ use Rattle.c_checks.specs.Checks.{pure, and_then, walk}
 use Rattle.c_primary_rules.specs.declared.switches.SwitchValue.{SwitchValue}
 use Rattle.c_statement_rules.specs.declared.jumps.Jumps.{Jumps}
 use Rattle.c_statement_rules.specs.Labels.{no_labels, beside_labels}
-use Rattle.c_statement_rules.specs.Locals.{BodyState}
+use Rattle.c_local_rules.specs.Locals.{BodyState}
 use Rattle.c_statement_rules.specs.Forms.{section_under, switch, switch_type, block}
-use Rattle.c_statements.specs.Parts.{label_of}
+use Rattle.c_statement_parts.specs.Parts.{label_of}
 use Rattle.c_statements.specs.Statements.{SwitchState, beside_locals, in_scope, behind_scope, statement}
 
 module _ (of : Option CType) (j : Jumps) where

@@ -1,5 +1,5 @@
 use Rattle.std.proofs.Common.{sym, ap, ◌∙◌}
-use Rattle.c_statements.specs.Parts.{operand_of}
+use Rattle.c_statement_parts.specs.Parts.{operand_of}
 use Rattle.c_statements.proofs.Forms.{block_done, switch_done}
 use Rattle.c_statements.proofs.descent.+statement.Goals as goal
 
