@@ -310,7 +310,7 @@ NOTED = {
     "MissingMain": ["c_declarations::is_main", "c_declarations::is_start_of", "c_declarations::is_start",
                     "c_declarations::with_main", "c_declarations::main_seen", "c_externals::with_main_in"],
     "Redeclared": ["c_tag_bodies::with_body", "c_judgements::new_struct_type", "c_unit_names::named_first",
-                   "c_units::builtin_declared"],
+                   "c_builtins::builtin_declared"],
     "NotDefined": ["c_definitions::is_definition", "c_definitions::object_seen", "c_definitions::function_seen",
                    "c_checks::with_use", "c_judgements::use_of_undefined", "c_judgements::name_of",
                    "c_judgements::call_by_meaning", "c_unit_names::undefined_name", "c_unit_names::object_name",

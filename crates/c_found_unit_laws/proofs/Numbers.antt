@@ -30,7 +30,8 @@ use Rattle.c_declarations.specs.Walk.{with_names, add_numbered, next_object, obj
 use Rattle.c_declarations.specs.Functions.{function_declared}
 use Rattle.c_declarations.specs.Objects.{object_declared}
 use Rattle.c_units.specs.Externals.{typedef_of}
-use Rattle.c_units.specs.Units.{no_names, builtin_declared, builtins, unit_start}
+use Rattle.c_units.specs.Builtins.{no_names, builtin_declared, builtins}
+use Rattle.c_units.specs.Units.{unit_start}
 use Rattle.c_type_laws.proofs.Truth.{no_true, front, back, also, either_left, either_right}
 use Rattle.c_found_unit_laws.specs.Laws.{is_tree_kept}
 use Rattle.c_found_unit_laws.specs.Steps.{DeclaresName, First, Again, declared_as, UnitSteps, Stays, Follows, AddsConstant, SeesMain, DeclaresType, DeclaresFunction, DefinesFunction, DeclaresObject, KeepsCells, is_function_type, is_body, is_body_in, has_body}

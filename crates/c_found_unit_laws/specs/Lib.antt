@@ -1,4 +1,5 @@
 pub mod Laws
 pub mod Steps
 pub use Rattle.c_units.specs.Units
+pub use Rattle.c_units.specs.Builtins
 pub use Rattle.c_units.specs.Externals

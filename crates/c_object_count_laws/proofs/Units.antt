@@ -27,7 +27,8 @@ use Rattle.c_unit_names.specs.declared.names.NameDeclaration.{NameDeclaration}
 use Rattle.c_unit_names.specs.declared.names.UnitNames.{UnitNames}
 use Rattle.c_declarations.specs.declared.walk.UnitSoFar.{UnitSoFar}
 use Rattle.c_found_unit_laws.specs.Externals.{declarator_type, walk_external, externals}
-use Rattle.c_found_unit_laws.specs.Units.{no_names, builtin_declared, builtins, unit_start, whole_unit}
+use Rattle.c_found_unit_laws.specs.Builtins.{no_names, builtin_declared, builtins}
+use Rattle.c_found_unit_laws.specs.Units.{unit_start, whole_unit}
 use Rattle.c_type_laws.proofs.Truth.{no_true}
 use Rattle.c_found_laws.specs.Laws.{Tells}
 use Rattle.c_found_laws.proofs.Forms.{tells_none, tells_as, tells_both}

@@ -36,7 +36,8 @@ use Rattle.c_declarations.specs.Functions.{main_seen, function_declared, is_star
 use Rattle.c_declarations.specs.Objects.{object_declared}
 use Rattle.c_units.specs.Externals.{typedef_of, externals}
 use Rattle.c_units.specs.Undefined.{undefined_noted}
-use Rattle.c_units.specs.Units.{no_names, builtin_declared, builtins, unit_start, main_missed, whole_unit}
+use Rattle.c_units.specs.Builtins.{no_names, builtin_declared, builtins}
+use Rattle.c_units.specs.Units.{unit_start, main_missed, whole_unit}
 use Rattle.c_type_laws.proofs.Truth.{no_true, front, back, either}
 use Rattle.c_type_laws.proofs.Types.{integer_is}
 use Rattle.c_unit_walk_laws.specs.Steps.{DeclaresName, First, Again, declared_as}

@@ -23,7 +23,8 @@ use Rattle.c_declarations.specs.Walk.{UnitWalk}
 use Rattle.c_declarations.specs.Functions.{function_declared}
 use Rattle.c_declarations.specs.Objects.{object_declared}
 use Rattle.c_unit_meaning_laws.specs.Externals.{typedef_of}
-use Rattle.c_unit_meaning_laws.specs.Units.{builtins, unit_start}
+use Rattle.c_unit_meaning_laws.specs.Builtins.{builtins}
+use Rattle.c_unit_meaning_laws.specs.Units.{unit_start}
 use Rattle.c_struct_laws.specs.Growth.{Grow}
 use Rattle.c_struct_laws.proofs.Growth.{grow_then}
 use Rattle.c_unit_meaning_laws.specs.Steps.{DeclaresName, First, Again, declared_as}

@@ -25,7 +25,8 @@ use Rattle.c_declarations.specs.Walk.{UnitWalk, with_names, set_objects, next_ob
 use Rattle.c_declarations.specs.Functions.{main_seen, function_declared}
 use Rattle.c_declarations.specs.Objects.{object_declared}
 use Rattle.c_unit_meaning_laws.specs.Externals.{typedef_of}
-use Rattle.c_unit_meaning_laws.specs.Units.{builtins, unit_start}
+use Rattle.c_unit_meaning_laws.specs.Builtins.{builtins}
+use Rattle.c_unit_meaning_laws.specs.Units.{unit_start}
 use Rattle.c_unit_meaning_laws.specs.Steps.{DeclaresName, First, Again, declared_as}
 use Rattle.c_unit_meaning_laws.specs.Walks.{WalkSteps, Stays, Follows, AddsConstant, AddsNotes, DeclaresType, DeclaresFunction, DefinesFunction, DeclaresObject, InitialisesObject}
 use Rattle.c_unit_meaning_laws.proofs.Names.{none_some, own_meaning, meant_by}

@@ -12,7 +12,8 @@ use Rattle.c_checks.specs.Scopes.{with_meaning}
 use Rattle.c_checks.specs.declared.meanings.NameMeaning.TheVariants as m
 use Rattle.c_unit_struct_laws.specs.Notes.{IsWellDeclared}
 use Rattle.c_found_unit_laws.specs.Externals.{externals}
-use Rattle.c_found_unit_laws.specs.Units.{builtins, unit_start, whole_unit}
+use Rattle.c_found_unit_laws.specs.Builtins.{builtins}
+use Rattle.c_found_unit_laws.specs.Units.{unit_start, whole_unit}
 use Rattle.c_found_unit_laws.proofs.Units.{clean_unit}
 use Rattle.c_unit_walk_laws.specs.Shapes.{HasShapes}
 use Rattle.c_unit_walk_laws.specs.Walks.{WalkSteps}

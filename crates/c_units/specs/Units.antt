@@ -1,25 +1,15 @@
 -- Whole units: the built-in functions, the declarations in their order, and what is seen of the unit at its end.
-use Rattle.std.specs.Prelude.{ℕ, true, false, if◌then◌else◌, Bool, List, [], ◌∷◌, Option, None, length, codes}
+use Rattle.std.specs.Prelude.{ℕ, false, if◌then◌else◌, Bool, List, [], Option, None, length}
 use Rattle.c_tree.specs.declared.declarations.TranslationUnit.{TranslationUnit}
-use Rattle.c_declared_types.specs.declared.declared.DeclaredType.TheVariants as d
 use Rattle.c_definitions.specs.declared.names.Definitions.{Definitions}
 use Rattle.c_definitions.specs.Definitions.{definitions}
-use Rattle.c_typed_tree.specs.declared.types.CType as t
-use Rattle.c_typed_tree.specs.declared.expressions.Builtin.{Builtin}
-use Rattle.c_typed_tree.specs.declared.expressions.Builtin.TheVariants as b
-use Rattle.c_typed_tree.specs.declared.expressions.Callee.TheVariants as c
 use Rattle.c_type_faults.specs.declared.faults.Fault.{Fault}
 use Rattle.c_type_faults.specs.declared.faults.Kind.TheVariants.{MissingMain}
 use Rattle.c_type_faults.specs.Faults.{sort_faults, head}
-use Rattle.c_type_rules.specs.Values.{int}
-use Rattle.c_checks.specs.declared.env.Env.{Env}
 use Rattle.c_checks.specs.declared.notes.Notes.{Notes}
-use Rattle.c_checks.specs.declared.meanings.NameMeaning.TheVariants as m
 use Rattle.c_checks.specs.Notes.{with_fault}
-use Rattle.c_checks.specs.Scopes.{with_meaning}
+use Rattle.c_builtins.specs.Builtins.{builtins}
 use Rattle.c_declarations.specs.Bodies.{TagScope}
-use Rattle.c_unit_names.specs.declared.names.UnitNames.{UnitNames}
-use Rattle.c_unit_names.specs.UnitNames.{with_declared}
 use Rattle.c_declarations.specs.declared.walk.UnitSoFar.{UnitSoFar}
 use Rattle.c_externals.specs.Externals.{externals}
 use Rattle.c_units.specs.Undefined.{undefined_noted}
@@ -38,25 +28,6 @@ no_notes first_text = record {
   tags = [];
   untagged = None;
 }
-
-abbrev pub no_names : UnitNames
-no_names = record { declared = []; functions = 0; objects = 0; undefined = 0 }
-
--- the built-in functions are declared, and count as defined
-abbrev pub builtin_declared : List ℕ → Builtin → t.CType → List t.CType → UnitNames × Env → UnitNames × Env
-builtin_declared name builtin ty parameters r = (
-  with_declared name (record { is_typedef = false; ty = d.Function ty parameters; has_value = true }) r.0,
-  with_meaning name (m.Function (c.Builtin builtin) ty parameters) r.1,
-)
-
-abbrev pub with_builtins : UnitNames × Env → UnitNames × Env
-with_builtins r =
-    builtin_declared (codes "exit") b.Exit t.Void (int ∷ []) (builtin_declared (codes "abort") b.Abort t.Void []
-    (builtin_declared (codes "getchar") b.Getchar int []
-    (builtin_declared (codes "putchar") b.Putchar int (int ∷ []) r)))
-
-abbrev pub builtins : UnitNames × Env
-builtins = with_builtins (no_names, record { names = []; outside = 0 })
 
 abbrev pub unit_start : Definitions → UnitSoFar × TagScope
 unit_start ds = (

@@ -1,23 +1,17 @@
 //! Whole units.
 
-ghost use Rattle.std.specs.Prelude.{◌≡◌, OnOk, IfOk, [], ◌∷◌};
-ghost use Rattle.c_type_rules.specs.Values as values;
+ghost use Rattle.std.specs.Prelude.{◌≡◌, OnOk, IfOk};
 ghost use Rattle.c_units.specs.Units as spec;
 
 use crate::undefined::note_undefined;
-use c_arithmetic::integer_type::IntegerType;
-use c_checks::{Env, NameMeaning, Notes, declare, note};
+use c_builtins::builtins;
+use c_checks::{Env, Notes, note};
 use c_declarations::UnitSoFar;
-use c_declared_types::DeclaredType;
 use c_definitions::{Definitions, find_definitions, object_count};
 use c_externals::externals;
-use c_judgements::leaves::copy_types;
 use c_scopes::NameTable;
 use c_tree::{Seq, TranslationUnit};
 use c_type_faults::{Fault, Kind, least};
-use c_type_rules::types::integer_type;
-use c_typed_tree::{Builtin, CType, Callee};
-use c_unit_names::{NameDeclaration, UnitNames};
 use std::alloc::{AllocError, Global};
 
 fn no_notes<'a>(alloc: Global, first_text: u32) -> Notes<'a>
@@ -34,113 +28,6 @@ fn no_notes<'a>(alloc: Global, first_text: u32) -> Notes<'a>
         tags: NameTable::new(alloc),
         untagged: None,
     }
-}
-
-fn no_names<'a>(alloc: Global) -> UnitNames<'a>
-    ensures { result ≡ spec.no_names }
-{
-    UnitNames {
-        declared: NameTable::new(alloc),
-        functions: 0,
-        objects: 0,
-        undefined: 0,
-    }
-}
-
-/// Declares a built-in function, which counts as defined.
-fn declare_builtin<'a>(
-    alloc: Global,
-    names: &mut UnitNames<'a>,
-    env: &mut Env<'a>,
-    name: &'a [u8],
-    builtin: Builtin,
-    of: CType,
-    parameters: Seq<CType>,
-) -> Result<(), AllocError>
-    ensures { OnOk result ((names.new, env.new)
-        ≡ spec.builtin_declared name.now builtin of parameters (names.old, env.old)) }
-{
-    let meaning = NameMeaning::Function {
-        callee: Callee::Builtin(builtin),
-        result: of.copy(alloc)?,
-        parameters: copy_types(alloc, parameters.as_slice())?,
-    };
-    declare(env, name, meaning)?;
-    let ty = DeclaredType::Function {
-        result: of,
-        parameters,
-    };
-    names.declared.push(
-        name,
-        NameDeclaration {
-            is_typedef: false,
-            ty,
-            has_value: true,
-        },
-    )
-}
-
-fn int() -> CType
-    ensures { result ≡ values.int }
-{
-    integer_type(IntegerType::Int)
-}
-
-/// The one parameter of `putchar` and `exit`.
-fn one_int(alloc: Global) -> Result<Seq<CType>, AllocError>
-    ensures { IfOk result (λ r. r ≡ values.int ∷ []) }
-{
-    let mut parameters = Seq::new(alloc);
-    parameters.push(int())?;
-    Ok(parameters)
-}
-
-/// Declares the built-in functions, before the first declaration.
-fn declare_builtins<'a>(
-    alloc: Global,
-    names: &mut UnitNames<'a>,
-    env: &mut Env<'a>,
-) -> Result<(), AllocError>
-    ensures { OnOk result ((names.new, env.new) ≡ spec.with_builtins (names.old, env.old)) }
-{
-    let takes_int = one_int(alloc)?;
-    declare_builtin(
-        alloc,
-        names,
-        env,
-        b"putchar".as_slice(),
-        Builtin::Putchar,
-        int(),
-        takes_int,
-    )?;
-    declare_builtin(
-        alloc,
-        names,
-        env,
-        b"getchar".as_slice(),
-        Builtin::Getchar,
-        int(),
-        Seq::new(alloc),
-    )?;
-    declare_builtin(
-        alloc,
-        names,
-        env,
-        b"abort".as_slice(),
-        Builtin::Abort,
-        CType::Void,
-        Seq::new(alloc),
-    )?;
-    let takes_int = one_int(alloc)?;
-    declare_builtin(
-        alloc,
-        names,
-        env,
-        b"exit".as_slice(),
-        Builtin::Exit,
-        CType::Void,
-        takes_int,
-    )
 }
 
 /// A unit has a function `main`.
@@ -176,12 +63,7 @@ fn start<'a>(alloc: Global, definitions: &Definitions<'_>) -> Result<UnitState<'
     ensures { IfOk result (λ s. (s.so_far, (s.defined, (s.env, s.notes))) ≡ spec.unit_start definitions.now) }
 {
     let first_text = object_count(definitions)?;
-    let mut names = no_names(alloc);
-    let mut env = Env {
-        names: NameTable::new(alloc),
-        outside: 0,
-    };
-    declare_builtins(alloc, &mut names, &mut env)?;
+    let (names, env) = builtins(alloc)?;
     Ok(UnitState {
         so_far: UnitSoFar {
             names,
@@ -218,22 +100,32 @@ fn judge_unit<'a>(
     end_unit(&mut state.notes, unit.length, state.so_far.has_main)
 }
 
+/// What is known of a whole unit, of which it is given what it defines.
+fn judge_whole<'a>(
+    alloc: Global,
+    definitions: &Definitions<'_>,
+    unit: &'a TranslationUnit,
+) -> Result<UnitState<'a>, AllocError>
+    ensures { IfOk result (λ s. (s.so_far, (s.defined, (s.env, s.notes)))
+        ≡ spec.judge_unit definitions.now unit.now (spec.unit_start definitions.now)) }
+{
+    let mut state = start(alloc, definitions)?;
+    judge_unit(alloc, definitions, unit, &mut state)?;
+    Ok(state)
+}
+
 /// What is known of a whole unit, and what was noted. It fails only where memory is short.
 pub fn judge<'a>(alloc: Global, unit: &'a TranslationUnit) -> Result<UnitState<'a>, AllocError>
     ensures { IfOk result (λ s. (s.so_far, (s.defined, (s.env, s.notes))) ≡ spec.whole_unit unit.now) }
 {
     let definitions = find_definitions(alloc, unit.externals.as_slice())?;
-    let mut state = start(alloc, &definitions)?;
-    judge_unit(alloc, &definitions, unit, &mut state)?;
-    Ok(state)
+    judge_whole(alloc, &definitions, unit)
 }
 
 /// The first fault of a unit; `None` where there is none. It fails only where memory is short.
 pub fn first_fault(alloc: Global, unit: &TranslationUnit) -> Result<Option<Fault>, AllocError>
     ensures { IfOk result (λ r. r ≡ spec.first_unit_fault unit.now) }
 {
-    let definitions = find_definitions(alloc, unit.externals.as_slice())?;
-    let mut state = start(alloc, &definitions)?;
-    judge_unit(alloc, &definitions, unit, &mut state)?;
+    let state = judge(alloc, unit)?;
     Ok(least(state.notes.faults.as_slice()))
 }
