@@ -1,4 +1,2 @@
 pub mod Loops
 pub mod Deeper
-pub mod Lexemes
-pub mod Indexes

@@ -7,18 +7,17 @@ ghost use Rattle.c_grammar.specs.Levels as levels;
 ghost use Rattle.c_grammar.specs.ParseExpr as model;
 ghost use Rattle.c_grammar.specs.declared.classes.Infix.TheVariants as roles;
 ghost use Rattle.c_grammar.specs.declared.classes.Prefix.TheVariants as fronts;
-ghost use Rattle.c_expression_parser.specs.Answers.{Answers};
+ghost use Rattle.c_token_cursor.specs.Answers.{Answers};
 ghost use Rattle.c_expression_parser.specs.model.Suffixes as suffixes;
 
-use crate::cursor::{ParseStop, Tokens};
-use crate::parts::{core_name, member_name, no_name, texts};
-use crate::scope::TypedefScope;
-use crate::specifiers::plain;
 use c_grammar::levels::{self, binding_level, level_of, operand_level, result_level};
 use c_grammar::{Declarator, Infix, Naming, Prefix, Shape, infix_of, prefix_of};
 use c_lexer::Punct;
 use c_parser_types::{
     comma_of, may_be_nameless, parameter_of, with_shape, with_shapes, without_void,
+};
+use c_token_cursor::{
+    ParseStop, Tokens, TypedefScope, core_name, member_name, no_name, plain, texts,
 };
 use c_tree::{AssignOp, BinaryOp, Box, Expr, Name, Parameter, Seq, TypeName, UnaryOp};
 use std::alloc::Global;

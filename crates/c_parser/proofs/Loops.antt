@@ -16,7 +16,7 @@ use Rattle.c_grammar.specs.ParseExpr.{declarator}
 use Rattle.c_grammar.specs.ParseSpecifiers.{declaration}
 use Rattle.c_grammar.specs.ParseUnits.{typedefs_from, object_named, objects_from, external, externals_behind, externals_from}
 use Rattle.c_parser.specs.model.Parts.{typedef_declarator, object_declarator}
-use Rattle.c_expression_parser.proofs.Loops.{turn, end}
+use Rattle.c_token_cursor.proofs.Loops.{turn, end}
 
 -- one after another, from the left or from the right
 then_then : {A B C : Type 0} (o : ParseOutcome A) (f : A → Parser B) (g : B → Parser C) → and_then o (λ a r. and_then (f a r) g) ≡ and_then (and_then o f) g

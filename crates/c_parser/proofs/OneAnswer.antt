@@ -8,7 +8,7 @@ use Rattle.c_nesting.specs.HasNesting.{HasNesting}
 use Rattle.c_grammar.specs.Units.{Reads}
 use Rattle.c_grammar.specs.Refused.{CanGoOn, RefusedFrom}
 use Rattle.c_grammar.proofs.SoundUnits.{one_reading}
-use Rattle.c_expression_parser.specs.Answers.{place_or}
+use Rattle.c_token_cursor.specs.Answers.{place_or}
 use Rattle.c_parser.specs.declared.fault.ParseFault.{ParseFault}
 use Rattle.c_parser.specs.declared.fault.ParseFault.TheVariants.{Lex, Nesting, Syntax, NoMemory}
 use Rattle.c_parser.specs.Limits.{most_nesting}

@@ -14,7 +14,7 @@ use Rattle.c_grammar.proofs.ReadUnits.{complete}
 use Rattle.c_grammar.proofs.SoundUnits.{sound}
 use Rattle.c_grammar.proofs.Exact.{refused_from}
 use Rattle.c_grammar.proofs.FewUnits.{unit_few}
-use Rattle.c_expression_parser.proofs.Lexemes.{length_lexemes}
+use Rattle.c_token_cursor.proofs.Lexemes.{length_lexemes}
 use Rattle.c_parser.specs.declared.fault.ParseFault.{ParseFault}
 use Rattle.c_parser.specs.declared.fault.ParseFault.TheVariants.{Lex, Nesting, Syntax, NoMemory}
 use Rattle.c_parser.specs.Limits.{most_nesting, most_nodes, most_height}

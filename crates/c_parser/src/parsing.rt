@@ -11,9 +11,9 @@ ghost use Rattle.c_parser.specs.model.Gives.{Gives};
 
 use crate::fault::ParseFault;
 use crate::units::externals;
-use c_expression_parser::{Tokens, TypedefScope};
 use c_lexer::Token;
 use c_nesting::{nesting_of, tokens};
+use c_token_cursor::{Tokens, TypedefScope};
 use c_tree::{TranslationUnit, is_within_height};
 use std::alloc::Global;
 

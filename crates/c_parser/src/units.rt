@@ -4,16 +4,17 @@ ghost use Rattle.std.specs.Prelude.{◌≡◌, [], length, IfOk};
 ghost use Rattle.c_grammar.specs.ParseSpecifiers.{braced_list_from};
 ghost use Rattle.c_grammar.specs.Types as types;
 ghost use Rattle.c_grammar.specs.ParseUnits as model;
-ghost use Rattle.c_expression_parser.specs.Answers.{Answers};
+ghost use Rattle.c_token_cursor.specs.Answers.{Answers};
 ghost use Rattle.c_parser.specs.model.Answers.{AnswersIn, AnswersUnit};
 ghost use Rattle.c_parser.specs.model.Parts as parts;
 ghost use Rattle.c_grammar.specs.Units.{external_of, is_function};
 
-use c_expression_parser::{ParseStop, Tokens, TypedefScope, declarator, expr};
+use c_expression_parser::{declarator, expr};
 use c_grammar::{Declarator, DeclaredName, Naming, Opening, Shape, levels, opening_of};
 use c_lexer::Punct;
 use c_parser_types::{SpecifierType, with_shapes};
 use c_statement_parser::{append, declaration, items, specifier};
+use c_token_cursor::{ParseStop, Tokens, TypedefScope};
 use c_tree::{Box, Declaration, External, FunctionEnd, Init, Seq, Storage};
 use std::alloc::{AllocError, Global};
 

@@ -14,7 +14,7 @@ use Rattle.c_tree.specs.declared.statements.Stmt.{Stmt}
 use Rattle.c_tree.specs.declared.statements.Section.{Section}
 use Rattle.c_grammar.specs.Statements.{locals_of}
 use Rattle.c_grammar.specs.ParseStatements.{line, items_from, ends_section, stmts_from, section, sections_from}
-use Rattle.c_expression_parser.proofs.Loops.{turn, end}
+use Rattle.c_token_cursor.proofs.Loops.{turn, end}
 
 -- the same with perhaps a comma before the brace that closes
 pub braced_turn : {A : Type 0} (item : Parser A) (n at : ℕ) (found : List A) (ts : List Lexeme) → at < n

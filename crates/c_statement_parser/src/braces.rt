@@ -2,14 +2,13 @@
 
 ghost use Rattle.std.specs.Prelude.{◌≡◌, ◌++◌, [], length, IfOk};
 ghost use Rattle.c_grammar.specs.ParseSpecifiers as model;
-ghost use Rattle.c_expression_parser.specs.Answers.{Answers};
+ghost use Rattle.c_token_cursor.specs.Answers.{Answers};
 
-use c_expression_parser::{
-    ParseStop, Tokens, TypedefScope, declarator, expr, named_type, read_words,
-};
+use c_expression_parser::{declarator, expr};
 use c_grammar::{Declarator, Naming, Specifier, SpecifierStart, levels};
 use c_lexer::Punct;
 use c_parser_types::{SpecifierType, with_shapes};
+use c_token_cursor::{ParseStop, Tokens, TypedefScope, named_type, read_words};
 use c_tree::{Box, Constant, Declaration, Name, Seq};
 use std::alloc::{AllocError, Global};
 

@@ -22,7 +22,7 @@ pub struct TypedefScope {
 
 impl Model for TypedefScope {
     ghost use Rattle.std.specs.Prelude.{List, ℕ, reverse};
-    ghost use Rattle.c_expression_parser.specs.model.Indexes.{IsIndex};
+    ghost use Rattle.c_token_cursor.specs.model.Indexes.{IsIndex};
 
     ghost Value = { List (List ℕ) };
 

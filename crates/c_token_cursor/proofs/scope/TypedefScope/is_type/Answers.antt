@@ -1,8 +1,8 @@
 use Rattle.std.proofs.Common.{◌∙◌, ap, List, ℕ, bytes_eq}
 use Rattle.std.specs.List.{list_any}
 use Rattle.c_grammar.specs.Tokens.{is_type_name}
-use Rattle.c_expression_parser.proofs.Indexes.{any-reverse}
-use Rattle.c_expression_parser.proofs.scope.TypedefScope.is_type.Goals as goal
+use Rattle.c_token_cursor.proofs.Indexes.{any-reverse}
+use Rattle.c_token_cursor.proofs.scope.TypedefScope.is_type.Goals as goal
 
 pub returns : goal.returns
 unfolding is_type_name

@@ -2,7 +2,7 @@
 
 ghost use Rattle.std.specs.Prelude.{◌≡◌, [], length};
 ghost use Rattle.c_grammar.specs.ParseExpr as model;
-ghost use Rattle.c_expression_parser.specs.Answers.{Answers};
+ghost use Rattle.c_token_cursor.specs.Answers.{Answers};
 
 use crate::cursor::{ParseStop, Tokens};
 use crate::scope::TypedefScope;

@@ -1,6 +1,6 @@
 use Rattle.std.proofs.Common.{◌∙◌, sym}
-use Rattle.c_expression_parser.proofs.Indexes.{index-told}
-use Rattle.c_expression_parser.proofs.scope.TypedefScope.add_type.Goals as goal
+use Rattle.c_token_cursor.proofs.Indexes.{index-told}
+use Rattle.c_token_cursor.proofs.scope.TypedefScope.add_type.Goals as goal
 
 pub invariant_of-self-else-is_err : goal.invariant_of-self-else-is_err
 invariant_of-self-else-is_err c =

@@ -4,7 +4,7 @@ ghost use Rattle.std.specs.Prelude.{◌≡◌, length, IfOk};
 ghost use Rattle.c_grammar.specs.WordSets.{no_words, basic_of};
 ghost use Rattle.c_grammar.specs.ParseExpr as model;
 ghost use Rattle.c_grammar.specs.Types as types;
-ghost use Rattle.c_expression_parser.specs.Answers.{Answers};
+ghost use Rattle.c_token_cursor.specs.Answers.{Answers};
 
 use crate::cursor::{ParseStop, Tokens};
 use crate::scope::TypedefScope;
@@ -96,7 +96,7 @@ fn tag(alloc: Global, tokens: &mut Tokens<'_>, word: Specifier) -> Result<Specif
 ///
 /// [`ParseStop::Refused`] where the grammar refuses a token, at which the cursor then stands, and
 /// [`ParseStop::NoMemory`], after which nothing is known of the cursor.
-#[tactic(auto, using(crate::proofs::Deeper::plain_words))]
+#[tactic(auto, using(crate::proofs::Words::plain_words))]
 pub fn plain(
     alloc: Global,
     scope: &TypedefScope,

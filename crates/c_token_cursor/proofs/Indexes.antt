@@ -8,7 +8,7 @@ use Rattle.std.specs.HashSet.{HashSet, contains_by, PutsKey}
 use Rattle.std.proofs.lemmas.List.Folds.{list_any-append}
 use Rattle.std.proofs.lemmas.List.Sorted.{list_any-IsPermutation, IsPermutation-reverse}
 use Rattle.std.proofs.lemmas.Slice.Eq.{bytes_eq-Decides}
-use Rattle.c_expression_parser.specs.model.Indexes.{IsIndex}
+use Rattle.c_token_cursor.specs.model.Indexes.{IsIndex}
 
 pub any-reverse : {X : Type 0} (p : X → Bool) (xs : List X) → list_any p xs ≡ list_any p (reverse xs)
 any-reverse p xs = list_any-IsPermutation p xs (reverse xs) (IsPermutation-reverse xs)

@@ -4,8 +4,8 @@ ghost use Rattle.std.specs.Prelude.{◌≡◌, IfOk, IfErr, length, take, drop, 
 ghost use Rattle.c_lexer.specs.Pieces.{lexemes};
 ghost use Rattle.c_grammar.specs.Tokens as tokens;
 ghost use Rattle.c_grammar.specs.Parser as model;
-ghost use Rattle.c_expression_parser.specs.Answers.{Answers, place_or};
-ghost use Rattle.c_expression_parser.specs.declared.cursor.ParseStop.TheVariants.{Refused};
+ghost use Rattle.c_token_cursor.specs.Answers.{Answers, place_or};
+ghost use Rattle.c_token_cursor.specs.declared.cursor.ParseStop.TheVariants.{Refused};
 
 use bk_memory::memory_is_short;
 use c_lexer::{Keyword, Punct, Token, TokenKind};
@@ -25,7 +25,7 @@ pub enum ParseStop {
 impl From<AllocError> for ParseStop {
     ghost use Rattle.std.specs.Prelude.{◌≡◌};
     ghost use Rattle.bk_memory.specs.Shortage.{MemoryIsShort};
-    ghost use Rattle.c_expression_parser.specs.declared.cursor.ParseStop.TheVariants.{NoMemory};
+    ghost use Rattle.c_token_cursor.specs.declared.cursor.ParseStop.TheVariants.{NoMemory};
 
     ghost from_gives = { λ _ e. (e ≡ NoMemory) × MemoryIsShort };
 
@@ -56,7 +56,7 @@ pub struct Tokens<'a> {
 impl<'a> Model for Tokens<'a> {
     ghost use Rattle.std.specs.Prelude.{List};
     ghost use Rattle.c_lexer.specs.Pieces.{Lexeme, lexemes};
-    ghost use Rattle.c_expression_parser.specs.model.Codes.{lexemes_code};
+    ghost use Rattle.c_token_cursor.specs.model.Codes.{lexemes_code};
 
     ghost Value = { List Lexeme };
 

@@ -4,8 +4,8 @@
 use Rattle.std.specs.Prelude.{◌≡◌, ◌≢◌, ℕ, List, [], ◌∷◌, Result, Ok, Err}
 use Rattle.bk_memory.specs.Shortage.{MemoryIsShort}
 use Rattle.c_lexer.specs.Pieces.{Lexeme}
-use Rattle.c_expression_parser.specs.declared.cursor.ParseStop.{ParseStop}
-use Rattle.c_expression_parser.specs.declared.cursor.ParseStop.TheVariants.{Refused, NoMemory}
+use Rattle.c_token_cursor.specs.declared.cursor.ParseStop.{ParseStop}
+use Rattle.c_token_cursor.specs.declared.cursor.ParseStop.TheVariants.{Refused, NoMemory}
 use Rattle.c_grammar.specs.Parser.{ParseOutcome}
 
 -- want of memory has its cause

@@ -1,0 +1,4 @@
+pub mod Loops
+pub mod Words
+pub mod Lexemes
+pub mod Indexes
