@@ -2,8 +2,8 @@
 //!
 //! What a text's tree is, the grammar says (the crate `c_grammar`). [`parse`] reads a whole text, one external
 //! declaration (C99 6.9) after another, and [`nest`] gives the nesting of its tokens (the crate `c_nesting`).
-//! Statements are read by the crate `c_statement_parser`, expressions by `c_expression_parser`, from the tokens at a
-//! cursor (the crate `c_token_cursor`).
+//! Statements are read by the crate `c_statement_parser`, specifiers by `c_specifier_parser`, and expressions by
+//! `c_expression_parser`, from the tokens at a cursor (the crate `c_token_cursor`).
 #![tactic(auto)]
 
 mod fault;

@@ -13,14 +13,15 @@ use c_expression_parser::{declarator, expr};
 use c_grammar::{Declarator, DeclaredName, Naming, Opening, Shape, levels, opening_of};
 use c_lexer::Punct;
 use c_parser_types::{SpecifierType, with_shapes};
-use c_statement_parser::{append, declaration, items, specifier};
+use c_specifier_parser::{append, declaration, specifier};
+use c_statement_parser::items;
 use c_token_cursor::{ParseStop, Tokens, TypedefScope};
 use c_tree::{Box, Declaration, External, FunctionEnd, Init, Seq, Storage};
 use std::alloc::{AllocError, Global};
 
 /// Reads initialisers with commas between them, one or more, and perhaps a comma behind.
 #[cycle(init)]
-#[tactic(auto, using(c_statement_parser::proofs::Loops::braced_turn, c_statement_parser::proofs::Loops::braced_end))]
+#[tactic(auto, using(c_specifier_parser::proofs::Loops::braced_turn, c_specifier_parser::proofs::Loops::braced_end))]
 fn inits(
     alloc: Global,
     scope: &TypedefScope,

@@ -1,12 +1,10 @@
-//! The parser's middle: declarations and statements (C99 6.7 and 6.8).
+//! The part of the parser for statements, and the declarations of locals that stand among them (C99 6.7 and 6.8).
 //!
 //! Each function reads what the function of that name in the grammar's model reads (the crate `c_grammar`),
-//! from the tokens at a cursor. After a refusal the cursor stands at the refused token; after want of memory
-//! nothing is known of it.
+//! from the tokens at a cursor (the crate `c_token_cursor`). After a refusal the cursor stands at the refused token;
+//! after want of memory nothing is known of it.
 #![tactic(auto)]
 
-mod braces;
 mod statements;
 
-pub use braces::{append, declaration, specifier};
 pub use statements::{items, stmt};

@@ -10,11 +10,11 @@ ghost use Rattle.c_grammar.specs.ParseExpr.{list_from};
 ghost use Rattle.c_grammar.specs.ParseStatements as model;
 ghost use Rattle.c_token_cursor.specs.Answers.{Answers};
 
-use crate::braces::declaration;
 use c_expression_parser::{expr, whole};
 use c_grammar::{Head, Naming, head_of, levels};
 use c_lexer::{Keyword, Punct};
 use c_parser_types::SpecifierType;
+use c_specifier_parser::declaration;
 use c_token_cursor::{ParseStop, Tokens, TypedefScope, plain};
 use c_tree::{Box, Expr, ForFirst, Label, LocalDeclarator, Section, Seq, Stmt};
 use std::alloc::{AllocError, Global};

@@ -1,6 +1,6 @@
 use Rattle.std.proofs.Common.{◌≡◌, [], length, ◌+◌, ◌-◌, ◌*◌}
 use Rattle.c_grammar.specs.ParseSpecifiers.{struct_declarations_from, specifier}
-use Rattle.c_statement_parser.proofs.braces.+specifier.Given as goal
+use Rattle.c_specifier_parser.proofs.braces.+specifier.Given as goal
 
 abbrev pub invariant-struct_declarations-loop-turn : goal.invariant-struct_declarations-loop-turn
 invariant-struct_declarations-loop-turn l = struct_declarations_from l.scope l.depth (specifier l.scope l.depth) (length l.fn.tokens) [] l.fn.tokens ≡ struct_declarations_from l.scope l.depth (specifier l.scope l.depth) (l._turn-end - l._turn) l.found l.tokens
