@@ -110,8 +110,14 @@ fn judge_whole<'a>(
         ≡ spec.judge_unit definitions.now unit.now (spec.unit_start definitions.now)) }
 {
     let mut state = start(alloc, definitions)?;
-    judge_unit(alloc, definitions, unit, &mut state)?;
-    Ok(state)
+    match judge_unit(alloc, definitions, unit, &mut state) {
+        Ok(()) => Ok(state),
+        Err(error) => {
+            // So the drops of its parts are proved apart.
+            drop(state);
+            Err(error)
+        }
+    }
 }
 
 /// What is known of a whole unit, and what was noted. It fails only where memory is short.
@@ -127,5 +133,7 @@ pub fn first_fault(alloc: Global, unit: &TranslationUnit) -> Result<Option<Fault
     ensures { IfOk result (λ r. r ≡ spec.first_unit_fault unit.now) }
 {
     let state = judge(alloc, unit)?;
-    Ok(least(state.notes.faults.as_slice()))
+    let fault = least(state.notes.faults.as_slice());
+    drop(state);
+    Ok(fault)
 }
