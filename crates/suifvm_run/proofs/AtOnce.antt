@@ -13,12 +13,13 @@ use Rattle.suifvm_ir.specs.Insns.{writes_of, targets_of}
 use Rattle.vm_meaning.specs.declared.answer.Answer.{Answer}
 use Rattle.vm_meaning.specs.declared.answer.Answer.TheVariants.{Gives}
 use Rattle.vm_meaning.specs.Effect.{takes_turn, writes, is_branch_taken, branches}
-use Rattle.suifvm_run.specs.declared.machine.Machine.{Machine}
-use Rattle.suifvm_run.specs.declared.machine.Turn.TheVariants as turn
-use Rattle.suifvm_run.specs.model.Config.{IsSound, TurnIs, Wrote, act_there, step_there, at_block, config_of, world_in}
-use Rattle.suifvm_run.specs.model.Tables.{block_insns}
-use Rattle.suifvm_run.proofs.Turns.{give_value, turn_as}
-use Rattle.suifvm_run.proofs.Effects.{branch_taken, jumped, done_as, done_there, step_plain, step_past}
+use Rattle.suifvm_machine.specs.declared.machine.Machine.{Machine}
+use Rattle.suifvm_machine.specs.declared.machine.Turn.TheVariants as turn
+use Rattle.suifvm_machine.specs.Config.{IsSound, TurnIs, Wrote, step_there, config_of, world_in}
+use Rattle.suifvm_machine.specs.model.Acts.{act_there, at_block}
+use Rattle.suifvm_machine.specs.Tables.{block_insns}
+use Rattle.suifvm_machine.proofs.Turns.{give_value, turn_as}
+use Rattle.suifvm_machine.proofs.Effects.{branch_taken, jumped, done_as, done_there, step_plain, step_past}
 
 -- what follows from what holds where a test is true
 pub where_done : (done : Bool) (A B : Type 0) → (A → B) → OnTrue done A → OnTrue done B

@@ -11,12 +11,12 @@ use Rattle.suifvm_ir.specs.Insns.{named_register}
 use Rattle.suifvm_ir.specs.Programs.{VmFunction, IsLawfulFunction, goes_back_to_marks}
 use Rattle.vm_meaning.specs.Behave.{FunctionCode, Registers, code_of, main_of, start_world, vm_code}
 use Rattle.vm_meaning.specs.Effect.{input_word}
-use Rattle.suifvm_run.specs.declared.machine.Machine.{Machine}
-use Rattle.suifvm_run.specs.declared.machine.Turn.TheVariants as turn
+use Rattle.suifvm_machine.specs.declared.machine.Machine.{Machine}
+use Rattle.suifvm_machine.specs.declared.machine.Turn.TheVariants as turn
 use Rattle.suifvm_run.specs.Laws.{ProgramsEnd}
-use Rattle.suifvm_run.specs.model.Config.{TurnIs, Wrote, GoesTo, config_of, program_of, step_there, with_byte, with_taken, wrote}
+use Rattle.suifvm_machine.specs.Config.{TurnIs, Wrote, GoesTo, config_of, program_of, step_there, with_byte, with_byte_taken, wrote}
 use Rattle.suifvm_run.specs.model.Falls.{AreMarked, steps_left, machine_left, nothing_hidden}
-use Rattle.suifvm_run.specs.model.Tables.{functions_of}
+use Rattle.suifvm_machine.specs.Tables.{program_code}
 use Rattle.suifvm_run.proofs.Falls.{falls, run_ends}
 
 -- ---- the functions of a program
@@ -79,7 +79,7 @@ module _ (m new : Machine) (marked : AreMarked (program_of m)) where
   falls_there k is = falls [] (program_of m) marked (config_of m nothing_hidden) k is
 
   same_program : (k : Config Registers) (x : Machine) → x.program.now ≡ m.program.now → steps_left (program_of m) k < machine_left m → steps_left (program_of x) k < machine_left m
-  same_program k x is h = subst (λ p. steps_left (functions_of p) k < machine_left m) (sym is) h
+  same_program k x is h = subst (λ p. steps_left (program_code p) k < machine_left m) (sym is) h
 
   pub goes_falls : TurnIs m new turn.Goes (λ rs h. step_there rs m h) → machine_left new < machine_left m
   goes_falls t =
@@ -93,7 +93,7 @@ module _ (m new : Machine) (marked : AreMarked (program_of m)) where
 
   pub takes_falls : (d : Option ℕ) (byte : Option ℕ) (last : Machine) → TurnIs m new (turn.Takes d) (λ rs h. step_there rs m h) → Wrote new last (named_register d) (Word (input_word byte)) → machine_left last < machine_left m
   takes_falls d byte last t w =
-      let g : GoesTo (step_there [] m nothing_hidden) (λ x. wrote (named_register d) (Word (input_word (slice_get x.input 0)) ∷ []) (config_of new (with_taken x))) nothing_hidden = t.comes [] nothing_hidden in
-      let same : steps_left (program_of m) (config_of last (with_taken g.hidden)) ≡ steps_left (program_of m) (wrote (named_register d) (Word (input_word byte) ∷ []) (config_of new (with_taken g.hidden))) = ap (steps_left (program_of m)) (w.config (with_taken g.hidden)) in
-      same_program (config_of last (with_taken g.hidden)) last (w.program ∙ t.program refl)
-      (subst (λ n. n < machine_left m) (sym same) (falls_there (wrote (named_register d) (Word (input_word (slice_get g.hidden.input 0)) ∷ []) (config_of new (with_taken g.hidden))) g.goes))
+      let g : GoesTo (step_there [] m nothing_hidden) (λ x. wrote (named_register d) (Word (input_word (slice_get x.input 0)) ∷ []) (config_of new (with_byte_taken x))) nothing_hidden = t.comes [] nothing_hidden in
+      let same : steps_left (program_of m) (config_of last (with_byte_taken g.hidden)) ≡ steps_left (program_of m) (wrote (named_register d) (Word (input_word byte) ∷ []) (config_of new (with_byte_taken g.hidden))) = ap (steps_left (program_of m)) (w.config (with_byte_taken g.hidden)) in
+      same_program (config_of last (with_byte_taken g.hidden)) last (w.program ∙ t.program refl)
+      (subst (λ n. n < machine_left m) (sym same) (falls_there (wrote (named_register d) (Word (input_word (slice_get g.hidden.input 0)) ∷ []) (config_of new (with_byte_taken g.hidden))) g.goes))

@@ -1,15 +1,5 @@
-pub mod Windows
-pub mod Sites
-pub mod Loops
-pub mod Turns
-pub mod Pushes
-pub mod Entries
-pub mod Returns
-pub mod Effects
-pub mod Instructions
 pub mod AtOnce
 pub mod Progress
-pub mod Begins
 pub mod Wholes
 pub mod Falls
 pub mod Ends

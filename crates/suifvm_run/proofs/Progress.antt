@@ -15,13 +15,13 @@ use Rattle.vm_meaning.specs.Effect.{input_word}
 use Rattle.vm_meaning.specs.Behave.{Registers, vm_code}
 use Rattle.suifvm_run.specs.declared.ending.VmEnding.{VmEnding}
 use Rattle.suifvm_run.specs.declared.ending.VmEnding.TheVariants as e
-use Rattle.suifvm_run.specs.declared.machine.Machine.{Machine}
-use Rattle.suifvm_run.specs.declared.machine.Stop.{Stop}
-use Rattle.suifvm_run.specs.declared.machine.Stop.TheVariants as stop
-use Rattle.suifvm_run.specs.declared.machine.Turn.TheVariants as turn
-use Rattle.suifvm_run.specs.declared.tables.ProgramTable.{ProgramTable}
-use Rattle.suifvm_run.specs.model.Config.{Hidden, TurnIs, Wrote, GoesTo, EndsBy, ending_by, config_of, world_in, step_there, with_byte, with_taken, wrote}
-use Rattle.suifvm_run.specs.model.Tables.{functions_of}
+use Rattle.suifvm_machine.specs.declared.machine.Machine.{Machine}
+use Rattle.suifvm_machine.specs.declared.machine.Stop.{Stop}
+use Rattle.suifvm_machine.specs.declared.machine.Stop.TheVariants as stop
+use Rattle.suifvm_machine.specs.declared.machine.Turn.TheVariants as turn
+use Rattle.suifvm_machine.specs.declared.tables.ProgramTable.{ProgramTable}
+use Rattle.suifvm_machine.specs.Config.{Hidden, TurnIs, Wrote, GoesTo, EndsBy, ending_by, config_of, world_in, step_there, with_byte, with_byte_taken, wrote}
+use Rattle.suifvm_machine.specs.Tables.{program_code}
 use Rattle.suifvm_run.specs.model.Progress.{run_from, StandsAt, TurnEnds, stop_ending}
 use Rattle.suifvm_run.specs.Run.{Steps, GoesOn, input_calls}
 use Rattle.suifvm_run.specs.model.Stops.{EndsWith, StopsAs, IsRun}
@@ -71,10 +71,10 @@ module _ (rooms : Rooms) (start : Config Registers) (turns : ℕ) (told : Traffi
   run = run_from rooms p start
 
   -- so many steps, then one, then some more
-  more : (n k : ℕ) (h : Hidden) → run n ≡ Goes (config_of m h) → run (n + suc k) ≡ go_on (step_there rooms m h) (exec Value Registers rooms (vm_code (functions_of p)) k)
+  more : (n k : ℕ) (h : Hidden) → run n ≡ Goes (config_of m h) → run (n + suc k) ≡ go_on (step_there rooms m h) (exec Value Registers rooms (vm_code (program_code p)) k)
   more n k h reached =
-      steps_add_up Value Registers rooms (vm_code (functions_of p)) n (suc k) start
-      ∙ ap (λ x. go_on x (exec Value Registers rooms (vm_code (functions_of p)) (suc k))) reached
+      steps_add_up Value Registers rooms (vm_code (program_code p)) n (suc k) start
+      ∙ ap (λ x. go_on x (exec Value Registers rooms (vm_code (program_code p)) (suc k))) reached
 
   one : (n : ℕ) (h : Hidden) (k : Config Registers) → run n ≡ Goes (config_of m h) → step_there rooms m h ≡ Goes k → run (suc n) ≡ Goes k
   one n h k reached is = ap run (sym (add-one n)) ∙ more n 0 h reached ∙ ap (λ x. go_on x (λ j. Goes j)) is
@@ -136,7 +136,7 @@ module _ (rooms : Rooms) (start : Config Registers) (turns : ℕ) (told : Traffi
 
   -- a byte that was taken, and is still to be written
   abbrev waiting : Option ℕ → Hidden → Config Registers
-  waiting d x = wrote (named_register d) (Word (input_word (slice_get x.input 0)) ∷ []) (config_of new (with_taken x))
+  waiting d x = wrote (named_register d) (Word (input_word (slice_get x.input 0)) ∷ []) (config_of new (with_byte_taken x))
 
   pub take_failed : (now after : Traffic) (d : Option ℕ) → TurnIs m new (turn.Takes d) (λ rs h. step_there rs m h) → StandsAt rooms p start told now m → after.left ≡ now.left → after.made ≡ option_map next_count now.made → after.taken ≡ now.taken → IsRun run turns e.InputFault told after
   take_failed now after d t at left made taken =
@@ -156,11 +156,11 @@ module _ (rooms : Rooms) (start : Config Registers) (turns : ℕ) (told : Traffi
   take_done now after d byte last t at first w left made taken =
       let g : GoesTo (step_there rooms m at.hidden) (waiting d) at.hidden = t.comes rooms at.hidden in
       let is : byte ≡ slice_get g.hidden.input 0 = first g.hidden.input (at.left ∙ ap (λ x. Some x) (sym g.same.input)) in record {
-        hidden = with_taken g.hidden;
+        hidden = with_byte_taken g.hidden;
         steps = suc at.steps;
         reached = one at.steps at.hidden (waiting d g.hidden) at.reached g.goes
-            ∙ ap (λ b. Goes (wrote (named_register d) (Word (input_word b) ∷ []) (config_of new (with_taken g.hidden)))) (sym is)
-            ∙ sym (ap (λ k. Goes k) (w.config (with_taken g.hidden)));
+            ∙ ap (λ b. Goes (wrote (named_register d) (Word (input_word b) ∷ []) (config_of new (with_byte_taken g.hidden)))) (sym is)
+            ∙ sym (ap (λ k. Goes k) (w.config (with_byte_taken g.hidden)));
         left = left ∙ ap (option_map (drop 1)) (at.left ∙ ap (λ x. Some x) (sym g.same.input));
         made = made ∙ ap (option_map next_count) at.made ∙ counted at.hidden.takings told.made
             ∙ ap (λ n. option_map (count_plus (n + 1)) told.made) (sym g.same.takings);

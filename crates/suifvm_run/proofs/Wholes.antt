@@ -11,16 +11,16 @@ use Rattle.suifvm_ir.specs.declared.program.VmProgram.{VmProgram}
 use Rattle.vm_meaning.specs.Behave.{Registers, code_of, main_of, vm_code, vm_run, start_world}
 use Rattle.suifvm_run.specs.declared.ending.VmEnding.{VmEnding}
 use Rattle.suifvm_run.specs.declared.ending.VmEnding.TheVariants as e
-use Rattle.suifvm_run.specs.declared.machine.Machine.{Machine}
-use Rattle.suifvm_run.specs.declared.machine.Stop.{Stop}
-use Rattle.suifvm_run.specs.declared.machine.NoStart.TheVariants as no_start
-use Rattle.suifvm_run.specs.declared.tables.ProgramTable.{ProgramTable}
+use Rattle.suifvm_machine.specs.declared.machine.Machine.{Machine}
+use Rattle.suifvm_machine.specs.declared.machine.Stop.{Stop}
+use Rattle.suifvm_machine.specs.declared.machine.NoStart.TheVariants as no_start
+use Rattle.suifvm_machine.specs.declared.tables.ProgramTable.{ProgramTable}
 use Rattle.suifvm_run.specs.Run.{Steps, VmBehaves, Stops, program_run}
 use Rattle.bk_io.specs.Outside.{Traffic, count_plus}
-use Rattle.suifvm_run.specs.model.Begin.{start_at, first_hidden, Begins, HasNoStart, IsOverAtOnce}
+use Rattle.suifvm_machine.specs.Begin.{start_at, first_hidden, Begins, HasNoStart, IsOverAtOnce}
 use Rattle.suifvm_run.specs.model.Progress.{run_from, StandsAt, stop_ending}
 use Rattle.suifvm_run.specs.model.Stops.{IsRun, StopsAs}
-use Rattle.suifvm_run.specs.model.Tables.{functions_of}
+use Rattle.suifvm_machine.specs.Tables.{program_code}
 use Rattle.suifvm_run.proofs.Progress.{stops_by, calls_by}
 
 -- what a run tells that did nothing
@@ -100,12 +100,12 @@ behaves rooms program input turns ending told after r = record {
 }
 
 -- the run of the tables of a program, in the memory that it starts with, is its run
-pub whole : (p : ProgramTable) (program : VmProgram) (main : ℕ) (memory : Memory) (rooms : Rooms) (input : List ℕ) (turns : ℕ) (ending : VmEnding) (told after : Traffic) → functions_of p ≡ map code_of program.functions → memory ≡ start_memory program.globals → main ≡ main_of program.functions → IsRun (run_from rooms p (start_at rooms p main memory turns input)) turns ending told after → VmBehaves rooms program input turns ending told after
+pub whole : (p : ProgramTable) (program : VmProgram) (main : ℕ) (memory : Memory) (rooms : Rooms) (input : List ℕ) (turns : ℕ) (ending : VmEnding) (told after : Traffic) → program_code p ≡ map code_of program.functions → memory ≡ start_memory program.globals → main ≡ main_of program.functions → IsRun (run_from rooms p (start_at rooms p main memory turns input)) turns ending told after → VmBehaves rooms program input turns ending told after
 whole p program main memory rooms input turns ending told after functions objects number r =
     behaves rooms program input turns ending told after
     (subst (λ fs. IsRun (vm_run rooms fs (main_of program.functions) (world_with (start_memory program.globals) input turns)) turns ending told after) functions
-    (subst (λ n. IsRun (vm_run rooms (functions_of p) n (world_with (start_memory program.globals) input turns)) turns ending told after) number
-    (subst (λ x. IsRun (vm_run rooms (functions_of p) main (world_with x input turns)) turns ending told after) objects r)))
+    (subst (λ n. IsRun (vm_run rooms (program_code p) n (world_with (start_memory program.globals) input turns)) turns ending told after) number
+    (subst (λ x. IsRun (vm_run rooms (program_code p) main (world_with x input turns)) turns ending told after) objects r)))
 
 -- without memory for its tables or objects it is at its start
 pub not_begun : (program : VmProgram) (rooms : Rooms) (input : List ℕ) (turns : ℕ) (told : Traffic) → MemoryIsShort → told.left ≡ Some input → VmBehaves rooms program input turns e.NoMemory told told

@@ -6,21 +6,18 @@ ghost use Rattle.mem_model.specs.World.{Rooms};
 ghost use Rattle.suifvm_ir.specs.Programs as programs;
 ghost use Rattle.suifvm_run.specs.Run.{VmBehaves, input_faults_after, output_faults_after};
 ghost use Rattle.bk_io.specs.Outside.{Traffic};
-ghost use Rattle.suifvm_run.specs.model.Begin.{start_at};
-ghost use Rattle.suifvm_run.specs.model.Config as config;
+ghost use Rattle.suifvm_machine.specs.Begin.{start_at};
+ghost use Rattle.suifvm_machine.specs.Config as config;
 ghost use Rattle.suifvm_run.specs.model.Falls.{AreMarked, machine_left};
 ghost use Rattle.suifvm_run.specs.model.Progress as progress;
 ghost use Rattle.suifvm_run.specs.model.Stops.{IsRun};
-ghost use Rattle.suifvm_run.specs.model.Tables.{AreNumbered, functions_of};
+ghost use Rattle.suifvm_machine.specs.Tables.{FunctionsAreNumbered, program_code};
 ghost use Rattle.vm_meaning.specs.Behave.{Registers, main_of};
 ghost use Rattle.vm_meaning.specs.Effect as effect;
 ghost use Rattle.vm_operations.specs.Tidy.{MemoryIsTidy};
 
-use crate::beginning::begin;
 use crate::ending::VmEnding;
-use crate::indexing::program_table;
-use crate::machine::{Machine, NoStart, Stop, Turn};
-use crate::tables::ProgramTable;
+use crate::quick::quick_step;
 use bk_io::outside::{Sink, Source};
 use bk_memory::memory_is_short;
 use mem_model::memory::Mem;
@@ -29,6 +26,10 @@ use std::alloc::Global;
 use suifvm_ir::function::Func;
 use suifvm_ir::insn::VmInsn;
 use suifvm_ir::program::VmProgram;
+use suifvm_machine::beginning::begin;
+use suifvm_machine::indexing::program_table;
+use suifvm_machine::machine::{Machine, NoStart, Stop, Turn};
+use suifvm_machine::tables::ProgramTable;
 use vm_operations::start::start_memory;
 
 /// The ending of a run that had so many turns.
@@ -53,104 +54,102 @@ fn word_of(byte: Option<u8>) -> u64
     }
 }
 
-impl<'c, 'p> Machine<'c, 'p> {
-    /// One step, whatever it is, with what it asks of the outside.
-    #[inline(never)]
-    fn whole_turn<I: Source, O: Sink>(
-        &mut self,
-        turns: u64,
-        input: &mut I,
-        out: &mut O,
-    ) -> Option<VmEnding>
-        requires sound { config.IsSound self.old }
-        requires marked { AreMarked (config.program_of self.old) }
-        ensures sound { IfNone result (config.IsSound self.new) }
-        ensures program { IfNone result (self.new.program.now ≡ self.old.program.now) }
-        // fewer steps are left that it can take
-        ensures falls { IfNone result (machine_left self.new < machine_left self.old) }
-        ensures run { (rooms : Rooms) (start : Config Registers) (told : Traffic) →
-            progress.StandsAt rooms self.old.program.now start told
-            (record { left = I.left input.old; made = I.made input.old; taken = O.taken out.old }) self.old →
-            progress.TurnEnds rooms self.old.program.now start turns told
-            (record { left = I.left input.new; made = I.made input.new; taken = O.taken out.new }) self.new result }
-        ensures input_count { I.faults input.new
-            ≡ input_faults_after (unwrap_or result VmEnding.NoMemory) (I.faults input.old) }
-        ensures output_count { O.faults out.new
-            ≡ output_faults_after (unwrap_or result VmEnding.NoMemory) (O.faults out.old) }
-    {
-        match self.step() {
-            Turn::Goes => None,
-            Turn::Over(stop) => Some(ending_of(stop, turns)),
-            Turn::Puts(byte) => match out.put(byte) {
+/// One step, whatever it is, with what it asks of the outside.
+#[inline(never)]
+fn whole_turn<I: Source, O: Sink>(
+    machine: &mut Machine<'_, '_>,
+    turns: u64,
+    input: &mut I,
+    out: &mut O,
+) -> Option<VmEnding>
+    requires sound { config.IsSound machine.old }
+    requires marked { AreMarked (config.program_of machine.old) }
+    ensures sound { IfNone result (config.IsSound machine.new) }
+    ensures program { IfNone result (machine.new.program.now ≡ machine.old.program.now) }
+    // fewer steps are left that it can take
+    ensures falls { IfNone result (machine_left machine.new < machine_left machine.old) }
+    ensures run { (rooms : Rooms) (start : Config Registers) (told : Traffic) →
+        progress.StandsAt rooms machine.old.program.now start told
+        (record { left = I.left input.old; made = I.made input.old; taken = O.taken out.old }) machine.old →
+        progress.TurnEnds rooms machine.old.program.now start turns told
+        (record { left = I.left input.new; made = I.made input.new; taken = O.taken out.new }) machine.new result }
+    ensures input_count { I.faults input.new
+        ≡ input_faults_after (unwrap_or result VmEnding.NoMemory) (I.faults input.old) }
+    ensures output_count { O.faults out.new
+        ≡ output_faults_after (unwrap_or result VmEnding.NoMemory) (O.faults out.old) }
+{
+    match machine.step() {
+        Turn::Goes => None,
+        Turn::Over(stop) => Some(ending_of(stop, turns)),
+        Turn::Puts(byte) => match out.put(byte) {
+            Ok(()) => None,
+            Err(_) => Some(VmEnding::WriteFault),
+        },
+        Turn::Takes(destination) => match input.next() {
+            Err(_) => Some(VmEnding::InputFault),
+            Ok(byte) => match machine.write(destination, Value::Word(word_of(byte))) {
                 Ok(()) => None,
-                Err(_) => Some(VmEnding::WriteFault),
+                Err(error) => {
+                    memory_is_short(error);
+                    Some(VmEnding::NoMemory)
+                }
             },
-            Turn::Takes(destination) => match input.next() {
-                Err(_) => Some(VmEnding::InputFault),
-                Ok(byte) => match self.write(destination, Value::Word(word_of(byte))) {
-                    Ok(()) => None,
-                    Err(error) => {
-                        memory_is_short(error);
-                        Some(VmEnding::NoMemory)
-                    }
-                },
-            },
-            Turn::NoMemory => Some(VmEnding::NoMemory),
-        }
+        },
+        Turn::NoMemory => Some(VmEnding::NoMemory),
     }
+}
 
-    /// One step, with what it asks of the outside. It answers how a run that had so many turns stops, where it does.
-    #[inline(always)]
-    fn turn<I: Source, O: Sink>(
-        &mut self,
-        turns: u64,
-        input: &mut I,
-        out: &mut O,
-    ) -> Option<VmEnding>
-        requires sound { config.IsSound self.old }
-        requires marked { AreMarked (config.program_of self.old) }
-        ensures sound { IfNone result (config.IsSound self.new) }
-        ensures program { IfNone result (self.new.program.now ≡ self.old.program.now) }
-        // fewer steps are left that it can take
-        ensures falls { IfNone result (machine_left self.new < machine_left self.old) }
-        ensures run { (rooms : Rooms) (start : Config Registers) (told : Traffic) →
-            progress.StandsAt rooms self.old.program.now start told
-            (record { left = I.left input.old; made = I.made input.old; taken = O.taken out.old }) self.old →
-            progress.TurnEnds rooms self.old.program.now start turns told
-            (record { left = I.left input.new; made = I.made input.new; taken = O.taken out.new }) self.new result }
-        ensures input_count { I.faults input.new
-            ≡ input_faults_after (unwrap_or result VmEnding.NoMemory) (I.faults input.old) }
-        ensures output_count { O.faults out.new
-            ≡ output_faults_after (unwrap_or result VmEnding.NoMemory) (O.faults out.old) }
-    {
-        if self.quick_step() {
-            None
-        } else {
-            self.whole_turn(turns, input, out)
-        }
+/// One step, with what it asks of the outside. It answers how a run that had so many turns stops, where it does.
+#[inline(always)]
+fn take_turn<I: Source, O: Sink>(
+    machine: &mut Machine<'_, '_>,
+    turns: u64,
+    input: &mut I,
+    out: &mut O,
+) -> Option<VmEnding>
+    requires sound { config.IsSound machine.old }
+    requires marked { AreMarked (config.program_of machine.old) }
+    ensures sound { IfNone result (config.IsSound machine.new) }
+    ensures program { IfNone result (machine.new.program.now ≡ machine.old.program.now) }
+    // fewer steps are left that it can take
+    ensures falls { IfNone result (machine_left machine.new < machine_left machine.old) }
+    ensures run { (rooms : Rooms) (start : Config Registers) (told : Traffic) →
+        progress.StandsAt rooms machine.old.program.now start told
+        (record { left = I.left input.old; made = I.made input.old; taken = O.taken out.old }) machine.old →
+        progress.TurnEnds rooms machine.old.program.now start turns told
+        (record { left = I.left input.new; made = I.made input.new; taken = O.taken out.new }) machine.new result }
+    ensures input_count { I.faults input.new
+        ≡ input_faults_after (unwrap_or result VmEnding.NoMemory) (I.faults input.old) }
+    ensures output_count { O.faults out.new
+        ≡ output_faults_after (unwrap_or result VmEnding.NoMemory) (O.faults out.old) }
+{
+    if quick_step(machine) {
+        None
+    } else {
+        whole_turn(machine, turns, input, out)
     }
+}
 
-    /// Runs until the run stops, which had so many turns. It does, since a jump that goes back takes a turn.
-    pub(crate) fn run<I: Source, O: Sink>(
-        &mut self,
-        turns: u64,
-        input: &mut I,
-        out: &mut O,
-    ) -> VmEnding
-        requires sound { config.IsSound self.old }
-        requires marked { AreMarked (config.program_of self.old) }
-        ensures run { (rooms : Rooms) (start : Config Registers) (told : Traffic) →
-            progress.StandsAt rooms self.old.program.now start told
-            (record { left = I.left input.old; made = I.made input.old; taken = O.taken out.old }) self.old →
-            IsRun (progress.run_from rooms self.old.program.now start) turns result told
-            (record { left = I.left input.new; made = I.made input.new; taken = O.taken out.new }) }
-        ensures input_count { I.faults input.new ≡ input_faults_after result (I.faults input.old) }
-        ensures output_count { O.faults out.new ≡ output_faults_after result (O.faults out.old) }
-    {
-        loop {
-            if let Some(ending) = self.turn(turns, input, out) {
-                return ending;
-            }
+/// Runs until the run stops, which had so many turns. It does, since a jump that goes back takes a turn.
+pub(crate) fn run_machine<I: Source, O: Sink>(
+    machine: &mut Machine<'_, '_>,
+    turns: u64,
+    input: &mut I,
+    out: &mut O,
+) -> VmEnding
+    requires sound { config.IsSound machine.old }
+    requires marked { AreMarked (config.program_of machine.old) }
+    ensures run { (rooms : Rooms) (start : Config Registers) (told : Traffic) →
+        progress.StandsAt rooms machine.old.program.now start told
+        (record { left = I.left input.old; made = I.made input.old; taken = O.taken out.old }) machine.old →
+        IsRun (progress.run_from rooms machine.old.program.now start) turns result told
+        (record { left = I.left input.new; made = I.made input.new; taken = O.taken out.new }) }
+    ensures input_count { I.faults input.new ≡ input_faults_after result (I.faults input.old) }
+    ensures output_count { O.faults out.new ≡ output_faults_after result (O.faults out.old) }
+{
+    loop {
+        if let Some(ending) = take_turn(machine, turns, input, out) {
+            return ending;
         }
     }
 }
@@ -193,8 +192,8 @@ fn run_table<I: Source, O: Sink>(
 ) -> VmEnding
     requires tidy { MemoryIsTidy memory }
     requires made { made ≡ length memory }
-    requires numbers { AreNumbered 0 table.now.functions.items table.now.end }
-    requires marked { AreMarked (functions_of table.now) }
+    requires numbers { FunctionsAreNumbered 0 table.now.functions.items table.now.end }
+    requires marked { AreMarked (program_code table.now) }
     ensures run { (rooms : Rooms) (bytes : List ℕ) → I.left input.old ≡ Some bytes →
         IsRun (progress.run_from rooms table.now (start_at rooms table.now main memory turns bytes)) turns result
         (record { left = I.left input.old; made = I.made input.old; taken = O.taken out.old })
@@ -205,7 +204,7 @@ fn run_table<I: Source, O: Sink>(
     match begin(alloc, table, main, memory, made, turns) {
         Ok(begun) => {
             let mut machine = begun;
-            machine.run(turns, input, out)
+            run_machine(&mut machine, turns, input, out)
         }
         Err(NoStart::Over(stop)) => ending_of(stop, turns),
         Err(NoStart::NoMemory) => VmEnding::NoMemory,

@@ -6,8 +6,8 @@ use Rattle.suifvm_ir.specs.declared.insn.VmInsn.{VmInsn}
 use Rattle.suifvm_ir.specs.declared.insn.VmInsn.TheVariants.{Mark}
 use Rattle.suifvm_ir.specs.Programs.{goes_back_to_marks}
 use Rattle.vm_meaning.specs.Behave.{FunctionCode, Registers, blocks_in}
-use Rattle.suifvm_run.specs.declared.machine.Machine.{Machine}
-use Rattle.suifvm_run.specs.model.Config.{Hidden, config_of, program_of}
+use Rattle.suifvm_machine.specs.declared.machine.Machine.{Machine}
+use Rattle.suifvm_machine.specs.Config.{Hidden, config_of, program_of}
 
 -- the places of blocks: each instruction, and the end of each block
 abbrev pub places : List (List VmInsn) → ℕ

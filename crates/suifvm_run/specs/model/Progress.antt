@@ -6,19 +6,19 @@ use Rattle.machine_model.specs.Machine.{Config, Goes, exec}
 use Rattle.vm_meaning.specs.Behave.{Registers, vm_code}
 use Rattle.suifvm_run.specs.declared.ending.VmEnding.{VmEnding}
 use Rattle.suifvm_run.specs.declared.ending.VmEnding.TheVariants as e
-use Rattle.suifvm_run.specs.declared.machine.Machine.{Machine}
-use Rattle.suifvm_run.specs.declared.machine.Stop.{Stop}
-use Rattle.suifvm_run.specs.declared.machine.Stop.TheVariants as stop
-use Rattle.suifvm_run.specs.declared.tables.ProgramTable.{ProgramTable}
-use Rattle.suifvm_run.specs.model.Config.{Hidden, config_of}
-use Rattle.suifvm_run.specs.model.Tables.{functions_of}
+use Rattle.suifvm_machine.specs.declared.machine.Machine.{Machine}
+use Rattle.suifvm_machine.specs.declared.machine.Stop.{Stop}
+use Rattle.suifvm_machine.specs.declared.machine.Stop.TheVariants as stop
+use Rattle.suifvm_machine.specs.declared.tables.ProgramTable.{ProgramTable}
+use Rattle.suifvm_machine.specs.Config.{Hidden, config_of}
+use Rattle.suifvm_machine.specs.Tables.{program_code}
 use Rattle.suifvm_run.specs.Run.{Steps}
 use Rattle.bk_io.specs.Outside.{Traffic, count_plus}
 use Rattle.suifvm_run.specs.model.Stops.{IsRun}
 
 -- the steps of a program from a configuration
 abbrev pub run_from : Rooms → ProgramTable → Config Registers → Steps
-run_from rooms p start steps = exec Value Registers rooms (vm_code (functions_of p)) steps start
+run_from rooms p start steps = exec Value Registers rooms (vm_code (program_code p)) steps start
 
 -- a machine stands where so many steps lead, and the input and the output tell what these did
 pub record StandsAt (rooms : Rooms) (p : ProgramTable) (start : Config Registers) (told now : Traffic)

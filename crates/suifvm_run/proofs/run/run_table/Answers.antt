@@ -1,7 +1,7 @@
 -- A run that began, ended at once, or did not begin.
 use Rattle.std.proofs.Common.{◌≡◌, refl, sym, subst, rules}
-use Rattle.suifvm_run.specs.declared.machine.NoStart.TheVariants as no_start
-use Rattle.suifvm_run.specs.model.Begin.{start_at, HasNoStart}
+use Rattle.suifvm_machine.specs.declared.machine.NoStart.TheVariants as no_start
+use Rattle.suifvm_machine.specs.Begin.{start_at, HasNoStart}
 use Rattle.suifvm_run.specs.model.Progress.{run_from}
 use Rattle.suifvm_run.specs.model.Stops.{IsRun}
 use Rattle.suifvm_run.proofs.Wholes.{began, ended_at_once, nothing_done}
@@ -10,8 +10,8 @@ use Rattle.suifvm_run.proofs.run.run_table.Goals as goal
 pub returns-in-Ok-clause-run : goal.returns-in-Ok-clause-run
 returns-in-Ok-clause-run g c rooms bytes left =
     began c.args.table.now c.args.main c.args.turns c.args.memory rooms bytes (record { left = g.I.Source.left c.args.input.now; made = g.I.Source.made c.args.input.now; taken = g.O.Sink.taken c.args.out.now }) left
-    (record { left = g.I.Source.left c.run.new.input; made = g.I.Source.made c.run.new.input; taken = g.O.Sink.taken c.run.new.out })
-    c.in-Ok.begun c.run.result c.in-Ok.ensures.begins c.run.ensures.run
+    (record { left = g.I.Source.left c.run_machine.new.input; made = g.I.Source.made c.run_machine.new.input; taken = g.O.Sink.taken c.run_machine.new.out })
+    c.in-Ok.begun c.run_machine.result c.in-Ok.ensures.begins c.run_machine.ensures.run
 
 pub returns-in-Err-Over-clause-run : goal.returns-in-Err-Over-clause-run
 returns-in-Err-Over-clause-run g c rooms bytes left =

@@ -1,7 +1,7 @@
 -- The run of a program is the run of its tables, or did not begin.
 use Rattle.std.proofs.Common.{ap, ◌∙◌}
 use Rattle.data_object.specs.Start.{start_memory}
-use Rattle.suifvm_run.specs.model.Tables.{functions_of}
+use Rattle.suifvm_machine.specs.Tables.{program_code}
 use Rattle.suifvm_run.proofs.Ends.{table_marked}
 use Rattle.suifvm_run.proofs.Wholes.{whole, not_begun}
 use Rattle.suifvm_run.proofs.run.run_vm.Goals as goal
@@ -13,7 +13,7 @@ pub returns-in-Err-start_memory-clause-run : goal.returns-in-Err-start_memory-cl
 returns-in-Err-start_memory-clause-run g c rooms bytes left = not_begun c.args.program.now rooms bytes c.args.turns (record { left = g.I.Source.left c.args.input.now; made = g.I.Source.made c.args.input.now; taken = g.O.Sink.taken c.args.out.now }) c.memory_is_short-in-Err-start_memory.ensures left
 
 pub run_table-requires-clause-marked : goal.run_table-requires-clause-marked
-run_table-requires-clause-marked g c = table_marked (functions_of c.in-Ok.table) c.args.program.now c.in-Ok.ensures.code
+run_table-requires-clause-marked g c = table_marked (program_code c.in-Ok.table) c.args.program.now c.in-Ok.ensures.code
 
 pub returns-clause-run : goal.returns-clause-run
 returns-clause-run g c rooms bytes left =

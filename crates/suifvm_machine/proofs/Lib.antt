@@ -1,0 +1,10 @@
+pub mod Windows
+pub mod Sites
+pub mod Loops
+pub mod Turns
+pub mod Pushes
+pub mod Entries
+pub mod Returns
+pub mod Effects
+pub mod Instructions
+pub mod Begins

@@ -1,0 +1,4 @@
+pub mod Tables
+pub mod Config
+pub mod Begin
+pub mod model

@@ -1,6 +1,0 @@
-use Rattle.std.proofs.Common.{◌≡◌, ◌++◌, map, drop, take}
-use Rattle.vm_meaning.specs.Behave.{registers_of}
-use Rattle.suifvm_run.proofs.calls.push_registers.Given as goal
-
-abbrev pub invariant-loop-register : goal.invariant-loop-register
-invariant-loop-register l = l.stack.items ≡ l.initial.stack.items ++ map (registers_of (drop l.base l.initial.stack.items)) (take l.register-index l.registers)

@@ -1,6 +1,0 @@
--- A value is written.
-use Rattle.suifvm_run.proofs.AtOnce.{gave_value}
-use Rattle.suifvm_run.proofs.machine.Machine.put_answer.Goals as goal
-
-pub returns-in-Gives-clause-done : goal.returns-in-Gives-clause-done
-returns-in-Gives-clause-done c = gave_value c.args.self.now c.put.new.self c.put.result c.args.answer c.args.destination c.in-Gives.value c.in-Gives.is c.put.ensures.done

@@ -1,7 +1,0 @@
--- The answer is that of the operation.
-use Rattle.vm_meaning.specs.Operations.{binary_answer}
-use Rattle.suifvm_run.proofs.AtOnce.{gave_both_as}
-use Rattle.suifvm_run.proofs.machine.Machine.quick_pointer.Goals as goal
-
-pub returns-clause-done : goal.returns-clause-done
-returns-clause-done c = gave_both_as c.args.self.now c.put_answer.new.self c.put_answer.result (binary_answer c.args.self.now.memory c.args.op c.args.ty) c.args.destination c.binary-answer.result _ _ _ _ c.binary-answer.ensures c.get.ensures c.get-2.ensures c.put_answer.ensures.done

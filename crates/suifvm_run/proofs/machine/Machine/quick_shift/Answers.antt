@@ -1,8 +1,0 @@
--- The answer is the word.
-use Rattle.std.proofs.Common.{sym, ◌∙◌}
-use Rattle.vm_meaning.specs.Operations.{shift_answer}
-use Rattle.suifvm_run.proofs.AtOnce.{gave_two}
-use Rattle.suifvm_run.proofs.machine.Machine.quick_shift.Goals as goal
-
-pub returns-clause-done : goal.returns-clause-done
-returns-clause-done c = gave_two c.args.self.now c.put_word.new.self c.put_word.result (shift_answer c.args.op c.args.ty) c.args.destination c.in-Some-given_word.word _ _ _ _ c.in-Some.ensures c.in-Some-word.ensures (sym c.shift.ensures ∙ c.in-Some-given_word.ensures) c.put_word.ensures.done

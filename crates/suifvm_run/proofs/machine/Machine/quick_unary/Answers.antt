@@ -1,8 +1,0 @@
--- The answer is the word.
-use Rattle.std.proofs.Common.{sym, ◌∙◌}
-use Rattle.vm_meaning.specs.Operations.{unary_answer}
-use Rattle.suifvm_run.proofs.AtOnce.{gave_one}
-use Rattle.suifvm_run.proofs.machine.Machine.quick_unary.Goals as goal
-
-pub returns-clause-done : goal.returns-clause-done
-returns-clause-done c = gave_one c.args.self.now c.put_word.new.self c.put_word.result (unary_answer c.args.op c.args.ty) c.args.destination c.in-Some-given_word.word _ _ c.in-Some.ensures (sym c.unary.ensures ∙ c.in-Some-given_word.ensures) c.put_word.ensures.done

@@ -1,0 +1,8 @@
+-- The value is the address.
+use Rattle.std.proofs.Common.{sym, ap}
+use Rattle.vm_meaning.specs.declared.answer.Answer.TheVariants.{Gives}
+use Rattle.suifvm_run.proofs.AtOnce.{gave_value}
+use Rattle.suifvm_run.proofs.quick.quick_address.Goals as goal
+
+pub returns-in-Ok-clause-done : goal.returns-in-Ok-clause-done
+returns-in-Ok-clause-done c = gave_value c.args.machine.now c.put.new.machine c.put.result _ c.args.destination c.in-Ok.value (ap (λ v. Gives v) (sym c.in-Ok.ensures)) c.put.ensures.done

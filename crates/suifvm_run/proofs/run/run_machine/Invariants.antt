@@ -1,0 +1,23 @@
+-- After so many steps the machine stands where they lead.
+use Rattle.std.proofs.Common.{◌≡◌}
+use Rattle.machine_model.specs.Machine.{Config}
+use Rattle.mem_model.specs.World.{Rooms}
+use Rattle.vm_meaning.specs.Behave.{Registers}
+use Rattle.bk_io.specs.Outside.{Traffic}
+use Rattle.suifvm_machine.specs.Config.{IsSound, program_of}
+use Rattle.suifvm_run.specs.model.Falls.{AreMarked, machine_left}
+use Rattle.suifvm_run.specs.model.Progress.{StandsAt}
+use Rattle.suifvm_run.proofs.run.run_machine.Given as goal
+
+abbrev pub invariant-loop-ending : goal.invariant-loop-ending
+invariant-loop-ending g l = record {
+  sound : IsSound l.machine;
+  marked : AreMarked (program_of l.machine);
+  program : l.machine.program.now ≡ l.fn.machine.program.now;
+  run : (rooms : Rooms) (start : Config Registers) (told : Traffic) → StandsAt rooms l.fn.machine.program.now start told (record { left = g.I.Source.left l.fn.input; made = g.I.Source.made l.fn.input; taken = g.O.Sink.taken l.fn.out }) l.fn.machine → StandsAt rooms l.fn.machine.program.now start told (record { left = g.I.Source.left l.input; made = g.I.Source.made l.input; taken = g.O.Sink.taken l.out }) l.machine;
+  input_count : g.I.Source.faults l.input ≡ g.I.Source.faults l.fn.input;
+  output_count : g.O.Sink.faults l.out ≡ g.O.Sink.faults l.fn.out;
+}
+
+abbrev pub decreases-loop-ending : goal.decreases-loop-ending
+decreases-loop-ending g l = machine_left l.machine
