@@ -211,7 +211,7 @@ fn cast_behind(
         (model.declarator scope.now depth) at tokens.old) result tokens.new }
 {
     let to = Box::new(alloc, type_name(alloc, scope, tokens, depth)?)?;
-    tokens.expect(Punct::RightParen)?;
+    let to = tokens.close(Punct::RightParen, to)?;
     let operand = Box::new(alloc, expr(alloc, scope, tokens, depth, levels::CAST)?)?;
     Ok((Expr::Cast { at, to, operand }, levels::CAST))
 }
@@ -525,7 +525,7 @@ fn choice(
         (model.declarator scope.now depth) roles.Conditional at condition tokens.old) result tokens.new }
 {
     let holds = Box::new(alloc, whole(alloc, scope, tokens, depth)?)?;
-    tokens.expect(Punct::Colon)?;
+    let holds = tokens.close(Punct::Colon, holds)?;
     let fails = expr(alloc, scope, tokens, depth, levels::CONDITIONAL)?;
     let fails = Box::new(alloc, fails)?;
     Ok(Expr::Conditional {
@@ -558,6 +558,7 @@ fn climb(
             return Ok(left);
         }
         if level < operand_level(kind) {
+            drop(left);
             return Err(ParseStop::Refused);
         }
         tokens.take();
