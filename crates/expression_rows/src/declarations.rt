@@ -96,11 +96,12 @@ fn put_outcome(alloc: Global, text: &mut String, state: &UnitState<'_>, name: &[
 }
 
 /// What comes of a unit.
-fn outcome(alloc: Global, unit: &TranslationUnit, name: &[u8]) -> Result<String> {
+fn put_unit(alloc: Global, text: &mut String, unit: &TranslationUnit, name: &[u8]) -> Result<()> {
     let state = judge(alloc, unit)?;
-    let mut text = String::new(alloc);
-    put_outcome(alloc, &mut text, &state, name)?;
-    Ok(text)
+    let put = put_outcome(alloc, text, &state, name);
+    // So the drops of its parts are proved apart, here and below.
+    drop(state);
+    put
 }
 
 /// Of a name and declarations: the first fault of these with its place, or what the name means behind them.
@@ -110,7 +111,10 @@ pub fn answer(alloc: Global, given: &str) -> Result<Vec<u8>> {
     let Ok(unit) = parse(alloc, source.as_bytes()) else {
         bail!("no unit");
     };
-    let mut text = outcome(alloc, &unit, name.as_bytes())?;
+    let mut text = String::new(alloc);
+    let put = put_unit(alloc, &mut text, &unit, name.as_bytes());
+    drop(unit);
+    put?;
     text.push('\n')?;
     Ok(text.into_bytes())
 }

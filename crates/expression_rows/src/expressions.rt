@@ -63,18 +63,33 @@ fn put_outcome(
     }
 }
 
-/// What comes of the expression of a unit. It is judged once more behind the unit, whose names are in scope there.
-fn outcome(alloc: Global, unit: &TranslationUnit, begin: u32) -> Result<String> {
+/// What comes of an expression behind a unit, whose names are in scope there.
+fn put_behind<'a>(
+    alloc: Global,
+    text: &mut String,
+    e: &'a Expr,
+    begin: u32,
+    state: &mut UnitState<'a>,
+) -> Result<()> {
+    let found = judge(alloc, e, &mut state.env, &mut state.notes)?;
+    let put = put_outcome(alloc, text, state.notes.faults.as_slice(), begin, &found);
+    // So the drops of its parts are proved apart, here and below.
+    drop(found);
+    put
+}
+
+/// What comes of the expression of a unit. It is judged once more behind the unit.
+fn put_expression(
+    alloc: Global,
+    text: &mut String,
+    unit: &TranslationUnit,
+    begin: u32,
+) -> Result<()> {
     let e = last_expression(unit.externals.as_slice()).context("no expression in the unit")?;
-    let UnitState {
-        mut env,
-        mut notes,
-        ..
-    } = judge_unit(alloc, unit)?;
-    let found = judge(alloc, e, &mut env, &mut notes)?;
-    let mut text = String::new(alloc);
-    put_outcome(alloc, &mut text, notes.faults.as_slice(), begin, &found)?;
-    Ok(text)
+    let mut state = judge_unit(alloc, unit)?;
+    let put = put_behind(alloc, text, e, begin, &mut state);
+    drop(state);
+    put
 }
 
 /// Of declarations with an expression behind them in braces: its type, or its first fault with the place in it.
@@ -87,7 +102,10 @@ pub fn answer(alloc: Global, given: &str) -> Result<Vec<u8>> {
     let Ok(unit) = parse(alloc, source.as_bytes()) else {
         bail!("no unit");
     };
-    let mut text = outcome(alloc, &unit, begin)?;
+    let mut text = String::new(alloc);
+    let put = put_expression(alloc, &mut text, &unit, begin);
+    drop(unit);
+    put?;
     text.push('\n')?;
     Ok(text.into_bytes())
 }

@@ -130,21 +130,52 @@ fn without_kept(alloc: Global, given: &str) -> Result<String> {
     Ok(rest)
 }
 
-/// The functions of a text as items, each with labels of its own. Those that keep a value in a register come first.
-pub fn program_of(alloc: Global, given: &str) -> Result<Program> {
-    let rest = without_kept(alloc, given)?;
-    let reader = TempReader::of(alloc, rest.as_str())?;
-    let globals = globals_of(alloc, given)?;
-    let mut finals = Vec::new(alloc);
+/// Puts the functions of a row that keep a value in a register behind the others.
+fn put_kept(alloc: Global, given: &str, program: &mut Program) -> Result<()> {
     for line in given.lines() {
         if let Some(words) = line.strip_prefix("kept ") {
             let a = over_a_call(alloc, words)?;
-            lay_out(alloc, &a, globals.as_slice(), &mut finals)?;
+            let put = lay_out(alloc, &a, program.globals.as_slice(), &mut program.finals);
+            // So the drops of its parts are proved apart, here and below.
+            drop(a);
+            put?;
         }
     }
-    for function in &reader.functions {
+    Ok(())
+}
+
+/// Puts functions whose values live in slots behind the others.
+fn put_in_slots(alloc: Global, functions: &[Func<TempInsn>], program: &mut Program) -> Result<()> {
+    for function in functions {
         let a = in_slots(alloc, function)?;
-        lay_out(alloc, &a, globals.as_slice(), &mut finals)?;
+        let put = lay_out(alloc, &a, program.globals.as_slice(), &mut program.finals);
+        drop(a);
+        put?;
     }
-    Ok(Program { finals, globals })
+    Ok(())
+}
+
+/// Puts the functions of a row. Those that keep a value in a register come first.
+fn put_functions(alloc: Global, given: &str, program: &mut Program) -> Result<()> {
+    put_kept(alloc, given, program)?;
+    let rest = without_kept(alloc, given)?;
+    let reader = TempReader::of(alloc, rest.as_str())?;
+    let put = put_in_slots(alloc, reader.functions.as_slice(), program);
+    drop(reader);
+    put
+}
+
+/// The functions of a text as items, each with labels of its own, and the objects.
+pub fn program_of(alloc: Global, given: &str) -> Result<Program> {
+    let mut program = Program {
+        finals: Vec::new(alloc),
+        globals: globals_of(alloc, given)?,
+    };
+    match put_functions(alloc, given, &mut program) {
+        Ok(()) => Ok(program),
+        Err(error) => {
+            drop(program);
+            Err(error)
+        }
+    }
 }

@@ -2,7 +2,9 @@
 
 use crate::program::{Program, program_of};
 use alpha_asm::assemble::{AsmFault, assemble};
+use alpha_isa::image::Image;
 use alpha_isa::insn::{BranchOp, Fields, Insn32, MemoryOp, Operand, OperateOp};
+use alpha_isa::limits::{LEAST_STACK, MOST_STACK};
 use alpha_items::item::AsmItem;
 use alpha_lines::print::{push_data, push_item};
 use alpha_rt::items::routine_items;
@@ -20,12 +22,6 @@ const BUDGET: u64 = 10_000_000;
 
 /// How many bytes a run may put.
 const ROOM: u64 = 4096;
-
-/// The least stack of a run, in bytes.
-const LEAST_STACK: u64 = 4096;
-
-/// The largest stack of a run, in bytes.
-const MOST_STACK: u64 = 268_435_456;
 
 /// What a row says of a run besides its program.
 #[derive(Drop)]
@@ -117,28 +113,44 @@ fn text_of(alloc: Global, program: &Program) -> Result<Vec<u8>> {
     Ok(text)
 }
 
+/// The image of a program, by way of its text.
+fn image_of(alloc: Global, program: &Program) -> Result<Image> {
+    let text = text_of(alloc, program)?;
+    let asm = read_asm(alloc, text.as_slice())?;
+    match assemble(alloc, &asm) {
+        Ok(image) => Ok(image),
+        Err(AsmFault::CodeTooLong { words }) => bail!("{words} words"),
+        Err(AsmFault::NoMemory) => bail!("there was no memory"),
+    }
+}
+
+/// A machine with an image in it, and a stack of so many bytes.
+fn machine_of(alloc: Global, image: &Image, stack: u64) -> Result<Machine> {
+    ensure!(stack >= LEAST_STACK, "the stack is too small");
+    ensure!(stack <= MOST_STACK, "the stack is too large");
+    ensure!(stack % 16 == 0, "the stack is no multiple of 16");
+    Ok(Machine::load(alloc, image, stack)?)
+}
+
 /// How the program of a row ends on the machine, and what it puts.
 pub fn answer(alloc: Global, given: &str) -> Result<Vec<u8>> {
     let program = program_of(alloc, given)?;
-    let text = text_of(alloc, &program)?;
-    let asm = read_asm(alloc, text.as_slice())?;
-    let image = match assemble(alloc, &asm) {
-        Ok(image) => image,
-        Err(AsmFault::CodeTooLong { words }) => bail!("{words} words"),
-        Err(AsmFault::NoMemory) => bail!("there was no memory"),
-    };
+    let image = image_of(alloc, &program);
+    // So the drops of its parts are proved apart, here and below.
+    drop(program);
+    let image = image?;
     let outside = outside_of(alloc, given)?;
-    ensure!(outside.stack >= LEAST_STACK, "the stack is too small");
-    ensure!(outside.stack <= MOST_STACK, "the stack is too large");
-    ensure!(outside.stack % 16 == 0, "the stack is no multiple of 16");
-    let mut machine = Machine::load(alloc, &image, outside.stack)?;
+    let loaded = machine_of(alloc, &image, outside.stack);
+    drop(image);
+    let mut machine = loaded?;
     let mut input = MemSource::new(outside.input, Vec::new(alloc));
     let mut out = MemSink::new(alloc, ROOM, Vec::new(alloc))?;
     let ending = machine.run(BUDGET, &mut input, &mut out);
+    drop(machine);
     let mut shown = format!(in alloc; "{ending:?}")?.into_bytes();
-    if !out.taken().is_empty() {
+    if !out.taken_bytes().is_empty() {
         shown.extend_from_slice(b" out ")?;
-        shown.extend_from_slice(out.taken())?;
+        shown.extend_from_slice(out.taken_bytes())?;
     }
     shown.push(b'\n')?;
     Ok(shown)

@@ -22,7 +22,7 @@ impl Table for Kind {
 
     fn answer(&mut self, alloc: Global, given: &str) -> Result<Vec<u8>> {
         match self {
-            Kind::Typed => units::typed(alloc, given),
+            Kind::Typed => units::typed_unit_text(alloc, given),
             Kind::Measures => units::measures(alloc, given),
         }
     }

@@ -4,12 +4,8 @@
 //! The form of the files is described in `docs/rows.md`, and that of each kind of row at the head of its file.
 #![tactic(auto)]
 
-mod expressions;
 mod kind;
-mod statements;
-mod types;
 mod units;
-mod words;
 
 use crate::kind::Kind;
 use anyhow::Result;

@@ -1,7 +1,5 @@
 //! Typed units, as the rows write them.
 
-use crate::statements::{put_indent, put_stmt};
-use crate::types::{put, put_number, put_type};
 use anyhow::{Result, bail, ensure};
 use c_lexer::TEXT_LIMIT;
 use c_parser::parse;
@@ -12,6 +10,8 @@ use c_weight::{data_size, function_weight, locals_bytes, weight};
 use data_object::{DataCell, DataObject};
 use row_sheets::escape::unescape;
 use std::alloc::{AllocError, Global};
+use typed_texts::statements::{put_indent, put_stmt};
+use typed_texts::types::{put, put_number, put_type};
 
 /// The typed unit of a text without faults.
 fn unit_of(alloc: Global, given: &str) -> Result<TypedUnit> {
@@ -171,7 +171,7 @@ fn put_unit(alloc: Global, out: &mut Vec<u8>, unit: &TypedUnit) -> Result<(), Al
 }
 
 /// The weight, the data size and the typed tree of a unit, as they are of its copy.
-pub fn typed(alloc: Global, given: &str) -> Result<Vec<u8>> {
+pub fn typed_unit_text(alloc: Global, given: &str) -> Result<Vec<u8>> {
     let unit = unit_of(alloc, given)?;
     let copy = copy_unit(alloc, &unit)?;
     let mut out = Vec::new(alloc);
