@@ -1,11 +1,11 @@
 -- Whole units: the built-in functions, the declarations in their order, and what is seen of the unit at its end.
-use Rattle.std.specs.Prelude.{ℕ, false, if◌then◌else◌, Bool, List, [], Option, None, length}
+use Rattle.std.specs.Prelude.{ℕ, false, if◌then◌else◌, Bool, List, [], None, length}
 use Rattle.c_tree.specs.declared.declarations.TranslationUnit.{TranslationUnit}
 use Rattle.c_definitions.specs.declared.names.Definitions.{Definitions}
 use Rattle.c_definitions.specs.Definitions.{definitions}
 use Rattle.c_type_faults.specs.declared.faults.Fault.{Fault}
 use Rattle.c_type_faults.specs.declared.faults.Kind.TheVariants.{MissingMain}
-use Rattle.c_type_faults.specs.Faults.{sort_faults, head}
+use Rattle.c_type_faults.specs.Faults.{sort_faults}
 use Rattle.c_checks.specs.declared.notes.Notes.{Notes}
 use Rattle.c_checks.specs.Notes.{with_fault}
 use Rattle.c_builtins.specs.Builtins.{builtins}
@@ -57,6 +57,3 @@ whole_unit unit = judge_unit (definitions unit.externals) unit (unit_start (defi
 -- the faults of a unit
 abbrev pub faults_of : TranslationUnit → List Fault
 faults_of unit = sort_faults (whole_unit unit).1.1.1.faults
-
-abbrev pub first_unit_fault : TranslationUnit → Option Fault
-first_unit_fault unit = head (faults_of unit)

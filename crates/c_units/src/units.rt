@@ -11,7 +11,7 @@ use c_definitions::{Definitions, find_definitions, object_count};
 use c_externals::externals;
 use c_scopes::NameTable;
 use c_tree::{Seq, TranslationUnit};
-use c_type_faults::{Fault, Kind, least};
+use c_type_faults::Kind;
 use std::alloc::{AllocError, Global};
 
 fn no_notes<'a>(alloc: Global, first_text: u32) -> Notes<'a>
@@ -126,14 +126,4 @@ pub fn judge<'a>(alloc: Global, unit: &'a TranslationUnit) -> Result<UnitState<'
 {
     let definitions = find_definitions(alloc, unit.externals.as_slice())?;
     judge_whole(alloc, &definitions, unit)
-}
-
-/// The first fault of a unit; `None` where there is none. It fails only where memory is short.
-pub fn first_fault(alloc: Global, unit: &TranslationUnit) -> Result<Option<Fault>, AllocError>
-    ensures { IfOk result (λ r. r ≡ spec.first_unit_fault unit.now) }
-{
-    let state = judge(alloc, unit)?;
-    let fault = least(state.notes.faults.as_slice());
-    drop(state);
-    Ok(fault)
 }
