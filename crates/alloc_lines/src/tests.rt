@@ -38,7 +38,7 @@ fn block_of(alloc: Global, insn: TempInsn) -> Result<Block<TempInsn>, AllocError
 }
 
 /// A number, its sum with itself, and a return.
-fn doubling(alloc: Global) -> Result<Func<TempInsn>, AllocError> {
+fn doubling_function(alloc: Global) -> Result<Func<TempInsn>, AllocError> {
     let mut blocks = Seq::new(alloc);
     let number = TempInsn::Address {
         op: AddressOp::Lda,
@@ -65,7 +65,7 @@ fn doubling(alloc: Global) -> Result<Func<TempInsn>, AllocError> {
 }
 
 /// The first temporary at a place.
-fn standing(alloc: Global, place: Loc) -> Result<Seq<TempPlace>, AllocError> {
+fn first_temp_at(alloc: Global, place: Loc) -> Result<Seq<TempPlace>, AllocError> {
     one(alloc, TempPlace { temp: 0, place })
 }
 
@@ -112,17 +112,17 @@ fn events(alloc: Global) -> Result<Seq<Event>, AllocError> {
 fn allocation(alloc: Global) -> Result<Allocation, AllocError> {
     let store = Transfer::Store { temp: 0, reg: 1 };
     Ok(Allocation {
-        func: doubling(alloc)?,
+        func: doubling_function(alloc)?,
         top: three(
             alloc,
             Seq::new(alloc),
-            standing(alloc, Loc::Reg(1))?,
+            first_temp_at(alloc, Loc::Reg(1))?,
             Seq::new(alloc),
         )?,
         bottom: three(
             alloc,
             Seq::new(alloc),
-            standing(alloc, Loc::Slot(0))?,
+            first_temp_at(alloc, Loc::Slot(0))?,
             Seq::new(alloc),
         )?,
         at: three(alloc, Seq::new(alloc), one(alloc, store)?, Seq::new(alloc))?,

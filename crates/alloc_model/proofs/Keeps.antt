@@ -15,17 +15,17 @@ use Rattle.alloc_model.specs.Stores.{without, put_all}
 use Rattle.alloc_model.specs.Effect.{Holder, Temp, Fixed, Incoming, Outgoing, holder_eq, entry_holders, holders_read, holders_written, is_emptied, widest_call}
 use Rattle.alloc_model.specs.Temporaries.{Temps, blocks_in, temp_site, temp_site_at, temp_code, temp_run, next_if, is_left_at, site_or_next, site_in, flows_out, main_of, start_world}
 use Rattle.alloc_model.specs.Places.{Place, place_eq, home_of, places_read_at, places_written_at, ends_place, Places, do_all, Plan, plan_of, functions_of, transfers_at, registers_at, edge_transfers, edge_in, placed_site, placed_site_in, placed_code, placed_run}
-use Rattle.alloc_model.specs.Faithful.{Held, move_all, end_all, behind_insn, at_start, at_entry, held_before, KeepsEdge, Faithful}
+use Rattle.alloc_model.specs.Faithful.{HolderPlaces, move_all, end_all, behind_insn, at_start, at_entry, held_before, KeepsEdge, Faithful}
 use Rattle.alloc_model.specs.Laws.{AllFaithful, AllocationKeepsRuns, AllocationKeeps}
-use Rattle.alloc_model.proofs.Replay.{IsNamed, Holds, SameArguments, writes_hold, writes_keep, ends_hold, ends_keep, moves_hold, moves_keep, included, reads_same, written_parallel, entry_homes}
+use Rattle.alloc_model.proofs.Replay.{IsNamed, Holds, SameArguments, writes_hold, writes_keep, ends_hold, ends_keep, moves_hold, moves_keep, included_holds, reads_same, written_parallel, entry_homes}
 
 -- what stands where in a function that may not be there
-abbrev pub held_in : Option Plan → (block at : ℕ) → Held
+abbrev pub held_in : Option Plan → (block at : ℕ) → HolderPlaces
 held_in None block at = λ n p. ⊥
 held_in (Some a) block at = held_before a block at
 
 -- the contents of the two agree at a point
-pub record Agree (h : Held) (s : Temps) (t : Places) : Type 0 where
+pub record Agree (h : HolderPlaces) (s : Temps) (t : Places) : Type 0 where
   pub holds : Holds h s t
   pub arguments : SameArguments s t
 
@@ -58,9 +58,9 @@ module _ (a : Plan) (ok : Faithful a) (block : ℕ) where
       (moves_hold xs (held_before a block at) s t (ok.moves block at x is) r.holds) (moves_keep xs s t r.arguments)
 
   -- over an edge, to the top of its target
-  crosses : (to : ℕ) (h : Held) → KeepsEdge a block to h → (s : Temps) (t : Places) → Agree h s t → Agree (at_start a to) s (do_all (edge_transfers a block to) t)
+  crosses : (to : ℕ) (h : HolderPlaces) → KeepsEdge a block to h → (s : Temps) (t : Places) → Agree h s t → Agree (at_start a to) s (do_all (edge_transfers a block to) t)
   crosses to h keeps s t r = record {
-    holds = included (move_all (edge_transfers a block to) h) (at_start a to) s (do_all (edge_transfers a block to) t) keeps.leads
+    holds = included_holds (move_all (edge_transfers a block to) h) (at_start a to) s (do_all (edge_transfers a block to) t) keeps.leads
         (moves_hold (edge_transfers a block to) h s t keeps.moves r.holds);
     arguments = moves_keep (edge_transfers a block to) s t r.arguments;
   }
@@ -101,24 +101,24 @@ entry_agrees (Some a) s t h = record {
 }
 
 module _ (rooms : Rooms) (plans : List Plan) (all : AllFaithful plans) where
-  abbrev Related : Point → Temps → Places → Type 0
-  Related p s t = Agree (held_in (slice_get plans p.function) p.block p.at) s t
+  abbrev RelatedPlaces : Point → Temps → Places → Type 0
+  RelatedPlaces p s t = Agree (held_in (slice_get plans p.function) p.block p.at) s t
 
   abbrev Sites : Point → Option (Site Content Temps) → Option (Site Content Places) → Type 0
-  Sites p x y = SameSites Content Temps Places rooms (temp_code (functions_of plans)) (placed_code plans) Related p x y
+  Sites p x y = SameSites Content Temps Places rooms (temp_code (functions_of plans)) (placed_code plans) RelatedPlaces p x y
 
   module _ (p : Point) (a : Plan) (is : slice_get plans p.function ≡ Some a) where
     ok : Faithful a
     ok = all.each p.function a is
 
-    opens : (s : Temps) (t : Places) → Related p s t → Agree (held_before a p.block p.at) s t
+    opens : (s : Temps) (t : Places) → RelatedPlaces p s t → Agree (held_before a p.block p.at) s t
     opens s t r = subst (λ o. Agree (held_in o p.block p.at) s t) is r
 
     -- what agrees in a block of this function is related at its points
     closes : (block at : ℕ) (s : Temps) (t : Places) → Agree (held_before a block at) s t → Agree (held_in (slice_get plans p.function) block at) s t
     closes block at s t r = subst (λ o. Agree (held_in o block at) s t) (sym is) r
 
-    crossed : (to : ℕ) (h : Held) → KeepsEdge a p.block to h → (s : Temps) (t : Places) → Agree h s t → Agree (held_in (slice_get plans p.function) to 0) s (do_all (edge_in (slice_get plans p.function) p.block to) t)
+    crossed : (to : ℕ) (h : HolderPlaces) → KeepsEdge a p.block to h → (s : Temps) (t : Places) → Agree h s t → Agree (held_in (slice_get plans p.function) to 0) s (do_all (edge_in (slice_get plans p.function) p.block to) t)
     crossed to h keeps s t r = subst (λ o. Agree (held_in o to 0) s (do_all (edge_in o p.block to) t)) (sym is) (crosses a ok p.block to h keeps s t r)
 
     insn_same : (x : TempInsn) → insn_at a.function.blocks p.block p.at ≡ Some x → Sites p (Some (temp_site (widest_call a.function.blocks) x)) (Some (placed_site (widest_call a.function.blocks) (transfers_at a p.block p.at) (registers_at a p.block p.at) x))
@@ -157,7 +157,7 @@ module _ (rooms : Rooms) (plans : List Plan) (all : AllFaithful plans) where
   function_same p None is = tt
   function_same p (Some a) is = block_same p a is (slice_get a.function.blocks p.block) refl
 
-  keep_step : KeepStep Content Temps Places rooms (temp_code (functions_of plans)) (placed_code plans) Related
+  keep_step : KeepStep Content Temps Places rooms (temp_code (functions_of plans)) (placed_code plans) RelatedPlaces
   keep_step = record {
     sites = λ p. subst (λ x. Sites p (temp_site_at (blocks_in x) p) (placed_site_in (slice_get plans p.function) p)) (sym (slice_get-map (λ (a : Plan). a.function) plans p.function))
         (function_same p (slice_get plans p.function) refl);
@@ -169,7 +169,7 @@ module _ (rooms : Rooms) (plans : List Plan) (all : AllFaithful plans) where
 
 module _ (rooms : Rooms) (plans : List Plan) (all : AllFaithful plans) where
   abbrev Same : Next Temps → Next Places → Type 0
-  Same x y = SameNext Content Temps Places rooms (temp_code (functions_of plans)) (placed_code plans) (Related rooms plans all) x y
+  Same x y = SameNext Content Temps Places rooms (temp_code (functions_of plans)) (placed_code plans) (RelatedPlaces rooms plans all) x y
 
   -- what the run over places ends with, that over temporaries ends with
   back : (x : Next Temps) (y : Next Places) (e : Ending) → Same x y → y ≡ Over e → x ≡ Over e
@@ -179,13 +179,13 @@ module _ (rooms : Rooms) (plans : List Plan) (all : AllFaithful plans) where
 
   same_runs : (main : ℕ) (w : World) (n : ℕ) → Same (temp_run rooms (functions_of plans) main w n) (placed_run rooms plans main w n)
   same_runs main w n =
-      runs Content Temps Places rooms (temp_code (functions_of plans)) (placed_code plans) (Related rooms plans all) (keep_step rooms plans all) n
+      runs Content Temps Places rooms (temp_code (functions_of plans)) (placed_code plans) (RelatedPlaces rooms plans all) (keep_step rooms plans all) n
       (start_config Content Temps rooms (temp_code (functions_of plans)) main w) (start_config Content Places rooms (placed_code plans) main w)
       (record { here = (refl, entry_agrees (slice_get plans main) _ _ (entry_homes (entry_holders 0) []), refl); callers = tt; world = refl })
 
 pub runs_kept : AllocationKeepsRuns
 runs_kept rooms plans all main w n e = (
-  λ is. runs_end Content Temps Places rooms (temp_code (functions_of plans)) (placed_code plans) (Related rooms plans all) (keep_step rooms plans all) n main w e is,
+  λ is. runs_end Content Temps Places rooms (temp_code (functions_of plans)) (placed_code plans) (RelatedPlaces rooms plans all) (keep_step rooms plans all) n main w e is,
   λ is. back rooms plans all (temp_run rooms (functions_of plans) main w n) (placed_run rooms plans main w n) e (same_runs rooms plans all main w n) is,
 )
 

@@ -12,7 +12,7 @@ use Rattle.alloc_model.specs.Stores.{first_or_unset, empty, without, put, put_al
 use Rattle.alloc_model.specs.Effect.{Holder, Temp, Fixed, Incoming, Outgoing, holder_eq, argument_places, places_read, places_written, others_read, others_written, holders_read, holders_written, calls_function, is_emptied}
 use Rattle.alloc_model.specs.Temporaries.{Temps}
 use Rattle.alloc_model.specs.Places.{Place, Reg, Slot, In, Out, place_eq, home_of, places_read_at, places_written_at, ends_place, source_of, transfer_target, moved_temp, Places, do_all}
-use Rattle.alloc_model.specs.Faithful.{Held, stands, forget, end_all, write_all, Includes, move_all, MovesAsk, ReadsAsk, FixedAsk}
+use Rattle.alloc_model.specs.Faithful.{HolderPlaces, stands, forget, end_all, write_all, Includes, move_all, MovesAsk, ReadsAsk, FixedAsk}
 
 -- ---- tests of equality
 
@@ -66,17 +66,17 @@ IsNamed (Fixed r) = Unit {0}
 IsNamed (Incoming k) = ⊥
 IsNamed (Outgoing k) = ⊥
 
-pub record Holds (h : Held) (s : Temps) (t : Places) : Type 0 where
+pub record Holds (h : HolderPlaces) (s : Temps) (t : Places) : Type 0 where
   pub each : (n : Holder) (p : Place) → IsNamed n → h n p → t p ≡ s n
 
-stands_there : (h : Held) (s : Temps) (t : Places) (n : Holder) (p : Place) (c : Content) → c ≡ s n → Holds h s t → Holds (stands n p h) s (put place_eq p c t)
+stands_there : (h : HolderPlaces) (s : Temps) (t : Places) (n : Holder) (p : Place) (c : Content) → c ≡ s n → Holds h s t → Holds (stands n p h) s (put place_eq p c t)
 stands_there h s t n p c e r = record {
   each = λ m q named. ⊎_elim
       (λ (k, ne). place_other t p c q ne ∙ r.each m q named k)
       (λ (em, eq). ap (put place_eq p c t) eq ∙ place_same t p c ∙ e ∙ ap s (sym em));
 }
 
-forgets : (h : Held) (s : Temps) (t : Places) (n : Holder) (c : Content) → Holds h s t → Holds (forget n h) (put holder_eq n c s) t
+forgets : (h : HolderPlaces) (s : Temps) (t : Places) (n : Holder) (c : Content) → Holds h s t → Holds (forget n h) (put holder_eq n c s) t
 forgets h s t n c r = record { each = λ m q named (k, ne). r.each m q named k ∙ sym (holder_other s n c m ne) }
 
 -- holders with the places where they are written
@@ -86,10 +86,10 @@ pub data Parallel : List Holder → List Place → Type 0 where
   ByFixed : {ns : List Holder} {ps : List Place} (r : ℕ) → Parallel ns ps → Parallel (Fixed r ∷ ns) (Reg r ∷ ps)
   ByArgument : {ns : List Holder} {ps : List Place} (k : ℕ) → Parallel ns ps → Parallel (Outgoing k ∷ ns) (Out k ∷ ps)
 
-one_written : (h : Held) (s : Temps) (t : Places) (n : Holder) (p : Place) (c : Content) → Holds h s t → Holds (stands n p (forget n h)) (put holder_eq n c s) (put place_eq p c t)
+one_written : (h : HolderPlaces) (s : Temps) (t : Places) (n : Holder) (p : Place) (c : Content) → Holds h s t → Holds (stands n p (forget n h)) (put holder_eq n c s) (put place_eq p c t)
 one_written h s t n p c r = stands_there (forget n h) (put holder_eq n c s) t n p c (sym (holder_same s n c)) (forgets h s t n c r)
 
-pub writes_hold : (ns : List Holder) (ps : List Place) (cs : List Content) (h : Held) (s : Temps) (t : Places) → Parallel ns ps → Holds h s t → Holds (write_all ns ps h) (put_all holder_eq ns cs s) (put_all place_eq ps cs t)
+pub writes_hold : (ns : List Holder) (ps : List Place) (cs : List Content) (h : HolderPlaces) (s : Temps) (t : Places) → Parallel ns ps → Holds h s t → Holds (write_all ns ps h) (put_all holder_eq ns cs s) (put_all place_eq ps cs t)
 writes_hold [] [] cs h s t Done r = r
 writes_hold [] (p ∷ ps) cs h s t x r = elim x [ ]
 writes_hold (n ∷ ns) [] cs h s t x r = elim x [ ]
@@ -106,17 +106,17 @@ end_case x s (Fixed r) named = refl
 end_case x s (Incoming k) named = absurd named
 end_case x s (Outgoing k) named = absurd named
 
-pub ends_hold : (x : TempInsn) (h : Held) (s : Temps) (t : Places) → Holds h s t → Holds (end_all (ends_place x) h) (without (is_emptied x) s) (without (ends_place x) t)
+pub ends_hold : (x : TempInsn) (h : HolderPlaces) (s : Temps) (t : Places) → Holds h s t → Holds (end_all (ends_place x) h) (without (is_emptied x) s) (without (ends_place x) t)
 ends_hold x h s t r = record { each = λ m q named (k, e). ap (λ b. if b then unset_content else t q) e ∙ r.each m q named k ∙ sym (end_case x s m named) }
 
-pub moves_hold : (xs : List Transfer) (h : Held) (s : Temps) (t : Places) → MovesAsk xs h → Holds h s t → Holds (move_all xs h) s (do_all xs t)
+pub moves_hold : (xs : List Transfer) (h : HolderPlaces) (s : Temps) (t : Places) → MovesAsk xs h → Holds h s t → Holds (move_all xs h) s (do_all xs t)
 moves_hold [] h s t a r = r
 moves_hold (x ∷ xs) h s t a r =
     moves_hold xs _ s (put place_eq (transfer_target x) (t (source_of x)) t) a.1
     (stands_there h s t (Temp (moved_temp x)) (transfer_target x) (t (source_of x)) (r.each (Temp (moved_temp x)) (source_of x) tt a.0) r)
 
-pub included : (h k : Held) (s : Temps) (t : Places) → Includes h k → Holds h s t → Holds k s t
-included h k s t inc r = record { each = λ n p named e. r.each n p named (inc.each n p e) }
+pub included_holds : (h k : HolderPlaces) (s : Temps) (t : Places) → Includes h k → Holds h s t → Holds k s t
+included_holds h k s t inc r = record { each = λ n p named e. r.each n p named (inc.each n p e) }
 
 -- ---- the argument places, which no allocation moves
 
@@ -174,14 +174,14 @@ places_same (i.Serve service) s t r = refl
 places_same (i.Return with_value) s t r = refl
 places_same i.Mark s t r = refl
 
-fixed_same : (rs : List ℕ) (ks : List Holder) (h : Held) (s : Temps) (t : Places) → FixedAsk rs h → Holds h s t → map s ks ≡ map t (map home_of ks) → map s (map Fixed rs ++ ks) ≡ map t (map home_of (map Fixed rs ++ ks))
+fixed_same : (rs : List ℕ) (ks : List Holder) (h : HolderPlaces) (s : Temps) (t : Places) → FixedAsk rs h → Holds h s t → map s ks ≡ map t (map home_of ks) → map s (map Fixed rs ++ ks) ≡ map t (map home_of (map Fixed rs ++ ks))
 fixed_same [] ks h s t a r e = e
 fixed_same (n ∷ rs) ks h s t a r e =
     let head = r.each (Fixed n) (Reg n) tt a.0 in
     let tail = fixed_same rs ks h s t a.1 r e in
     cc
 
-temps_same : (ts rs : List ℕ) (ks : List Holder) (h : Held) (s : Temps) (t : Places) → ReadsAsk ts rs h → Holds h s t → map s ks ≡ map t (map home_of ks) → map s (map Temp ts ++ ks) ≡ map t (map Reg (take (length ts) rs) ++ map home_of ks)
+temps_same : (ts rs : List ℕ) (ks : List Holder) (h : HolderPlaces) (s : Temps) (t : Places) → ReadsAsk ts rs h → Holds h s t → map s ks ≡ map t (map home_of ks) → map s (map Temp ts ++ ks) ≡ map t (map Reg (take (length ts) rs) ++ map home_of ks)
 temps_same [] rs ks h s t a r e = e
 temps_same (n ∷ ts) [] ks h s t a r e = absurd a
 temps_same (n ∷ ts) (q ∷ rs) ks h s t a r e =
@@ -189,7 +189,7 @@ temps_same (n ∷ ts) (q ∷ rs) ks h s t a r e =
     let tail = temps_same ts rs ks h s t a.1 r e in
     cc
 
-pub reads_same : (x : TempInsn) (rs : List ℕ) (h : Held) (s : Temps) (t : Places) → ReadsAsk (reads_of x) rs h → FixedAsk (fixed_reads_of x) h → Holds h s t → SameArguments s t → map s (holders_read x) ≡ map t (places_read_at rs x)
+pub reads_same : (x : TempInsn) (rs : List ℕ) (h : HolderPlaces) (s : Temps) (t : Places) → ReadsAsk (reads_of x) rs h → FixedAsk (fixed_reads_of x) h → Holds h s t → SameArguments s t → map s (holders_read x) ≡ map t (places_read_at rs x)
 reads_same x rs h s t a f r same =
     temps_same (reads_of x) rs (others_read x) h s t a r (fixed_same (fixed_reads_of x) (places_read x) h s t f r (places_same x s t same))
 

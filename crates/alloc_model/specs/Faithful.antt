@@ -20,38 +20,38 @@ use Rattle.alloc_model.specs.Needs.{is_live_at, top_place, place_at_top, IsNeede
 -- ---- the set
 
 -- which places hold what
-abbrev pub Held : Type 1
-Held = Holder → Place → Type 0
+abbrev pub HolderPlaces : Type 1
+HolderPlaces = Holder → Place → Type 0
 
 -- something stands at a place from now on, and nothing else does
-abbrev pub stands : Holder → Place → Held → Held
+abbrev pub stands : Holder → Place → HolderPlaces → HolderPlaces
 stands n p h m q = (h m q × (q ≢ p)) ⊎ ((m ≡ n) × (q ≡ p))
 
 -- something that is written stands nowhere any more
-abbrev pub forget : Holder → Held → Held
+abbrev pub forget : Holder → HolderPlaces → HolderPlaces
 forget n h m q = h m q × (m ≢ n)
 
 -- places that are ended hold nothing
-abbrev pub end_all : (ended : Place → Bool) → Held → Held
+abbrev pub end_all : (ended : Place → Bool) → HolderPlaces → HolderPlaces
 end_all ended h m q = h m q × (ended q ≡ false)
 
 -- what is written enters with its place
-abbrev pub write_all : List Holder → List Place → Held → Held
+abbrev pub write_all : List Holder → List Place → HolderPlaces → HolderPlaces
 write_all (n ∷ ns) (p ∷ ps) h = write_all ns ps (stands n p (forget n h))
 write_all _ _ h = h
 
 -- one set has all that another one has
-pub record Includes (h k : Held) : Type 0 where
+pub record Includes (h k : HolderPlaces) : Type 0 where
   pub each : (n : Holder) (p : Place) → k n p → h n p
 
 -- ---- transfers
 
 -- a transfer asks for the temporary at the source, and the temporary then stands at the target
-abbrev pub move_all : List Transfer → Held → Held
+abbrev pub move_all : List Transfer → HolderPlaces → HolderPlaces
 move_all [] h = h
 move_all (x ∷ xs) h = move_all xs (stands (Temp (moved_temp x)) (transfer_target x) h)
 
-abbrev pub MovesAsk : List Transfer → Held → Type 0
+abbrev pub MovesAsk : List Transfer → HolderPlaces → Type 0
 MovesAsk [] h = Unit {0}
 MovesAsk (x ∷ xs) h =
     h (Temp (moved_temp x)) (source_of x) × MovesAsk xs (stands (Temp (moved_temp x)) (transfer_target x) h)
@@ -59,18 +59,18 @@ MovesAsk (x ∷ xs) h =
 -- ---- instructions
 
 -- an instruction asks for each temporary that it reads, in the register that is stated
-abbrev pub ReadsAsk : (temps registers : List ℕ) → Held → Type 0
+abbrev pub ReadsAsk : (temps registers : List ℕ) → HolderPlaces → Type 0
 ReadsAsk [] rs h = Unit {0}
 ReadsAsk (t ∷ ts) [] h = ⊥
 ReadsAsk (t ∷ ts) (r ∷ rs) h = h (Temp t) (Reg r) × ReadsAsk ts rs h
 
 -- and for each fixed register that it reads
-abbrev pub FixedAsk : (registers : List ℕ) → Held → Type 0
+abbrev pub FixedAsk : (registers : List ℕ) → HolderPlaces → Type 0
 FixedAsk [] h = Unit {0}
 FixedAsk (r ∷ rs) h = h (Fixed r) (Reg r) × FixedAsk rs h
 
 -- the set behind an instruction, with the transfers before it and its stated registers
-abbrev pub behind_insn : List Transfer → (registers : List ℕ) → Option TempInsn → Held → Held
+abbrev pub behind_insn : List Transfer → (registers : List ℕ) → Option TempInsn → HolderPlaces → HolderPlaces
 behind_insn xs rs None h = h
 behind_insn xs rs (Some x) h =
     write_all (holders_written x) (places_written_at rs x) (end_all (ends_place x) (move_all xs h))
@@ -78,37 +78,37 @@ behind_insn xs rs (Some x) h =
 -- ---- blocks
 
 -- at a block's top each temporary that is live there stands at its place, and each in need of the block in its slot
-abbrev pub at_top : Plan → (block : ℕ) → Held
+abbrev pub at_top : Plan → (block : ℕ) → HolderPlaces
 at_top a block (Temp t) q =
     (is_live_at a t block 0 × (q ≡ place_at_top a block t)) ⊎ (IsNeeded a t block × (q ≡ Slot t))
 at_top a block _ q = ⊥
 
 -- at the entry of the function the argument registers stand, and each temporary, which is unset, stands in its slot
-abbrev pub at_entry : Plan → Held
+abbrev pub at_entry : Plan → HolderPlaces
 at_entry a (Temp t) q = q ≡ Slot t
 at_entry a (Fixed r) q = Contains (argument_registers a.params) r × (q ≡ Reg r)
 at_entry a _ q = ⊥
 
-abbrev pub at_start : Plan → (block : ℕ) → Held
+abbrev pub at_start : Plan → (block : ℕ) → HolderPlaces
 at_start a zero = at_entry a
 at_start a (suc block) = at_top a (suc block)
 
 -- before the instruction at a place of a block, and behind the block's last one
-abbrev pub held_before : Plan → (block at : ℕ) → Held
+abbrev pub held_before : Plan → (block at : ℕ) → HolderPlaces
 held_before a block zero = at_start a block
 held_before a block (suc at) =
     behind_insn (transfers_at a block at) (registers_at a block at) (insn_at a.function.blocks block at)
     (held_before a block at)
 
 -- at a block's bottom each temporary that is live there stands at the place that is named, if one is
-abbrev pub at_bottom : Plan → (block : ℕ) → (insns : List TempInsn) → Held
+abbrev pub at_bottom : Plan → (block : ℕ) → (insns : List TempInsn) → HolderPlaces
 at_bottom a block insns (Temp t) q =
     is_live_at a t block (length insns)
     × ((s : TempPlace) × Contains (slice_index_or a.bottom block []) s × (s.temp ≡ t) × (q ≡ top_place s.place))
 at_bottom a block insns _ q = ⊥
 
 -- an edge is kept: its transfers are given what they ask for, and lead to what the target's top starts with
-pub record KeepsEdge (a : Plan) (from to : ℕ) (h : Held) : Type 0 where
+pub record KeepsEdge (a : Plan) (from to : ℕ) (h : HolderPlaces) : Type 0 where
   pub moves : MovesAsk (edge_transfers a from to) h
   pub leads : Includes (move_all (edge_transfers a from to) h) (at_start a to)
 

@@ -5,7 +5,7 @@ use Rattle.std.proofs.lemmas.Bool.{eqb-true, eq-eqb}
 use Rattle.std.proofs.Math.Path.{fun_ext}
 use Rattle.alloc_model.specs.Places.{Reg, Slot, place_eq}
 use Rattle.alloc_rules.specs.Visits.{comes_to, register_in_place}
-use Rattle.alloc_plain.specs.declared.holders.Held.{Held}
+use Rattle.alloc_plain.specs.declared.holders.HeldTemporaries.{HeldTemporaries}
 use Rattle.alloc_plain.specs.model.Held.{is_in, register_by, place_in, home_in, without_temp, holder_behind, comes}
 use Rattle.plain_lists.proofs.Sets.{test_or_not}
 
@@ -89,13 +89,13 @@ leaves r t a b c (inl e) one = subst (λ r. Leaves r t a b c) (sym e) (leaves_fi
 leaves r t a b c (inr (inl e)) one = subst (λ r. Leaves r t a b c) (sym e) (leaves_second t a b c one)
 leaves r t a b c (inr (inr e)) one = subst (λ r. Leaves r t a b c) (sym e) (leaves_third t a b c)
 
-abbrev pub IsOnce : Held → Type 0
+abbrev pub IsOnce : HeldTemporaries → Type 0
 IsOnce h = (t : ℕ) → AtMostOne (is_in h.first t) (is_in h.second t) (is_in h.third t)
 
 by_parts : (t : ℕ) (a b c a' b' c' : Bool) → a ≡ a' → b ≡ b' → c ≡ c' → place_in (register_by a b c) t ≡ place_in (register_by a' b' c') t
 by_parts t a b c a' b' c' p q r = ap (λ a. place_in (register_by a b c) t) p ∙ ap (λ b. place_in (register_by a' b c) t) q ∙ ap (λ c. place_in (register_by a' b' c) t) r
 
-comes_at : (r u : ℕ) (h : Held) (t : ℕ) → IsLow r → IsOnce h → comes_to r u (home_in h) t ≡ home_in (comes r u h) t
+comes_at : (r u : ℕ) (h : HeldTemporaries) (t : ℕ) → IsLow r → IsOnce h → comes_to r u (home_in h) t ≡ home_in (comes r u h) t
 comes_at r u h t low once = ⊎_elim
     (λ (e : (u == t) ≡ true).
     ap (λ b. if b then Reg r else (if place_eq (home_in h t) (Reg r) then Slot t else home_in h t)) (turned t u ∙ e)
@@ -106,7 +106,7 @@ comes_at r u h t low once = ⊎_elim
     ∙ sym (by_parts t _ _ _ _ _ _ (behind_other (r == 1) u t h.first n) (behind_other (r == 2) u t h.second n) (behind_other (r == 3) u t h.third n)))
     (test_or_not (u == t))
 
-pub comes_home : (r u : ℕ) (h : Held) → IsLow r → IsOnce h → comes_to r u (home_in h) ≡ home_in (comes r u h)
+pub comes_home : (r u : ℕ) (h : HeldTemporaries) → IsLow r → IsOnce h → comes_to r u (home_in h) ≡ home_in (comes r u h)
 comes_home r u h low once = fun_ext (λ t. comes_at r u h t low once)
 
 -- ---- no temporary comes to two registers
@@ -130,7 +130,7 @@ fewer p q r a b c one = record { first = λ is. (none q b (one.first (held p a i
 same_once : (a b c a' b' c' : Bool) → a ≡ a' → b ≡ b' → c ≡ c' → AtMostOne a' b' c' → AtMostOne a b c
 same_once a b c a' b' c' p q r one = subst (λ a. AtMostOne a b c) (sym p) (subst (λ b. AtMostOne a' b c) (sym q) (subst (λ c. AtMostOne a' b' c) (sym r) one))
 
-pub comes_once : (r u : ℕ) (h : Held) → IsLow r → IsOnce h → IsOnce (comes r u h)
+pub comes_once : (r u : ℕ) (h : HeldTemporaries) → IsLow r → IsOnce h → IsOnce (comes r u h)
 comes_once r u h low once t = ⊎_elim
     (λ (e : (u == t) ≡ true). same_once _ _ _ (r == 1) (r == 2) (r == 3) (behind_same (r == 1) u t h.first e) (behind_same (r == 2) u t h.second e) (behind_same (r == 3) u t h.third e) (one_here r low))
     (λ (n : (u == t) ≡ false). same_once _ _ _ _ _ _ (behind_other (r == 1) u t h.first n) (behind_other (r == 2) u t h.second n) (behind_other (r == 3) u t h.third n)

@@ -22,9 +22,9 @@ use Rattle.alloc_rules.specs.Visits.{Wants, AreWants, homes_behind_moves, homes_
 use Rattle.alloc_rules.specs.Frugal.{is_covered}
 use Rattle.alloc_rules.specs.Journal.{eviction, eviction_at, evictions, event_of, assigned_by_move, visit_events, insn_events, events_from, blocks_events, journal_of}
 use Rattle.lifetime_ends.specs.Ends.{AreEnds}
-use Rattle.alloc_plain.specs.declared.holders.Held.{Held}
+use Rattle.alloc_plain.specs.declared.holders.HeldTemporaries.{HeldTemporaries}
 use Rattle.alloc_plain.specs.model.Held.{register_in, home_in, nothing_held, held_left, held_behind, held_at_top, held_behind_all, Holds}
-use Rattle.alloc_plain.specs.model.Visits.{leaving, leaving_at, all_leaving, visit_in_slots, visits_in_slots, journal_in_slots}
+use Rattle.alloc_plain.specs.model.Visits.{leaving_events, leaving_at, all_leaving, visit_in_slots, visits_in_slots, journal_in_slots}
 use Rattle.plain_lists.specs.Plain.{loads, plain_registers, stores_behind, transfers_from, plain_plan}
 use Rattle.plain_lists.proofs.Sets.{test_or_not}
 use Rattle.plain_lists.proofs.Registers.{or_first, or_second}
@@ -138,7 +138,7 @@ module _ (f : TemporaryCode) (params temps : ℕ) (wants : Wants) (are : AreWant
       ∙ sym (le-leb p (slice_index_or ends t 0) ahead))
       (cases_lt (slice_index_or ends t 0) p)
 
-  leaves_place : (t p m : ℕ) (g b : Held) → Holds (WasPresent wants temps m) g → m ≤ suc p → eviction_at plan wants p (home_in g) (home_in b) t ≡ leaving ends p g b t
+  leaves_place : (t p m : ℕ) (g b : HeldTemporaries) → Holds (WasPresent wants temps m) g → m ≤ suc p → eviction_at plan wants p (home_in g) (home_in b) t ≡ leaving_events ends p g b t
   leaves_place t p m g b holds few =
       ap (λ o. eviction (is_covered plan wants t p) o (register_in_place (home_in b t)) t) (register_place (register_in g t) t)
       ∙ ap (λ o. eviction (is_covered plan wants t p) (register_in g t) o t) (register_place (register_in b t) t)
@@ -148,12 +148,12 @@ module _ (f : TemporaryCode) (params temps : ℕ) (wants : Wants) (are : AreWant
       by_register None is = refl
       by_register (Some r) is = ap (λ c. eviction c (Some r) (register_in b t) t) (covered t p m (held_register (WasPresent wants temps m) g t r holds is) few)
 
-  all_leave : (n : ℕ) (h l b : Held) → Holds (WasPresent wants temps (2 * n)) h → Holds (WasPresent wants temps (2 * n + 1)) l →
+  all_leave : (n : ℕ) (h l b : HeldTemporaries) → Holds (WasPresent wants temps (2 * n)) h → Holds (WasPresent wants temps (2 * n + 1)) l →
       evictions plan wants n (home_in h) (home_in l) (home_in b) ≡ all_leaving ends n h l b
   all_leave n h l b before left =
       ap (λ (g : ℕ → List Event). flat_map g (range_with_len 0 temps))
       (fun_ext (λ t. ap (λ es. es ++ eviction_at plan wants (2 * n + 1) (home_in l) (home_in b) t) (leaves_place t (2 * n) (2 * n) h l before (omega arith))
-      ∙ ap (λ es. leaving ends (2 * n) h l t ++ es) (leaves_place t (2 * n + 1) (2 * n + 1) l b left (omega arith))))
+      ∙ ap (λ es. leaving_events ends (2 * n) h l t ++ es) (leaves_place t (2 * n + 1) (2 * n + 1) l b left (omega arith))))
       ∙ ap (λ k. flat_map (leaving_at ends n h l b) (range_with_len 0 k)) (sym are_ends.as_many)
 
   -- ---- a visit
@@ -169,13 +169,13 @@ module _ (f : TemporaryCode) (params temps : ℕ) (wants : Wants) (are : AreWant
       ∙ registers_get insns at x at_is
 
   -- before an instruction with a number stands what is held
-  record Stands (block at n : ℕ) (h : Held) : Type 0 where
+  record Stands (block at n : ℕ) (h : HeldTemporaries) : Type 0 where
     homes : homes_before plan wants block at ≡ home_in h
     once : IsOnce h
     number : n ≡ linear_number f.blocks block at
     holds : Holds (WasPresent wants temps (2 * n)) h
 
-  module _ (block at n : ℕ) (insns : List TempInsn) (x : TempInsn) (p : Option TempInsn) (h : Held) (block_is : slice_get f.blocks block ≡ Some insns) (at_is : slice_get insns at ≡ Some x)
+  module _ (block at n : ℕ) (insns : List TempInsn) (x : TempInsn) (p : Option TempInsn) (h : HeldTemporaries) (block_is : slice_get f.blocks block ≡ Some insns) (at_is : slice_get insns at ≡ Some x)
       (behind : p ≡ previous None insns at) (s : Stands block at n h) where
     there : insn_at f.blocks block at ≡ Some x
     there = ap (λ b. insn_in b at) block_is ∙ at_is
@@ -247,7 +247,7 @@ module _ (f : TemporaryCode) (params temps : ℕ) (wants : Wants) (are : AreWant
 
   -- ---- a block
 
-  events_are : (block : ℕ) (insns : List TempInsn) → slice_get f.blocks block ≡ Some insns → (xs : List TempInsn) (at n : ℕ) (p : Option TempInsn) (h : Held) → drop at insns ≡ xs → p ≡ previous None insns at → Stands block at n h →
+  events_are : (block : ℕ) (insns : List TempInsn) → slice_get f.blocks block ≡ Some insns → (xs : List TempInsn) (at n : ℕ) (p : Option TempInsn) (h : HeldTemporaries) → drop at insns ≡ xs → p ≡ previous None insns at → Stands block at n h →
       events_from plan wants block at xs ≡ visits_in_slots ends n p xs h
   events_are block insns block_is [] at n p h rest behind s = refl
   events_are block insns block_is (x ∷ xs) at n p h rest behind s =
@@ -256,7 +256,7 @@ module _ (f : TemporaryCode) (params temps : ℕ) (wants : Wants) (are : AreWant
       ∙ ap (λ es. visit_in_slots ends n p x h ++ es)
       (events_are block insns block_is xs (suc at) (suc n) (Some x) (held_behind x h) d.1 (sym (previous_next None insns at x d.0)) (next block at n insns x p h block_is d.0 behind s))
 
-  at_end : (block : ℕ) (insns : List TempInsn) → slice_get f.blocks block ≡ Some insns → (xs : List TempInsn) (at n : ℕ) (p : Option TempInsn) (h : Held) → drop at insns ≡ xs → at ≤ length insns → p ≡ previous None insns at → Stands block at n h →
+  at_end : (block : ℕ) (insns : List TempInsn) → slice_get f.blocks block ≡ Some insns → (xs : List TempInsn) (at n : ℕ) (p : Option TempInsn) (h : HeldTemporaries) → drop at insns ≡ xs → at ≤ length insns → p ≡ previous None insns at → Stands block at n h →
       Stands block (length insns) (n + length xs) (held_behind_all xs h)
   at_end block insns block_is [] at n p h rest few behind s =
       subst (λ m. Stands block (length insns) m h) (let e : n ≡ n + 0 = omega arith in e) (subst (λ k. Stands block k n h) (drop_none insns at few rest) s)
@@ -272,13 +272,13 @@ module _ (f : TemporaryCode) (params temps : ℕ) (wants : Wants) (are : AreWant
   top_is block t = ap (λ named. named_place t (find (λ s. s.temp == t) named)) (none_named f.blocks block)
 
   -- behind the blocks before one stands what is held
-  record Comes (block n : ℕ) (h : Held) : Type 0 where
+  record Comes (block n : ℕ) (h : HeldTemporaries) : Type 0 where
     homes : homes_at_top plan wants block ≡ with_top plan wants block (home_in h)
     once : IsOnce h
     number : n ≡ count_of (take block f.blocks)
     holds : Holds (WasPresent wants temps (2 * n)) h
 
-  enters : (block n : ℕ) (h : Held) → Comes block n h → Stands block 0 n (held_at_top (slice_index_or tops block []) h)
+  enters : (block n : ℕ) (h : HeldTemporaries) → Comes block n h → Stands block 0 n (held_at_top (slice_index_or tops block []) h)
   enters block n h c = record {
     homes = c.homes ∙ fun_ext (λ t. ap (λ place. if wants.live t block 0 then place else home_in h t) (top_is block t))
         ∙ top_home (slice_index_or tops block []) h (λ t. wants.live t block 0) (λ t. live t block);
@@ -287,7 +287,7 @@ module _ (f : TemporaryCode) (params temps : ℕ) (wants : Wants) (are : AreWant
     holds = top_holds (WasPresent wants temps (2 * n)) (slice_index_or tops block []) h c.holds;
   }
 
-  goes_on : (block n : ℕ) (insns : List TempInsn) (h : Held) → slice_get f.blocks block ≡ Some insns → Stands block (length insns) n h → Comes (suc block) n h
+  goes_on : (block n : ℕ) (insns : List TempInsn) (h : HeldTemporaries) → slice_get f.blocks block ≡ Some insns → Stands block (length insns) n h → Comes (suc block) n h
   goes_on block n insns h block_is s = record {
     homes = ap (λ k. with_top plan wants (suc block) (homes_before plan wants block k)) (ap length (get_or_from_slice_get f.blocks block insns [] block_is))
         ∙ ap (with_top plan wants (suc block)) s.homes;
@@ -296,7 +296,7 @@ module _ (f : TemporaryCode) (params temps : ℕ) (wants : Wants) (are : AreWant
     holds = s.holds;
   }
 
-  blocks_are : (bs : Blocks) (block n : ℕ) (h : Held) → drop block f.blocks ≡ bs → Comes block n h → blocks_events plan wants block bs ≡ journal_in_slots ends tops n block bs h
+  blocks_are : (bs : Blocks) (block n : ℕ) (h : HeldTemporaries) → drop block f.blocks ≡ bs → Comes block n h → blocks_events plan wants block bs ≡ journal_in_slots ends tops n block bs h
   blocks_are [] block n h rest c = refl
   blocks_are (insns ∷ bs) block n h rest c =
       let d = drop_first f.blocks block insns bs rest in

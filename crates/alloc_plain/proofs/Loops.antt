@@ -11,7 +11,7 @@ use Rattle.temp_ir.specs.Insns.{reads_of, writes_of}
 use Rattle.alloc_model.specs.Lifetimes.{Blocks}
 use Rattle.alloc_model.specs.declared.allocation.Event.{Event}
 use Rattle.plain_lists.proofs.Lists.{there}
-use Rattle.alloc_plain.specs.declared.holders.Held.{Held}
+use Rattle.alloc_plain.specs.declared.holders.HeldTemporaries.{HeldTemporaries}
 use Rattle.alloc_plain.specs.model.Held.{is_in, held_left, held_behind, held_behind_all, held_at_top, Holds}
 use Rattle.alloc_plain.specs.model.Visits.{visit_in_slots, visits_in_slots, journal_in_slots}
 use Rattle.alloc_plain.proofs.Steps.{left_holds, behind_holds}
@@ -19,7 +19,7 @@ use Rattle.alloc_plain.proofs.Journals.{count_step}
 
 -- ---- the instructions of a block
 
-pub visits_next : (ends : List ℕ) (number next id : ℕ) (p : Option TempInsn) (x : TempInsn) (h h' : Held) (rest all : List (ℕ × TempInsn)) (out new whole : List Event) → all ≡ (id, x) ∷ rest →
+pub visits_next : (ends : List ℕ) (number next id : ℕ) (p : Option TempInsn) (x : TempInsn) (h h' : HeldTemporaries) (rest all : List (ℕ × TempInsn)) (out new whole : List Event) → all ≡ (id, x) ∷ rest →
     new ≡ out ++ visit_in_slots ends number p x h → h' ≡ held_behind x h → next ≡ number + 1 →
     out ++ visits_in_slots ends number p (items all) h ≡ whole → new ++ visits_in_slots ends next (Some x) (items rest) h' ≡ whole
 visits_next ends number next id p x h h' rest all out new whole is put behind step so_far =
@@ -29,25 +29,25 @@ visits_next ends number next id p x h h' rest all out new whole is put behind st
     ∙ ap (λ g. out ++ (visit_in_slots ends number p x h ++ visits_in_slots ends (suc number) (Some x) (items rest) g)) behind
     ∙ sym (ap (λ ps. out ++ visits_in_slots ends number p (items ps) h) is) ∙ so_far
 
-pub visits_done : (ends : List ℕ) (number : ℕ) (p : Option TempInsn) (h : Held) (left : List (ℕ × TempInsn)) (out whole : List Event) → left ≡ [] →
+pub visits_done : (ends : List ℕ) (number : ℕ) (p : Option TempInsn) (h : HeldTemporaries) (left : List (ℕ × TempInsn)) (out whole : List Event) → left ≡ [] →
     out ++ visits_in_slots ends number p (items left) h ≡ whole → out ≡ whole
 visits_done ends number p h left out whole none so_far = sym (append-nil out) ∙ sym (ap (λ ps. out ++ visits_in_slots ends number p (items ps) h) none) ∙ so_far
 
-pub behind_next : (id : ℕ) (x : TempInsn) (h h' whole : Held) (rest all : List (ℕ × TempInsn)) → all ≡ (id, x) ∷ rest → h' ≡ held_behind x h →
+pub behind_next : (id : ℕ) (x : TempInsn) (h h' whole : HeldTemporaries) (rest all : List (ℕ × TempInsn)) → all ≡ (id, x) ∷ rest → h' ≡ held_behind x h →
     held_behind_all (items all) h ≡ whole → held_behind_all (items rest) h' ≡ whole
 behind_next id x h h' whole rest all is behind so_far =
     ap (held_behind_all (items rest)) behind ∙ sym (ap (λ ps. held_behind_all (items ps) h) is) ∙ so_far
 
-pub behind_done : (h whole : Held) (left : List (ℕ × TempInsn)) → left ≡ [] → held_behind_all (items left) h ≡ whole → h ≡ whole
+pub behind_done : (h whole : HeldTemporaries) (left : List (ℕ × TempInsn)) → left ≡ [] → held_behind_all (items left) h ≡ whole → h ≡ whole
 behind_done h whole left none so_far = sym (ap (λ ps. held_behind_all (items ps) h) none) ∙ so_far
 
 named_below : (n : ℕ) (ts : List ℕ) → All (λ t. t < n) ts → (t : ℕ) → Contains ts t → t < n
 named_below n ts all t (k, within, is) = subst (λ u. u < n) is (all k t within)
 
-pub left_below : (n : ℕ) (x : TempInsn) (h left : Held) → UsesRegisters reads_of writes_of n x → left ≡ held_left x h → Holds (λ t. t < n) h → Holds (λ t. t < n) left
+pub left_below : (n : ℕ) (x : TempInsn) (h left : HeldTemporaries) → UsesRegisters reads_of writes_of n x → left ≡ held_left x h → Holds (λ t. t < n) h → Holds (λ t. t < n) left
 left_below n x h left used is holds = subst (Holds (λ t. t < n)) (sym is) (left_holds (λ t. t < n) x h (named_below n (reads_of x) used.0) holds)
 
-pub behind_below : (n : ℕ) (x : TempInsn) (h h' : Held) → UsesRegisters reads_of writes_of n x → h' ≡ held_behind x h → Holds (λ t. t < n) h → Holds (λ t. t < n) h'
+pub behind_below : (n : ℕ) (x : TempInsn) (h h' : HeldTemporaries) → UsesRegisters reads_of writes_of n x → h' ≡ held_behind x h → Holds (λ t. t < n) h → Holds (λ t. t < n) h'
 behind_below n x h h' used is holds = subst (Holds (λ t. t < n)) (sym is)
     (behind_holds (λ t. t < n) x (held_left x h) (named_below n (writes_of x) used.1) (left_holds (λ t. t < n) x h (named_below n (reads_of x) used.0) holds))
 
@@ -72,7 +72,7 @@ drop_block [] k b is = absurd (cc)
 drop_block (c ∷ bs) zero b is = (let same : c ≡ b = cc in ap (λ x. x ∷ bs) same)
 drop_block (c ∷ bs) (suc k) b is = drop_block bs k b is ∙ ap (λ n. b ∷ drop n (c ∷ bs)) (let e : suc (k + 1) ≡ suc k + 1 = omega arith in e)
 
-pub blocks_next : (ends : List ℕ) (tops : List (List Bool)) (blocks : Blocks) (k number next : ℕ) (b : List TempInsn) (set : List Bool) (h entered h' : Held) (out new whole : List Event) →
+pub blocks_next : (ends : List ℕ) (tops : List (List Bool)) (blocks : Blocks) (k number next : ℕ) (b : List TempInsn) (set : List Bool) (h entered h' : HeldTemporaries) (out new whole : List Event) →
     k < length blocks → b ≡ slice_index_or blocks k b → set ≡ slice_index_or tops k [] → entered ≡ held_at_top set h →
     new ≡ out ++ visits_in_slots ends number None b entered → h' ≡ held_behind_all b entered → next ≡ number + length b →
     out ++ journal_in_slots ends tops number k (drop k blocks) h ≡ whole → new ++ journal_in_slots ends tops next (k + 1) (drop (k + 1) blocks) h' ≡ whole
@@ -86,7 +86,7 @@ blocks_next ends tops blocks k number next b set h entered h' out new whole with
     ∙ ap (λ n. out ++ (visits_in_slots ends number None b (held_at_top (slice_index_or tops k []) h) ++ journal_in_slots ends tops (number + length b) n (drop (k + 1) blocks) (held_behind_all b (held_at_top (slice_index_or tops k []) h)))) e
     ∙ sym (ap (λ bs. out ++ journal_in_slots ends tops number k bs h) (drop_block blocks k b (block_get blocks k b within is))) ∙ so_far
 
-pub blocks_done : (ends : List ℕ) (tops : List (List Bool)) (blocks : Blocks) (k number : ℕ) (h : Held) (out whole : List Event) → length blocks ≤ k →
+pub blocks_done : (ends : List ℕ) (tops : List (List Bool)) (blocks : Blocks) (k number : ℕ) (h : HeldTemporaries) (out whole : List Event) → length blocks ≤ k →
     out ++ journal_in_slots ends tops number k (drop k blocks) h ≡ whole → out ≡ whole
 blocks_done ends tops blocks k number h out whole past so_far =
     sym (append-nil out) ∙ sym (ap (λ bs. out ++ journal_in_slots ends tops number k bs h) (all_dropped blocks k past)) ∙ so_far

@@ -7,7 +7,7 @@ use Rattle.std.proofs.lemmas.Option.{none-some, same_Some}
 use Rattle.alloc_model.specs.declared.allocation.Event.{Event}
 use Rattle.alloc_rules.specs.Journal.{eviction}
 use Rattle.plain_lists.proofs.Sets.{test_or_not}
-use Rattle.alloc_plain.specs.declared.holders.Held.{Held}
+use Rattle.alloc_plain.specs.declared.holders.HeldTemporaries.{HeldTemporaries}
 use Rattle.alloc_plain.specs.model.Held.{is_in, register_by, register_in, Holds}
 use Rattle.alloc_plain.specs.model.Next.{lower, sooner, soonest, next_held}
 use Rattle.alloc_plain.specs.model.Visits.{leaving_at, all_leaving}
@@ -44,14 +44,14 @@ past_sooner from best (Some t) j high p = ⊎_elim
     (let low = both.0 in other_number t j (λ e. omega (arith, low, e)), both.1))
     (cases_lt t from)
 
-past_soonest : (from : ℕ) (best : Option ℕ) (h : Held) (j : ℕ) → from ≤ j → IsPast (soonest from best h) j → (register_in h j ≡ None) × IsPast best j
+past_soonest : (from : ℕ) (best : Option ℕ) (h : HeldTemporaries) (j : ℕ) → from ≤ j → IsPast (soonest from best h) j → (register_in h j ≡ None) × IsPast best j
 past_soonest from best h j high p =
     let third = past_sooner from (sooner from (sooner from best h.first) h.second) h.third j high p in
     let second = past_sooner from (sooner from best h.first) h.second j high third.1 in
     let first = past_sooner from best h.first j high second.1 in
     (ap (λ a. register_by a (is_in h.second j) (is_in h.third j)) first.0 ∙ ap (λ b. register_by false b (is_in h.third j)) second.0 ∙ ap (λ c. register_by false false c) third.0, first.1)
 
-past_next : (from : ℕ) (before behind : Held) (j : ℕ) → from ≤ j → IsPast (next_held from before behind) j → (register_in before j ≡ None) × (register_in behind j ≡ None)
+past_next : (from : ℕ) (before behind : HeldTemporaries) (j : ℕ) → from ≤ j → IsPast (next_held from before behind) j → (register_in before j ≡ None) × (register_in behind j ≡ None)
 past_next from before behind j high p =
     let behind_none = past_soonest from (soonest from None before) behind j high p in
     let before_none = past_soonest from None before j high behind_none.1 in
@@ -80,12 +80,12 @@ found_sooner Q from best (Some t) f all = ⊎_elim
     same_number : (t : ℕ) → (t == t) ≡ true
     same_number t = eq-eqb t t refl
 
-found_soonest : (Q : ℕ → Type 0) (from : ℕ) (best : Option ℕ) (h : Held) → Holds Q h → IsFound (Above from Q) best → IsFound (Above from Q) (soonest from best h)
+found_soonest : (Q : ℕ → Type 0) (from : ℕ) (best : Option ℕ) (h : HeldTemporaries) → Holds Q h → IsFound (Above from Q) best → IsFound (Above from Q) (soonest from best h)
 found_soonest Q from best h holds f =
     found_sooner Q from (sooner from (sooner from best h.first) h.second) h.third
     (found_sooner Q from (sooner from best h.first) h.second (found_sooner Q from best h.first f holds.first) holds.second) holds.third
 
-pub found_next : (Q : ℕ → Type 0) (from : ℕ) (before behind : Held) (t : ℕ) → Holds Q before → Holds Q behind → next_held from before behind ≡ Some t → (from ≤ t) × Q t
+pub found_next : (Q : ℕ → Type 0) (from : ℕ) (before behind : HeldTemporaries) (t : ℕ) → Holds Q before → Holds Q behind → next_held from before behind ≡ Some t → (from ≤ t) × Q t
 found_next Q from before behind t first second is =
     let f = found_soonest Q from (soonest from None before) behind second
     (found_soonest Q from None before first (record { found = λ u e. absurd (none-some u e) })) in
@@ -93,7 +93,7 @@ found_next Q from before behind t first second is =
 
 -- ---- the events of those between
 
-quiet : (ends : List ℕ) (number : ℕ) (before left behind : Held) (j : ℕ) → register_in before j ≡ None → register_in left j ≡ None → leaving_at ends number before left behind j ≡ []
+quiet : (ends : List ℕ) (number : ℕ) (before left behind : HeldTemporaries) (j : ℕ) → register_in before j ≡ None → register_in left j ≡ None → leaving_at ends number before left behind j ≡ []
 quiet ends number before left behind j silent none =
     ap (λ o. eviction (nat_le (2 * number) (slice_index_or ends j 0)) o (register_in left j) j ++ eviction (nat_le (2 * number + 1) (slice_index_or ends j 0)) (register_in left j) (register_in behind j) j) silent
     ∙ ap (λ o. eviction (nat_le (2 * number + 1) (slice_index_or ends j 0)) o (register_in behind j) j) none
@@ -121,7 +121,7 @@ up_to F from t low silent =
 
 -- ---- one turn of the loop
 
-pub leaving_next : (ends : List ℕ) (number from t : ℕ) (before left behind : Held) (first out now : List Event) → next_held from before left ≡ Some t → from ≤ t →
+pub leaving_next : (ends : List ℕ) (number from t : ℕ) (before left behind : HeldTemporaries) (first out now : List Event) → next_held from before left ≡ Some t → from ≤ t →
     out ≡ first ++ flat_map (leaving_at ends number before left behind) (range_with_len 0 from) → now ≡ out ++ leaving_at ends number before left behind t →
     now ≡ first ++ flat_map (leaving_at ends number before left behind) (range_with_len 0 (t + 1))
 leaving_next ends number from t before left behind first out now is low so_far more =
@@ -131,7 +131,7 @@ leaving_next ends number from t before left behind first out now is low so_far m
     let none = past_next from before left j high (record { past = λ u e. let same = same_Some t u (sym is ∙ e) in omega (arith, below, same) }) in
     quiet ends number before left behind j none.0 none.1)))
 
-pub leaving_done : (ends : List ℕ) (number from : ℕ) (before left behind : Held) (first out : List Event) → next_held from before left ≡ None → from ≤ length ends →
+pub leaving_done : (ends : List ℕ) (number from : ℕ) (before left behind : HeldTemporaries) (first out : List Event) → next_held from before left ≡ None → from ≤ length ends →
     out ≡ first ++ flat_map (leaving_at ends number before left behind) (range_with_len 0 from) → out ≡ first ++ all_leaving ends number before left behind
 leaving_done ends number from before left behind first out is low so_far =
     so_far ∙ ap (λ es. first ++ es) (sym (in_two (leaving_at ends number before left behind) 0 from (length ends - from) (length ends) (omega (arith, low))

@@ -14,17 +14,17 @@ use temp_ir::insn::TempInsn;
 
 /// The temporaries whose places are registers 1, 2 and 3.
 #[derive(Clone, Copy)]
-pub(crate) struct Held {
+pub(crate) struct HeldTemporaries {
     pub(crate) first: Option<u32>,
     pub(crate) second: Option<u32>,
     pub(crate) third: Option<u32>,
 }
 
 /// No register has a temporary.
-pub(crate) fn nothing_held() -> Held
+pub(crate) fn nothing_held() -> HeldTemporaries
     ensures { result ≡ model.nothing_held }
 {
-    Held {
+    HeldTemporaries {
         first: None,
         second: None,
         third: None,
@@ -42,7 +42,7 @@ fn is_in(holder: Option<u32>, temp: u32) -> bool
 }
 
 /// The register of a temporary, if it has one.
-pub(crate) fn register_of(held: Held, temp: u32) -> Option<u8>
+pub(crate) fn register_of(held: HeldTemporaries, temp: u32) -> Option<u8>
     ensures { result ≡ register_in held temp }
 {
     if is_in(held.first, temp) {
@@ -79,10 +79,10 @@ fn holder_behind(here: bool, temp: u32, holder: Option<u32>) -> Option<u32>
 }
 
 /// A temporary comes to a register.
-fn comes(held: Held, register: u8, temp: u32) -> Held
+fn comes(held: HeldTemporaries, register: u8, temp: u32) -> HeldTemporaries
     ensures { result ≡ model.comes register temp held }
 {
-    Held {
+    HeldTemporaries {
         first: holder_behind(register == 1, temp, held.first),
         second: holder_behind(register == 2, temp, held.second),
         third: holder_behind(register == 3, temp, held.third),
@@ -91,7 +91,7 @@ fn comes(held: Held, register: u8, temp: u32) -> Held
 
 /// What an instruction reads comes to registers 1 and 2.
 #[tactic(auto, using(crate::proofs::Comes::none_comes, crate::proofs::Comes::one_comes, crate::proofs::Comes::two_come))]
-fn reads_come(held: Held, insn: &TempInsn) -> Held
+fn reads_come(held: HeldTemporaries, insn: &TempInsn) -> HeldTemporaries
     ensures { result ≡ come (reads_of insn.now) 1 held }
 {
     match insn.read_at(0) {
@@ -114,7 +114,7 @@ fn calls(insn: &TempInsn) -> bool
 }
 
 /// What is held behind the transfers before an instruction and what it ends.
-pub(crate) fn held_left(held: Held, insn: &TempInsn) -> Held
+pub(crate) fn held_left(held: HeldTemporaries, insn: &TempInsn) -> HeldTemporaries
     ensures { result ≡ model.held_left insn.now held }
 {
     if calls(insn) {
@@ -126,7 +126,7 @@ pub(crate) fn held_left(held: Held, insn: &TempInsn) -> Held
 
 /// What is held behind what an instruction writes, where this was held before that.
 #[tactic(auto, using(crate::proofs::Comes::none_written, crate::proofs::Comes::one_written))]
-pub(crate) fn writes_come(left: Held, insn: &TempInsn) -> Held
+pub(crate) fn writes_come(left: HeldTemporaries, insn: &TempInsn) -> HeldTemporaries
     ensures { result ≡ come (writes_of insn.now) (1 + length (reads_of insn.now)) left }
 {
     match insn.write_at(0) {
@@ -147,11 +147,11 @@ fn unless_live(live: &BitSet, holder: Option<u32>) -> Option<u32>
 }
 
 /// What is held at a block's top, where what is live there has its slot.
-pub(crate) fn at_top(held: Held, live: &BitSet) -> Held
+pub(crate) fn at_top(held: HeldTemporaries, live: &BitSet) -> HeldTemporaries
     requires { Holds (λ t. t < length live.now) held }
     ensures { result ≡ held_at_top live.now held }
 {
-    Held {
+    HeldTemporaries {
         first: unless_live(live, held.first),
         second: unless_live(live, held.second),
         third: unless_live(live, held.third),
@@ -185,7 +185,7 @@ fn sooner(from: u32, best: Option<u32>, holder: Option<u32>) -> Option<u32>
 }
 
 /// The lowest one of those that are at least a number, of what was found so far and what is held.
-fn soonest(from: u32, best: Option<u32>, held: Held) -> Option<u32>
+fn soonest(from: u32, best: Option<u32>, held: HeldTemporaries) -> Option<u32>
     ensures { result ≡ next.soonest from best held }
 {
     let first = sooner(from, best, held.first);
@@ -194,7 +194,7 @@ fn soonest(from: u32, best: Option<u32>, held: Held) -> Option<u32>
 }
 
 /// The lowest temporary from a number on that is held before or behind something, if there is one.
-pub(crate) fn next_held(from: u32, before: Held, behind: Held) -> Option<u32>
+pub(crate) fn next_held(from: u32, before: HeldTemporaries, behind: HeldTemporaries) -> Option<u32>
     ensures { result ≡ next.next_held from before behind }
 {
     soonest(from, soonest(from, None, before), behind)

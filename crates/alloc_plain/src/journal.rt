@@ -12,7 +12,7 @@ ghost use Rattle.alloc_plain.specs.model.Held.{Holds, held_at_top, held_behind_a
 ghost use Rattle.alloc_plain.specs.model.Held as model;
 ghost use Rattle.alloc_plain.specs.model.Visits.{visits_in_slots, journal_in_slots};
 
-use crate::holders::{Held, at_top, nothing_held};
+use crate::holders::{HeldTemporaries, at_top, nothing_held};
 use crate::visits::put_visit;
 use alloc_model::allocation::Event;
 use bitvector_flow::liveness;
@@ -28,7 +28,7 @@ use temp_ir::insn::TempInsn;
 /// What is held behind instructions, and the number of the one that follows.
 #[derive(Clone, Copy)]
 struct JournalPlace {
-    held: Held,
+    held: HeldTemporaries,
     next: u32,
 }
 

@@ -23,7 +23,7 @@ fn block_of(alloc: Global, insn: TempInsn) -> Result<Block<TempInsn>, AllocError
 }
 
 /// A number, its sum with itself, and a return.
-fn doubling(alloc: Global) -> Result<Func<TempInsn>, AllocError>
+fn doubling_function(alloc: Global) -> Result<Func<TempInsn>, AllocError>
     ensures { IfOk result (λ f. IsTrue (is_settled f.params f.blocks)) }
 {
     let mut blocks = Seq::new(alloc);
@@ -61,7 +61,7 @@ fn transfers_at(lists: &[Seq<Transfer>], number: usize) -> &[Transfer] {
 
 #[test]
 fn each_temporary_lives_in_its_slot(rt: HostRuntime) -> Result<(), Fail> {
-    let a = plain(rt.alloc(), &doubling(rt.alloc())?)?;
+    let a = plain(rt.alloc(), &doubling_function(rt.alloc())?)?;
     assert_eq!(rt; a.func.blocks.len(), 3);
     assert_eq!(rt; a.at.len(), 3);
     let loads = [

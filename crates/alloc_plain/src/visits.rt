@@ -7,9 +7,9 @@ ghost use Rattle.alloc_model.specs.declared.allocation.Event.TheVariants as even
 ghost use Rattle.alloc_rules.specs.Journal.{eviction, assigned_by_move, assigned_unless};
 ghost use Rattle.alloc_rules.specs.Journal as journal;
 ghost use Rattle.alloc_plain.specs.model.Held.{Holds, held_behind};
-ghost use Rattle.alloc_plain.specs.model.Visits.{leaving, leaving_at, all_leaving, assigning, writing, visit_in_slots};
+ghost use Rattle.alloc_plain.specs.model.Visits.{leaving_events, leaving_at, all_leaving, assignment_events, write_events, visit_in_slots};
 
-use crate::holders::{Held, held_left, next_held, register_of, writes_come};
+use crate::holders::{HeldTemporaries, held_left, next_held, register_of, writes_come};
 use alloc_model::allocation::{Event, Transfer};
 use c_tree::Seq;
 use pass_core::Insn;
@@ -45,12 +45,12 @@ fn put_leaving(
     out: &mut Seq<Event>,
     ends: &[u32],
     point: u32,
-    before: Held,
-    behind: Held,
+    before: HeldTemporaries,
+    behind: HeldTemporaries,
     temp: u32,
 ) -> Result<(), AllocError>
     requires { temp < length ends.now }
-    ensures { OnOk result (out.new ≡ out.old ++ leaving ends.now point before behind temp) }
+    ensures { OnOk result (out.new ≡ out.old ++ leaving_events ends.now point before behind temp) }
 {
     let covered = point <= ends[temp as usize];
     put_eviction(
@@ -66,9 +66,9 @@ fn put_leaving(
 #[derive(Clone, Copy)]
 struct Visit {
     number: u32,
-    before: Held,
-    left: Held,
-    behind: Held,
+    before: HeldTemporaries,
+    left: HeldTemporaries,
+    behind: HeldTemporaries,
 }
 
 /// Puts that a temporary leaves a register where an instruction reads, or where it writes.
@@ -170,10 +170,14 @@ fn put_assigned(
 
 /// Puts what an instruction writes, where this is held before.
 #[tactic(auto, using(crate::proofs::Comes::no_write, crate::proofs::Comes::one_write))]
-fn put_writes(out: &mut Seq<Event>, insn: &TempInsn, left: Held) -> Result<(), AllocError>
+fn put_writes(
+    out: &mut Seq<Event>,
+    insn: &TempInsn,
+    left: HeldTemporaries,
+) -> Result<(), AllocError>
     ensures { OnOk result
-        (out.new ≡ out.old ++ assigning (1 + length (reads_of insn.now)) left (writes_of insn.now)
-        ++ writing (1 + length (reads_of insn.now)) (writes_of insn.now)) }
+        (out.new ≡ out.old ++ assignment_events (1 + length (reads_of insn.now)) left (writes_of insn.now)
+        ++ write_events (1 + length (reads_of insn.now)) (writes_of insn.now)) }
 {
     let Some(temp) = insn.write_at(0) else {
         return Ok(());
@@ -192,8 +196,8 @@ pub(crate) fn put_visit(
     number: u32,
     previous: Option<TempInsn>,
     insn: &TempInsn,
-    held: Held,
-) -> Result<Held, AllocError>
+    held: HeldTemporaries,
+) -> Result<HeldTemporaries, AllocError>
     requires few { number < 2 ^ 30 }
     requires few_ends { length ends.now < 2 ^ 32 }
     requires inside { UsesRegisters reads_of writes_of (length ends.now) insn.now }

@@ -16,7 +16,7 @@ use Rattle.alloc_model.specs.Temporaries.{flows_out}
 use Rattle.alloc_model.specs.Places.{Place, Reg, Slot, registers_at, transfers_at}
 use Rattle.alloc_model.specs.Needs.{is_live_at, place_at_top, IsNeeded}
 use Rattle.alloc_model.specs.Needs.IsNeeded.{Relied, Handed}
-use Rattle.alloc_model.specs.Faithful.{Held, Includes, MovesAsk, ReadsAsk, FixedAsk, IsGivenRegister, IsGivenOrScratch, IsStanding, IsTransfer, KeepsEdge, held_before, move_all, at_top, at_entry, at_bottom, Faithful, HasLists}
+use Rattle.alloc_model.specs.Faithful.{HolderPlaces, Includes, MovesAsk, ReadsAsk, FixedAsk, IsGivenRegister, IsGivenOrScratch, IsStanding, IsTransfer, KeepsEdge, held_before, move_all, at_top, at_entry, at_bottom, Faithful, HasLists}
 use Rattle.alloc_model.specs.Examples.{set_temp}
 use Rattle.alloc_rules.specs.RightPlacements.{looping_blocks, kept_over_call}
 
@@ -150,7 +150,7 @@ nothing_needed t block (Relied r) = slot_apart t r.register (sym (top_is_slot bl
 nothing_needed t block (Handed insns next is leads unwritten unstored needed) = nothing_needed t next needed
 
 -- a set with the slot of temporary 0 has all that a top starts with
-slot_serves : (block : ℕ) (h : Held) → h (Temp 0) (Slot 0) → Includes h (at_top kept_over_call block)
+slot_serves : (block : ℕ) (h : HolderPlaces) → h (Temp 0) (Slot 0) → Includes h (at_top kept_over_call block)
 slot_serves block h there = record { each = each }
   where
     each : (n : Holder) (p : Place) → at_top kept_over_call block n p → h n p

@@ -18,14 +18,14 @@ module _ {A : Type 0} (low high : A → ℕ) where
   abbrev pub Rises : List A → Type 0
   Rises xs = (k : ℕ) (a b : A) → slice_get xs k ≡ Some a → slice_get xs (suc k) ≡ Some b → high a < low b
 
-  abbrev pub Ordered : List A → Type 0
-  Ordered xs = (x : A) → In xs x → low x ≤ high x
+  abbrev pub IsOrdered : List A → Type 0
+  IsOrdered xs = (x : A) → In xs x → low x ≤ high x
 
   some_same : (x y : A) → Some x ≡ Some y → x ≡ y
   some_same x y e = ap (λ o. unwrap_or o x) e
 
   -- what follows an element lies above it
-  above : (x : A) (xs : List A) → Rises (x ∷ xs) → Ordered (x ∷ xs) → (j : ℕ) (y : A) → slice_get xs j ≡ Some y → high x < low y
+  above : (x : A) (xs : List A) → Rises (x ∷ xs) → IsOrdered (x ∷ xs) → (j : ℕ) (y : A) → slice_get xs j ≡ Some y → high x < low y
   above x [] rises ordered j y e = absurd (none-some y e)
   above x (z ∷ zs) rises ordered zero y e = rises 0 x y refl e
   above x (z ∷ zs) rises ordered (suc j) y e =
@@ -34,7 +34,7 @@ module _ {A : Type 0} (low high : A → ℕ) where
       let rest : high z < low y = above z zs (λ k a b. rises (suc k) a b) (λ w there. ordered w (suc there.0, there.1)) j y e in
       omega (arith, first, middle, rest)
 
-  head_or_above : (x y : A) (ys : List A) → Rises (y ∷ ys) → Ordered (y ∷ ys) → In (y ∷ ys) x → (y ≡ x) ⊎ (high y < low x)
+  head_or_above : (x y : A) (ys : List A) → Rises (y ∷ ys) → IsOrdered (y ∷ ys) → In (y ∷ ys) x → (y ≡ x) ⊎ (high y < low x)
   head_or_above x y ys rises ordered (zero, e) = inl (some_same y x e)
   head_or_above x y ys rises ordered (suc j, e) = inr (above y ys rises ordered j x e)
 
@@ -48,7 +48,7 @@ module _ {A : Type 0} (low high : A → ℕ) where
       absurd (let same : low z ≡ low x = ap low (sym (some_same y z is) ∙ sym e) in omega (arith, ox, over, same))
   tail_in x y z ys e ox over (suc j, is) = (j, is)
 
-  pub same_list : (xs ys : List A) → Rises xs → Rises ys → Ordered xs → Ordered ys →
+  pub same_list : (xs ys : List A) → Rises xs → Rises ys → IsOrdered xs → IsOrdered ys →
       ((x : A) → In xs x → In ys x) → ((x : A) → In ys x → In xs x) → xs ≡ ys
   same_list [] [] rx ry ox oy there back = refl
   same_list [] (y ∷ ys) rx ry ox oy there back = absurd (none-some y (back y (0, refl)).1)

@@ -25,26 +25,26 @@ use Rattle.allocation_laws.proofs.Lists.{all_get, all_across, as_many, names_are
 -- ---- what an instruction names is there
 
 module _ (fs : List TempFn) (globals : List DataObject) (frames : All HasFrame fs) where
-  record Called (function arguments : ℕ) : Type 0 where
+  record CallFits (function arguments : ℕ) : Type 0 where
     there : function < length fs
     few : arguments ≤ 2 ^ 24
 
-  called : (function arguments : ℕ) → IsTrue (function_takes arguments (slice_get fs function)) → Called function arguments
+  called : (function arguments : ℕ) → IsTrue (function_takes arguments (slice_get fs function)) → CallFits function arguments
   called function arguments h = by_function (slice_get fs function) refl h
     where
-      by_function : (o : Option TempFn) → slice_get fs function ≡ o → IsTrue (function_takes arguments o) → Called function arguments
+      by_function : (o : Option TempFn) → slice_get fs function ≡ o → IsTrue (function_takes arguments o) → CallFits function arguments
       by_function None e t = absurd (cc)
       by_function (Some f) e t =
           let is = eqb-true f.params arguments t in
           let few = (all_get HasFrame fs function f frames e).params in
           record { there = slice_get_within fs function f e; few = omega (arith, is, few) }
 
-  record Asked (objects : List MemoryLocal) (x : TempInsn) : Type 0 where
+  record InsnFits (objects : List MemoryLocal) (x : TempInsn) : Type 0 where
     calls : CallsBelow (first_label (length fs)) x
     names : NamesObjects globals objects x
     width : width_of x ≤ 2 ^ 24
 
-  asked : (objects : List MemoryLocal) (x : TempInsn) → IsTrue (names_what_is_there fs globals objects x) → Asked objects x
+  asked : (objects : List MemoryLocal) (x : TempInsn) → IsTrue (names_what_is_there fs globals objects x) → InsnFits objects x
   asked objects (i.ObjectAddress destination place plus) h = record { calls = tt; names = h; width = omega arith }
   asked objects (i.Call function arguments) h =
       let c = called function arguments h in
@@ -67,21 +67,21 @@ module _ (fs : List TempFn) (globals : List DataObject) (frames : All HasFrame f
   asked objects (i.Return with_value) h = record { calls = tt; names = tt; width = omega arith }
   asked objects i.Mark h = record { calls = tt; names = tt; width = omega arith }
 
-  all-asked : (objects : List MemoryLocal) (blocks : List (List TempInsn)) → AllInsns (λ x. IsTrue (names_what_is_there fs globals objects x)) blocks → AllInsns (Asked objects) blocks
+  all-asked : (objects : List MemoryLocal) (blocks : List (List TempInsn)) → AllInsns (λ x. IsTrue (names_what_is_there fs globals objects x)) blocks → AllInsns (InsnFits objects) blocks
   all-asked objects blocks h = λ k d lt j x within. asked objects _ (h k d lt j x within)
 
-  widest-in : (objects : List MemoryLocal) (insns : List TempInsn) → All (Asked objects) insns → widest_in insns ≤ 2 ^ 24
+  widest-in : (objects : List MemoryLocal) (insns : List TempInsn) → All (InsnFits objects) insns → widest_in insns ≤ 2 ^ 24
   widest-in objects [] h = omega arith
   widest-in objects (x ∷ xs) h =
-      let one = (All-head (Asked objects) x xs h).width in
-      let rest = widest-in objects xs (All-tail (Asked objects) x xs h) in
+      let one = (All-head (InsnFits objects) x xs h).width in
+      let rest = widest-in objects xs (All-tail (InsnFits objects) x xs h) in
       omega (arith, one, rest)
 
-  widest-of : (objects : List MemoryLocal) (blocks : List (List TempInsn)) → AllInsns (Asked objects) blocks → widest_call blocks ≤ 2 ^ 24
+  widest-of : (objects : List MemoryLocal) (blocks : List (List TempInsn)) → AllInsns (InsnFits objects) blocks → widest_call blocks ≤ 2 ^ 24
   widest-of objects [] h = omega arith
   widest-of objects (b ∷ bs) h =
-      let one = widest-in objects b (All-head (All (Asked objects)) b bs h) in
-      let rest = widest-of objects bs (All-tail (All (Asked objects)) b bs h) in
+      let one = widest-in objects b (All-head (All (InsnFits objects)) b bs h) in
+      let rest = widest-of objects bs (All-tail (All (InsnFits objects)) b bs h) in
       omega (arith, one, rest)
 
   -- ---- one function

@@ -11,11 +11,11 @@ use Rattle.plain_programs.specs.Allocations.{AreAllocationsOf}
 use Rattle.allocation_laws.specs.Laws.{LabelsAreFew, AsManyAreLaidOut}
 
 -- all functions take two labels more each than they have blocks
-record Counted (functions labels all : ℕ) : Type 0 where
+record LabelsFit (functions labels all : ℕ) : Type 0 where
   few : functions ≤ all
   more : functions + labels ≡ all
 
-counted : (fs : List TempFn) (allocations : List Allocation) → AreAllocationsOf fs allocations → Counted (length allocations) (sum_by label_count allocations) (sum_by (λ (f : TempFn). length f.blocks + 2) fs)
+counted : (fs : List TempFn) (allocations : List Allocation) → AreAllocationsOf fs allocations → LabelsFit (length allocations) (sum_by label_count allocations) (sum_by (λ (f : TempFn). length f.blocks + 2) fs)
 counted [] [] h = record { few = omega arith; more = refl }
 counted [] (a ∷ allocations) h = absurd h
 counted (f ∷ fs) [] h = absurd h

@@ -52,13 +52,13 @@ halves leaves sums l r h order inside =
     subst P at (halves_by leaves sums l (r - l) h (omega (arith, at, inside)))
 
 -- a step up from a range of nodes
-pub risen : (leaves sums : List ℕ) (left right words above_left mid_words above_right last_words a b : ℕ) → HoldsAtMost leaves sums →
+pub risen_sums : (leaves sums : List ℕ) (left right words above_left mid_words above_right last_words a b : ℕ) → HoldsAtMost leaves sums →
     above_left ≤ above_right → above_right ≤ length leaves →
     mid_words + front sums left ≤ words + front sums (2 * above_left) →
     last_words + front sums (2 * above_right) ≤ mid_words + front sums right →
     words + front sums right + a ≤ b + front sums left →
     last_words + front sums above_right + a ≤ b + front sums above_left
-risen leaves sums left right words above_left mid_words above_right last_words a b h order inside first second before =
+risen_sums leaves sums left right words above_left mid_words above_right last_words a b h order inside first second before =
     let half = halves leaves sums above_left above_right h order inside in
     omega (arith, half, first, second, before)
 
@@ -80,11 +80,11 @@ leaves_by leaves sums s (suc m) h inside =
     subst P (sym next) (omega (arith, before, one, more, leaf, ap (front sums) node))
 
 -- what a walk up from the leaves of a range of items counts
-pub counted : (items : List AsmItem) (far : List Bool) (sums : List ℕ) (start last left right words : ℕ) → HoldsAtMost (sizes items far) sums →
+pub counted_sums : (items : List AsmItem) (far : List Bool) (sums : List ℕ) (start last left right words : ℕ) → HoldsAtMost (sizes items far) sums →
     length far ≡ length items → start ≤ last → last ≤ length items → left ≤ right →
     words + front sums right + front sums (length items + start) ≤ front sums (length items + last) + front sums left →
     words + item_place items far start ≤ item_place items far last
-counted items far sums start last left right words h e order inside sorted walked =
+counted_sums items far sums start last left right words h e order inside sorted walked =
     let long = length-sizes items far e in
     let rises = front_mono sums left right sorted in
     let at : start + (last - start) ≡ last = omega (arith, order) in

@@ -162,11 +162,11 @@ text_length : (items : List AsmItem) (far : List Bool) (start : ℕ) →
 text_length items far start =
     length-map (text_insns (label_place items far) start 0 items far) insn_word ∙ length-text_insns (label_place items far) start 0 items far
 
-pub assembled : (a : Assembly) (far : List Bool) (start : ℕ) (p : Program) → IsLeastFar a.items far →
+pub assembled_items : (a : Assembly) (far : List Bool) (start : ℕ) (p : Program) → IsLeastFar a.items far →
     start ≡ next_part (text_start + 4 * text_words a.items far) →
     p.words ≡ map insn_word (text_insns (label_place a.items far) start 0 a.items far) →
     data_of p ≡ fixed_data start a.bytes a.fixes → last_byte p.bytes ≢ Some 0 → p.entry ≡ label_place a.items far 0 → Words a p
-assembled a far start p least begins words bytes last entry =
+assembled_items a far start p least begins words bytes last entry =
     let count : length p.words ≡ text_words a.items far = ap length words ∙ text_length a.items far start in
     let same : start ≡ data_start p = begins ∙ ap (λ n. next_part (text_start + 4 * n)) (sym count) in
     record {

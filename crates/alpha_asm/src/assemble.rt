@@ -17,13 +17,11 @@ use crate::far::{Layout, lay_out};
 use crate::labels::{Targets, targets_of};
 use crate::words::put_text;
 use alpha_isa::image::Image;
+use alpha_isa::limits::MOST_WORDS;
 use alpha_items::asm::Asm;
 use alpha_items::item::{AsmItem, Fix};
 use bk_memory::memory_is_short;
 use std::alloc::{AllocError, Global};
-
-/// The most words of an image.
-const MOST_WORDS: u64 = 1 << 28;
 
 /// Why an assembly has no image.
 #[derive(Clone, Copy, Debug, PartialEq, Eq)]

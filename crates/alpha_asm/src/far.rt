@@ -13,11 +13,9 @@ ghost use Rattle.alpha_asm.specs.model.Sweeps.{AreTargets, SweptBack, SweptForth
 
 use crate::sizes::{is_branch, words_of_item};
 use crate::spread::spread;
+use alpha_isa::limits::BRANCH_REACH;
 use alpha_items::item::AsmItem;
 use std::alloc::{AllocError, Global};
-
-/// A branch goes less than so many words past the next one, and at most so many before it.
-pub(crate) const REACH: u64 = 1 << 20;
 
 /// Whether the branch at `i`, if there is one that is not far, goes to a label before it that it does not
 /// reach.
@@ -39,7 +37,7 @@ fn is_too_far_back(
         return false;
     }
     let target = targets[i];
-    target <= i && places[target] + REACH < places[i] + 1
+    target <= i && places[target] + BRANCH_REACH < places[i] + 1
 }
 
 /// Whether the branch at `i`, if there is one that is not far, goes to a label behind it that it does not
@@ -62,7 +60,7 @@ fn is_too_far_forth(
         return false;
     }
     let target = targets[i];
-    i < target && rests[target] + REACH <= rests[i + 1]
+    i < target && rests[target] + BRANCH_REACH <= rests[i + 1]
 }
 
 /// Settles the item at `i` in a sweep from the front: it is far where it goes too far back, and the place

@@ -2,10 +2,10 @@
 //! has no more words, so these alone are looked at.
 
 use crate::ends::Ends;
-use crate::far::REACH;
 use crate::rooms::{NEVER, Rooms};
 use crate::spans::{Span, Spans};
 use crate::sums::words_between;
+use alpha_isa::limits::BRANCH_REACH;
 use std::alloc::{AllocError, Global};
 
 /// The outermost spans before and behind one of them, in a ring. Where there is none stands the number of all spans,
@@ -50,7 +50,9 @@ fn rooms_of(
     for (at, span) in spans.iter().enumerate() {
         let mut room = NEVER;
         if span.end() > greatest {
-            room = (REACH - 1).wrapping_sub(span.words(places)).cast_signed();
+            room = (BRANCH_REACH - 1)
+                .wrapping_sub(span.words(places))
+                .cast_signed();
             link(links, before, at);
             before = at;
             greatest = span.end();

@@ -1,8 +1,8 @@
 //! The spans of a text: from each branch that reaches to its label. A branch is far once its span has too many
 //! words.
 
-use crate::far::REACH;
 use crate::sizes::is_branch;
+use alpha_isa::limits::BRANCH_REACH;
 use alpha_items::item::AsmItem;
 use std::alloc::{AllocError, Global};
 
@@ -73,7 +73,10 @@ fn spans_by_branches(
             branch,
             target: *target,
         };
-        if is_branch(item) && !*is_far && span.words(places).saturating_mul(MOST_GROWTH) >= REACH {
+        if is_branch(item)
+            && !*is_far
+            && span.words(places).saturating_mul(MOST_GROWTH) >= BRANCH_REACH
+        {
             spans.push(span)?;
         }
     }

@@ -10,11 +10,11 @@ ghost use Rattle.alpha_items.specs.Layout.{sizes, is_far, IsForced};
 ghost use Rattle.alpha_asm.specs.model.Sweeps.{AreTargets, near};
 ghost use Rattle.alpha_asm.specs.model.Sums.{HoldsAtMost};
 
-use crate::far::REACH;
 use crate::outermost::Outermost;
 use crate::sizes::{is_branch, words_of_item};
 use crate::spans::spans_of;
 use crate::sums::{change_words, sums_of, words_between};
+use alpha_isa::limits::BRANCH_REACH;
 use alpha_items::item::AsmItem;
 use std::alloc::{AllocError, Global};
 
@@ -32,9 +32,9 @@ fn is_too_far(items: &[AsmItem], targets: &[usize], far: &[bool], sums: &[u32], 
     }
     let target = targets[i];
     if i < target {
-        words_between(sums, i + 1, target) >= REACH
+        words_between(sums, i + 1, target) >= BRANCH_REACH
     } else {
-        words_between(sums, target, i) >= REACH
+        words_between(sums, target, i) >= BRANCH_REACH
     }
 }
 

@@ -167,12 +167,12 @@ neither true b e = absurd (cc)
 neither false b e = (refl, e)
 
 -- an access that is not empty has an offset from 0 on
-record Placed (m : Memory) (p : Ptr) (size : ℕ) : Type 0 where
+record PointsInside (m : Memory) (p : Ptr) (size : ℕ) : Type 0 where
   at : ℕ
   is : p ≡ spot p.object at
   fits : at + size ≤ length (object_at m p.object).cells
 
-placed : (m : Memory) (p : Ptr) (size : ℕ) → 0 < size → is_outside m p size ≡ false → Placed m p size
+placed : (m : Memory) (p : Ptr) (size : ℕ) → 0 < size → is_outside m p size ≡ false → PointsInside m p size
 placed m p size some e = by_offset p.offset refl (by_true (is_within p.offset size (length (object_at m p.object).cells)) (sym (ap (λ b. b && not (is_within p.offset size (length (object_at m p.object).cells))) (lt-ltb 0 size some)) ∙ e))
   where
     by_true : (b : Bool) → not b ≡ false → b ≡ true
@@ -183,7 +183,7 @@ placed m p size some e = by_offset p.offset refl (by_true (is_within p.offset si
     by_false true g = absurd (cc)
     by_false false g = refl
 
-    by_offset : (y : ℤ) → p.offset ≡ y → is_within y size (length (object_at m p.object).cells) ≡ true → Placed m p size
+    by_offset : (y : ℤ) → p.offset ≡ y → is_within y size (length (object_at m p.object).cells) ≡ true → PointsInside m p size
     by_offset (pos i) at h = record { at = i; is = ap (λ z. record { object = p.object; offset = z }) at; fits = ltb-false (length (object_at m p.object).cells) (i + size) (by_false (nat_lt (length (object_at m p.object).cells) (i + size)) h) }
     by_offset (negsuc i) at h = absurd (cc)
 

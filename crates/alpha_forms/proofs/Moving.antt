@@ -5,11 +5,10 @@ use Rattle.std.specs.Int.{Width, w32, w64, int_shr}
 use Rattle.std.specs.Int.RustNames.{FitsSigned}
 use mir.Val.{bits}
 use Rattle.std.proofs.lemmas.Nat.{shr_le}
-use Rattle.std.proofs.lemmas.Bool.{eqb-true, ltb-true}
+use Rattle.std.proofs.lemmas.Bool.{eqb-true, ltb-true, and_parts}
 use Rattle.mem_model.specs.declared.value.Value.{Value}
 use Rattle.mem_model.specs.declared.value.Value.TheVariants.{Word, Address, Unset}
 use Rattle.mem_model.specs.World.{Outer}
-use Rattle.mem_model.proofs.RowValues.{both}
 use Rattle.alpha_isa.specs.Arithmetic.{word_at, word_from, signed_value, sign_extension, kept_bytes}
 use Rattle.alpha_isa.proofs.Arithmetic.{sign_extended-same, kept_bytes-long}
 use Rattle.c_arithmetic.specs.declared.integer_type.IntegerType.{IntegerType}
@@ -77,7 +76,7 @@ by_places t k P small fails places = by_test (int_le (pos 0) (value UnsignedLong
         P (if b then Some (unsigned_abs (value UnsignedLong k)) else None)
     by_test false e = fails
     by_test true e =
-        let h = both (int_le (pos 0) (value UnsignedLong k)) (int_lt (value UnsignedLong k) (pos (bits (width t)))) e in
+        let h = and_parts (int_le (pos 0) (value UnsignedLong k)) (int_lt (value UnsignedLong k) (pos (bits (width t)))) e in
         let lt : k % 2 ^ 64 < bits (width t) = ltb-true (k % 2 ^ 64) (bits (width t)) h.1 in
         subst (λ i. P (Some i)) (sym same) (places (subst (λ i. i < bits (width t)) same lt))
 

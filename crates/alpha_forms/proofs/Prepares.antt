@@ -30,22 +30,22 @@ Matches v.Fails a = Unit {0}
 
 module _ (widest own : ℕ) (s : Temps) (o : Outer) where
   -- the code goes on, the temporary 0 holds a content, and what stands for registers holds what it held
-  pub record Prepared (xs : List TempInsn) (c : Content) : Type 0 where
+  pub record PreparesContent (xs : List TempInsn) (c : Content) : Type 0 where
     pub after : Temps
     pub ran : runs widest xs own s o ≡ After after o
     pub holds : after (Temp 0) ≡ c
     pub kept : (t : ℕ) → IsOfRegister t → after (Temp t) ≡ s (Temp t)
 
-  abbrev pub nothing_yet : Prepared [] (s (Temp 0))
+  abbrev pub nothing_yet : PreparesContent [] (s (Temp 0))
   nothing_yet = record { after = s; ran = refl; holds = refl; kept = λ t i. refl }
 
-  pub from_put : (xs : List TempInsn) (c : Content) → PutsContent widest xs own s o 0 c → Prepared xs c
+  pub from_put : (xs : List TempInsn) (c : Content) → PutsContent widest xs own s o 0 c → PreparesContent xs c
   from_put xs c h =
       record { after = h.after; ran = h.ran; holds = h.holds; kept = λ t i. h.kept (Temp t) (of_register t i) }
 
   -- an instruction more that writes the temporary 0
-  pub prepare : (xs : List TempInsn) (c : Content) (h : Prepared xs c) (x : TempInsn) (e : Content) → WritesOne x 0 →
-      does widest x own (map h.after (holders_read x)) o ≡ Writes (e ∷ []) o → Prepared (xs ++ x ∷ []) e
+  pub prepare : (xs : List TempInsn) (c : Content) (h : PreparesContent xs c) (x : TempInsn) (e : Content) → WritesOne x 0 →
+      does widest x own (map h.after (holders_read x)) o ≡ Writes (e ∷ []) o → PreparesContent (xs ++ x ∷ []) e
   prepare xs c h x e one act = record {
     after = put holder_eq (Temp 0) e (without (is_emptied x) h.after);
     ran = runs-append widest xs (x ∷ []) own s o ∙ ap (λ r. on_after r (λ t p. runs widest (x ∷ []) own t p)) h.ran
@@ -55,7 +55,7 @@ module _ (widest own : ℕ) (s : Temps) (o : Outer) where
   }
 
   -- the last instruction
-  pub finish : (xs : List TempInsn) (c : Content) (h : Prepared xs c) (x : TempInsn) (d : ℕ) (a : ContentAnswer) (w : vm.Answer) → WritesOne x d →
+  pub finish : (xs : List TempInsn) (c : Content) (h : PreparesContent xs c) (x : TempInsn) (d : ℕ) (a : ContentAnswer) (w : vm.Answer) → WritesOne x d →
       does widest x own (map h.after (holders_read x)) o ≡ writes a o → Matches w a → CodeAnswers s o d w (runs widest (xs ++ x ∷ []) own s o)
   finish xs c h x d a (v.Gives w) one act m = record {
     after = put holder_eq (Temp d) (Plain w) (without (is_emptied x) h.after);

@@ -41,8 +41,8 @@ use Rattle.alpha_forms.specs.Registers.{IsOfRegister, MemoryHasBytes, CodeAnswer
 use Rattle.alpha_forms.specs.Accesses.{far_items, plain_load, extended_load, near_load, load_by, load_items}
 use Rattle.alpha_forms.specs.Laws.{LoadsAreDone}
 use Rattle.alpha_forms.proofs.Making.{constants_made}
-use Rattle.alpha_forms.proofs.Prepares.{Matches, Prepared, nothing_yet, from_put, prepare, finish}
-use Rattle.alpha_forms.proofs.Rows.{loaded, loaded_small, number_loaded}
+use Rattle.alpha_forms.proofs.Prepares.{Matches, PreparesContent, nothing_yet, from_put, prepare, finish}
+use Rattle.alpha_forms.proofs.Rows.{loaded_row, loaded_small, number_loaded}
 
 -- ---- pointers
 
@@ -72,7 +72,7 @@ module _ (widest own : ℕ) (s : Temps) (o : Outer) where
       ∙ ap (λ w. content_answer (option_map Plain w)) e
 
   pub far_moves : (p : ℕ) (v : Value) (plus : ℤ) (q : Ptr) → IsOfRegister p → FitsSigned w64 plus → s (Temp p) ≡ Plain v →
-      pointer_plus o.memory v plus ≡ Some (Address q) → Prepared widest own s o (far_items p plus) (Plain (Address q))
+      pointer_plus o.memory v plus ≡ Some (Address q) → PreparesContent widest own s o (far_items p plus) (Plain (Address q))
   far_moves p v plus q of f held e =
       let h = from_put widest own s o (constant_items 0 (word_from plus)) (word_content (word_from plus)) (constants_made widest own 0 (word_from plus) s o (word_from-below plus f)) in
       prepare widest own s o (constant_items 0 (word_from plus)) (word_content (word_from plus)) h (Operate Addq 0 (source.Temp p) (operand.Temp 0)) (Plain (Address q))
@@ -83,11 +83,11 @@ module _ (widest own : ℕ) (s : Temps) (o : Outer) where
 
   -- ---- loads with a displacement that fits
 
-  module _ (xs : List TempInsn) (c : Content) (h : Prepared widest own s o xs c) (d p : ℕ) (z : ℤ) (q : Ptr)
+  module _ (xs : List TempInsn) (c : Content) (h : PreparesContent widest own s o xs c) (d p : ℕ) (z : ℤ) (q : Ptr)
       (at : pointer_at o.memory (h.after (Temp p)) z ≡ Some q) where
     content_loaded : (op : LoadOp) (pointer : Bool) (w : Value) → load_at o.memory q (load_width op) pointer ≡ Ok w →
         loaded_content o.memory op (h.after (Temp p)) z ≡ Some (extended_content op (Plain w))
-    content_loaded op pointer w e = ap (option_and_then (content_in o.memory op)) at ∙ loaded o.memory q op pointer w e
+    content_loaded op pointer w e = ap (option_and_then (content_in o.memory op)) at ∙ loaded_row o.memory q op pointer w e
 
     plain_comes : (op : LoadOp) (pointer : Bool) (t : Option IntegerType) →
         ((w : Value) → load_at o.memory q (load_width op) pointer ≡ Ok w → extended_content op (Plain w) ≡ Plain (extended_value t w)) →

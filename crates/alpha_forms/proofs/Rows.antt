@@ -83,10 +83,10 @@ read_content pointer cells v = by_empty (list_any is_empty cells)
 
 -- ---- loads
 
-pub loaded : (m : Memory) (p : Ptr) (op : LoadOp) (pointer : Bool) (v : Value) → load_at m p (load_width op) pointer ≡ Ok v →
+pub loaded_row : (m : Memory) (p : Ptr) (op : LoadOp) (pointer : Bool) (v : Value) → load_at m p (load_width op) pointer ≡ Ok v →
     content_in m op p ≡ Some (extended_content op (Plain v))
 unfolding load_at
-loaded m p op pointer v = by_fault (read_fault m p (load_width op) (load_width op))
+loaded_row m p op pointer v = by_fault (read_fault m p (load_width op) (load_width op))
   where
     by_fault : (f : Option MemFault) → fault_or f (value_or_fault pointer (row_at m p (load_width op))) ≡ Ok v →
         unless_fault f (extended_content op (content_of (row_at m p (load_width op)))) ≡ Some (extended_content op (Plain v))

@@ -28,7 +28,7 @@ use Rattle.alpha_forms.specs.Registers.{PutsMemory, ComesToMemory}
 use Rattle.alpha_forms.specs.Accesses.{far_items, temp_store, near_store, store_by, store_items}
 use Rattle.alpha_forms.specs.Laws.{StoresAreDone}
 use Rattle.alpha_forms.proofs.Runs.{on_after, runs-append, without_plain}
-use Rattle.alpha_forms.proofs.Prepares.{Prepared, nothing_yet}
+use Rattle.alpha_forms.proofs.Prepares.{PreparesContent, nothing_yet}
 use Rattle.alpha_forms.proofs.Reading.{stays, far_moves}
 
 -- a store of a value that may be stored puts its cells
@@ -76,7 +76,7 @@ stored_with m ty q (Address p) n storable e =
 stored_with m ty q Unset n storable e = absurd cc
 
 module _ (widest own : ℕ) (s : Temps) (o : Outer) (ty : MemoryType) (a : ℕ) (w : Value) (xs : List TempInsn) (c : Content)
-    (h : Prepared widest own s o xs c) (p : ℕ) (z : ℤ) (q : Ptr) (value : h.after (Temp a) ≡ Plain w)
+    (h : PreparesContent widest own s o xs c) (p : ℕ) (z : ℤ) (q : Ptr) (value : h.after (Temp a) ≡ Plain w)
     (at : pointer_at o.memory (h.after (Temp p)) z ≡ Some q) where
   store : TempInsn
   store = Store (temp_store ty) (source.Temp a) p z

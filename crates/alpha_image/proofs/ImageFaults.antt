@@ -188,8 +188,8 @@ spelled_by bytes p true has h fields zeros r = inl (spelled_two bytes p h fields
 spelled_by bytes p false has h fields zeros r =
     inr (spelled_one bytes p h fields has (subst (λ b. WasRead bytes (cond b 24 20) p) has r), zeros ∙ ap (λ b. cond b (number_at bytes 20) 0) has)
 
-pub found : (bytes : List ℕ) (p : Program) → AreBytes bytes → header_fault bytes ≡ None → p.zeros ≡ zeros_of bytes → WasRead bytes (text_offset bytes) p → IsLawful p → IsImage bytes p
-found bytes p h e zeros r lawful = record {
+pub found_image_fault : (bytes : List ℕ) (p : Program) → AreBytes bytes → header_fault bytes ≡ None → p.zeros ≡ zeros_of bytes → WasRead bytes (text_offset bytes) p → IsLawful p → IsImage bytes p
+found_image_fault bytes p h e zeros r lawful = record {
   lawful = lawful;
   bytes_are = spelled_by bytes p (has_zeros_field bytes) refl h (fields_are bytes e) zeros r;
 }

@@ -13,6 +13,7 @@ ghost use Rattle.alpha_image.specs.ImageFault.{differs_at, number_at, version_of
 
 use crate::write::MARK;
 use alpha_isa::image::Image;
+use alpha_isa::limits::{MOST_BYTES, MOST_WORDS};
 use bk_memory::memory_is_short;
 use std::alloc::{AllocError, Global};
 use thiserror::Error;
@@ -36,11 +37,6 @@ impl From<AllocError> for ImageFault {
         ImageFault::NoMemory
     }
 }
-
-/// The greatest count of words, and of bytes of data.
-const MOST_WORDS: u32 = 1 << 28;
-
-const MOST_BYTES: u32 = 67_108_864;
 
 /// What the fields of an image say, and where its words begin.
 #[derive(Clone, Copy, Debug, PartialEq, Eq)]
@@ -151,7 +147,7 @@ fn read_header(bytes: &[u8]) -> Result<Header, usize>
     let Some(words) = field(bytes, 8) else {
         return Err(bytes.len());
     };
-    if words < 1 || words > MOST_WORDS {
+    if words < 1 || u64::from(words) > MOST_WORDS {
         return Err(8);
     }
     let Some(count) = field(bytes, 12) else {

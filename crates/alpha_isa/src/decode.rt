@@ -8,6 +8,7 @@ ghost use Rattle.alpha_isa.specs.Words.{insn_word, insn_of, pal_insn, memory_ins
 use crate::codes::{branch_op, jump_op, memory_op, operate_op};
 use crate::encode::{JUMP, encode};
 use crate::insn::{Fields, Insn32, Operand, OperateOp};
+use crate::limits::BRANCH_REACH;
 
 /// The instruction that a word stands for. `None` comes exactly where no instruction has that word.
 pub fn decode(word: u32) -> Option<Insn32>
@@ -82,7 +83,7 @@ fn displacement(bits: u32) -> i32
     requires { bits < 2 ^ 21 }
     ensures { result ≡ branch_displacement bits }
 {
-    if bits < 1 << 20 {
+    if u64::from(bits) < BRANCH_REACH {
         bits as i32
     } else {
         bits as i32 - (1 << 21)

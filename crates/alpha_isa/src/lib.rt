@@ -10,3 +10,4 @@ pub mod encode;
 pub mod image;
 pub mod insn;
 pub mod laws;
+pub mod limits;

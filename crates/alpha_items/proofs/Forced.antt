@@ -28,7 +28,7 @@ forced_set items far k forced here other e reach =
     let within = forced other e reach in within_set far other k within (here other e reach within)
 
 -- a branch at k to a label before the item t, short in a list within another one with which it reaches
-record Judged (items : List AsmItem) (far other : List Bool) (k t : ℕ) : Type 0 where
+record JudgedBranch (items : List AsmItem) (far other : List Bool) (k t : ℕ) : Type 0 where
   one_each : length far ≡ length items
   other_one_each : length other ≡ length items
   inside : k < length items
@@ -54,7 +54,7 @@ short_branch items far k d op ra l e h at near =
 
 judged : (items : List AsmItem) (far other : List Bool) (k : ℕ) (d : AsmItem) (op : BranchOp) (ra l : ℕ) →
     length far ≡ length items → length other ≡ length items → k < length items → Within far other → AllReach items other →
-    get_or items k d ≡ Branch op ra l → is_far far k ≡ false → is_far other k ≡ false → Judged items far other k (label_index items l)
+    get_or items k d ≡ Branch op ra l → is_far far k ≡ false → is_far other k ≡ false → JudgedBranch items far other k (label_index items l)
 judged items far other k d op ra l e f h within reach at near other_near =
     let r = reaches_at items other (get_or items k d) d op ra l k at (reach k d h other_near) in
     record {
@@ -68,13 +68,13 @@ judged items far other k d op ra l e f h within reach at near other_near =
       near_back = r.1;
     }
 
-too_far_ahead : (items : List AsmItem) (far other : List Bool) (k t : ℕ) → Judged items far other k t → k < t →
+too_far_ahead : (items : List AsmItem) (far other : List Bool) (k t : ℕ) → JudgedBranch items far other k t → k < t →
     item_place items far t < item_place items far k + 1 + 1048576
 too_far_ahead items far other k t j ahead =
     let gap = gap_grows items far other j.one_each j.other_one_each j.within (suc k) t (omega (arith, ahead)) in
     omega (arith, gap, j.short, j.other_short, j.near)
 
-too_far_back : (items : List AsmItem) (far other : List Bool) (k t : ℕ) → Judged items far other k t → t ≤ k →
+too_far_back : (items : List AsmItem) (far other : List Bool) (k t : ℕ) → JudgedBranch items far other k t → t ≤ k →
     item_place items far k + 1 ≤ item_place items far t + 1048576
 too_far_back items far other k t j behind =
     let gap = gap_grows items far other j.one_each j.other_one_each j.within t k behind in

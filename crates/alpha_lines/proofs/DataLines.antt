@@ -12,7 +12,7 @@ use Rattle.alpha_lines.specs.model.Readers.{number32_of}
 use Rattle.alpha_lines.specs.model.Data.{behind_in, behind_of, most_u64, number_in, data_of, fix_with, fix_parts, fix_in, fix_of, hex_value, hex_pair, with_first, hex_of, hex_in, hex_line_of}
 use Rattle.alpha_lines.proofs.Parts.{Lacks, cut_front, cut_sound}
 use Rattle.alpha_lines.proofs.Numbers.{number_sound, number_complete}
-use Rattle.alpha_lines.proofs.Options.{guarded, split}
+use Rattle.alpha_lines.proofs.Options.{guarded_some, split}
 use Rattle.alpha_lines.proofs.Operands.{decimal_lacks, number32_complete, number32_sound}
 
 behind_complete : (word rest : List ℕ) → Lacks 32 word → behind_of word (word_and_rest word rest) ≡ Some rest
@@ -28,7 +28,7 @@ behind_sound word line rest e = by (cut 32 line) refl e
     by : (o : Option (List ℕ × List ℕ)) → cut 32 line ≡ o → behind_in word o ≡ Some rest → line ≡ word_and_rest word rest
     by None was h = absurd (cc)
     by (Some p) was h =
-        let g = guarded (bytes_eq p.0 word) (Some p.1) rest h in
+        let g = guarded_some (bytes_eq p.0 word) (Some p.1) rest h in
         let first : p.0 ≡ word = (bytes_eq-Decides p.0 word).0 g.0 in
         let second : p.1 ≡ rest = cc in
         cut_sound 32 line p.0 p.1 was ∙ rw (first, second) refl
@@ -93,7 +93,7 @@ value_of_digit d small = grind (arith, nat_tests)
 digit_of_value : (b d : ℕ) → hex_value b ≡ Some d → (d < 16) × (b ≡ hex_digit d)
 digit_of_value b d e = elim (split (leb 48 b && leb b 57) (Some (b - 48)) (if leb 97 b && leb b 102 then Some (b - 87) else None) (Some d) e) [
   | inl h ↦ decimal_digit b d h.0 (some_is (b - 48) d h.1)
-  | inr h ↦ (let g = guarded (leb 97 b && leb b 102) (Some (b - 87)) d h.1 in letter_digit b d g.0 (some_is (b - 87) d g.1))
+  | inr h ↦ (let g = guarded_some (leb 97 b && leb b 102) (Some (b - 87)) d h.1 in letter_digit b d g.0 (some_is (b - 87) d g.1))
 ]
   where
     some_is : (x y : ℕ) → Some x ≡ Some y → x ≡ y

@@ -23,7 +23,7 @@ use Rattle.alpha_lines.specs.model.Numbers.{number_of}
 use Rattle.alpha_lines.specs.model.Readers.{number32_of, register_of, label_of, operand_of, indirect_of, address_of, two_of, closed_by, memory_item, jump_item, extension_item, operate_item, operation_of, call_in, said_by, said_in, label_in, item_in, item_of}
 use Rattle.alpha_lines.proofs.Parts.{Lacks, cut_sound}
 use Rattle.alpha_lines.proofs.Numbers.{number_sound, number_complete}
-use Rattle.alpha_lines.proofs.Options.{guarded, split, mapped}
+use Rattle.alpha_lines.proofs.Options.{guarded_some, split, mapped_some}
 use Rattle.alpha_lines.proofs.Spellings.{spelled_cut, spelled_found, mnemonic_sound}
 use Rattle.alpha_lines.proofs.Operands.{lacks_append, cut_lacks, decimal_lacks, register_lacks, operand_lacks, number32_complete, number32_sound, register_complete, register_sound, label_complete, label_sound, operand_complete, operand_sound, closed_complete, closed_sound, indirect_complete, indirect_sound, address_complete, address_sound, two_complete, two_sound}
 
@@ -199,34 +199,34 @@ says_three op rest i p ext e same =
 says_operation : (op : OperateOp) (rest : List ℕ) (i : AsmItem) → operation_of op rest ≡ Some i → Says (word_and_rest (spelling (m.Operate op)) rest) i
 unfolding operation_of
 says_operation op rest i e = elim (split (extends op) (option_map (extension_item op) (two_of operand_of register_of rest)) (option_map (operate_item op) (two_of register_of (two_of operand_of register_of) rest)) (Some i) e) [
-  | inl h ↦ (let s = mapped (extension_item op) (two_of operand_of register_of rest) i h.1 in says_extension op rest i s.0 h.0 s.1 s.2)
-  | inr h ↦ (let s = mapped (operate_item op) (two_of register_of (two_of operand_of register_of) rest) i h.1 in says_three op rest i s.0 h.0 s.1 s.2)
+  | inl h ↦ (let s = mapped_some (extension_item op) (two_of operand_of register_of rest) i h.1 in says_extension op rest i s.0 h.0 s.1 s.2)
+  | inr h ↦ (let s = mapped_some (operate_item op) (two_of register_of (two_of operand_of register_of) rest) i h.1 in says_three op rest i s.0 h.0 s.1 s.2)
 ]
 
 says_call : (rest : List ℕ) (i : AsmItem) (o : Option ℕ) → number_of 255 rest ≡ o → call_in o ≡ Some i → Says (word_and_rest (spelling m.CallPal) rest) i
 says_call rest i None was e = absurd (cc)
 says_call rest i (Some n) was e =
-    let h = guarded (is_pal_function n) (Some (Plain (fields.Pal n))) i e in
+    let h = guarded_some (is_pal_function n) (Some (Plain (fields.Pal n))) i e in
     let same : Plain (fields.Pal n) ≡ i = cc in
     subst (λ j. Says (word_and_rest (spelling m.CallPal) rest) j) same
     ((h.0, refl), ap (word_and_rest (spelling m.CallPal)) (number_sound 255 rest n was).1)
 
 says_name : (rest : List ℕ) (i : AsmItem) → (if is_name rest then Some (Name rest) else None) ≡ Some i → Says (word_and_rest (spelling m.Entry) rest) i
 says_name rest i e =
-    let h = guarded (is_name rest) (Some (Name rest)) i e in
+    let h = guarded_some (is_name rest) (Some (Name rest)) i e in
     let same : Name rest ≡ i = cc in
     subst (λ j. Says (word_and_rest (spelling m.Entry) rest) j) same (h.0, refl)
 
 said_sound : (word : Mnemonic) (rest : List ℕ) (i : AsmItem) → said_by word rest ≡ Some i → Says (word_and_rest (spelling word) rest) i
 unfolding said_by
-said_sound (m.Memory op) rest i e = let s = mapped (memory_item op) (two_of register_of address_of rest) i e in says_memory op rest i s.0 s.1 s.2
-said_sound (m.Branch op) rest i e = let s = mapped (λ (p : ℕ × ℕ). Branch op p.0 p.1) (two_of register_of label_of rest) i e in says_branch op rest i s.0 s.1 s.2
-said_sound (m.Jump op) rest i e = let s = mapped (jump_item op) (two_of register_of indirect_of rest) i e in says_jump op rest i s.0 s.1 s.2
+said_sound (m.Memory op) rest i e = let s = mapped_some (memory_item op) (two_of register_of address_of rest) i e in says_memory op rest i s.0 s.1 s.2
+said_sound (m.Branch op) rest i e = let s = mapped_some (λ (p : ℕ × ℕ). Branch op p.0 p.1) (two_of register_of label_of rest) i e in says_branch op rest i s.0 s.1 s.2
+said_sound (m.Jump op) rest i e = let s = mapped_some (jump_item op) (two_of register_of indirect_of rest) i e in says_jump op rest i s.0 s.1 s.2
 said_sound (m.Operate op) rest i e = says_operation op rest i e
 said_sound m.CallPal rest i e = says_call rest i (number_of 255 rest) refl e
 said_sound m.Entry rest i e = says_name rest i e
-said_sound m.TextAddress rest i e = let s = mapped (λ (p : ℕ × ℕ). TextAddress p.0 p.1) (two_of register_of label_of rest) i e in says_text rest i s.0 s.1 s.2
-said_sound m.DataAddress rest i e = let s = mapped (λ (p : ℕ × ℕ). DataAddress p.0 p.1) (two_of register_of number32_of rest) i e in says_data rest i s.0 s.1 s.2
+said_sound m.TextAddress rest i e = let s = mapped_some (λ (p : ℕ × ℕ). TextAddress p.0 p.1) (two_of register_of label_of rest) i e in says_text rest i s.0 s.1 s.2
+said_sound m.DataAddress rest i e = let s = mapped_some (λ (p : ℕ × ℕ). DataAddress p.0 p.1) (two_of register_of number32_of rest) i e in says_data rest i s.0 s.1 s.2
 
 word_sound : (word rest : List ℕ) (i : AsmItem) (o : Option Mnemonic) → mnemonic_of word ≡ o → said_in o rest ≡ Some i → Says (word_and_rest word rest) i
 word_sound word rest i None was e = absurd (cc)
@@ -235,7 +235,7 @@ word_sound word rest i (Some w) was e = rw (mnemonic_sound word w was) (said_sou
 label_item_sound : (line : List ℕ) (i : AsmItem) (o : Option (List ℕ)) → closed_by 58 line ≡ o → label_in o ≡ Some i → Says line i
 label_item_sound line i None was e = absurd (cc)
 label_item_sound line i (Some s) was e =
-    let found = mapped Label (label_of s) i e in
+    let found = mapped_some Label (label_of s) i e in
     let n = label_sound s found.0 found.1 in
     subst (λ j. Says line j) found.2 (n.0, closed_sound 58 line s was ∙ ap (λ t. t ++ 58 ∷ []) n.1)
 

@@ -61,8 +61,8 @@ small_signed (pos n) h = (search (rules, h), omega (arith, h))
 small_signed (negsuc n) h = (search (rules, h), omega (arith, h))
 
 -- such a number is as it was in 16 bits
-pub held : (z : ℤ) → IsDisplacement z → to_z w16 (of_z w16 z) ≡ z
-held z small = to_z-of_z w16 z (small_signed z small).0
+pub held_displacement : (z : ℤ) → IsDisplacement z → to_z w16 (of_z w16 z) ≡ z
+held_displacement z small = to_z-of_z w16 z (small_signed z small).0
 
 pub parses_signed : {E : Type 0} (s : List ℕ) (z : ℤ) (r : Result ℤ E) → IsDisplacement z → s ≡ signed_decimal z → ParsesSigned w16 10 s r → r ≡ Rattle.std.specs.Prelude.Ok z
 parses_signed s z r small e h = parse-signed_decimal w16 z s r (small_signed z small).0 (small_signed z small).1 e h

@@ -16,7 +16,7 @@ use Rattle.alpha_lines.specs.model.Numbers.{number_of, displacement_of}
 use Rattle.alpha_lines.specs.model.Readers.{most_u32, number32_of, if_empty, before_end, closed_by, register_of, label_of, operand_of, register_in, inner_of, indirect_of, address_in, address_of, each_of, two_of}
 use Rattle.alpha_lines.proofs.Parts.{Lacks, cut_front, cut_sound}
 use Rattle.alpha_lines.proofs.Numbers.{number_sound, number_complete, displacement_sound, displacement_complete, digits_of_decimal}
-use Rattle.alpha_lines.proofs.Options.{begun, split, mapped, zipped_parts}
+use Rattle.alpha_lines.proofs.Options.{begun_some, split, mapped_some, zipped_parts}
 
 -- what a text has no byte of
 
@@ -66,7 +66,7 @@ pub register_sound : (s : List ℕ) (r : ℕ) → register_of s ≡ Some r → (
 unfolding register_of
 register_sound [] r e = absurd (cc)
 register_sound (b ∷ s) r e =
-    let h = begun b 36 (number_of 31 s) r e in
+    let h = begun_some b 36 (number_of 31 s) r e in
     let n = number_sound 31 s r h.1 in
     (omega (arith, n.0), rw (h.0, n.1) refl)
 
@@ -78,7 +78,7 @@ pub label_sound : (s : List ℕ) (l : ℕ) → label_of s ≡ Some l → (l < 2 
 unfolding label_of
 label_sound [] l e = absurd (cc)
 label_sound (b ∷ s) l e =
-    let h = begun b 76 (number32_of s) l e in
+    let h = begun_some b 76 (number32_of s) l e in
     let n = number32_sound s l h.1 in
     (n.0, rw (h.0, n.1) refl)
 
@@ -105,8 +105,8 @@ pub operand_sound : (s : List ℕ) (o : Operand) → operand_of s ≡ Some o →
 unfolding operand_of
 operand_sound [] o e = absurd (cc)
 operand_sound (b ∷ s) o e = elim (split (eqb b 36) (option_map Reg (number_of 31 s)) (option_map Literal (number_of 255 (b ∷ s))) (Some o) e) [
-  | inl h ↦ register_read b s o (eqb-true b 36 h.0) (mapped Reg (number_of 31 s) o h.1)
-  | inr h ↦ literal_read (b ∷ s) o (mapped Literal (number_of 255 (b ∷ s)) o h.1)
+  | inl h ↦ register_read b s o (eqb-true b 36 h.0) (mapped_some Reg (number_of 31 s) o h.1)
+  | inr h ↦ literal_read (b ∷ s) o (mapped_some Literal (number_of 255 (b ∷ s)) o h.1)
 ]
   where
     register_read : (b : ℕ) (s : List ℕ) (o : Operand) → b ≡ 36 → ((r : ℕ) × (number_of 31 s ≡ Some r) × (Reg r ≡ o)) → IsOperand o × (b ∷ s ≡ operand_name o)
@@ -161,7 +161,7 @@ pub indirect_sound : (s : List ℕ) (r : ℕ) → indirect_of s ≡ Some r → (
 unfolding indirect_of
 indirect_sound [] r e = absurd (cc)
 indirect_sound (b ∷ s) r e =
-    let h = begun b 40 (inner_of s) r e in
+    let h = begun_some b 40 (inner_of s) r e in
     let n = inner_sound s r h.1 in
     (n.0, rw (h.0, n.1) refl)
 
@@ -191,7 +191,7 @@ pair_complete a b lacks = rw (cut_front 44 a (32 ∷ b) lacks) refl
 blank_read : (a b : List ℕ) (p : List ℕ × List ℕ) → behind_blank a b ≡ Some p → (a ≡ p.0) × (b ≡ 32 ∷ p.1)
 blank_read a [] p e = absurd (cc)
 blank_read a (x ∷ b) p e =
-    let h = begun x 32 (Some (a, b)) p e in
+    let h = begun_some x 32 (Some (a, b)) p e in
     let same : ◌≡◌ {A = List ℕ × List ℕ} (a, b) p = cc in
     (ap (λ q. q.0) same, rw (h.0) (ap (λ q. 32 ∷ q.1) same))
 

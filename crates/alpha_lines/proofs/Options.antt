@@ -9,15 +9,15 @@ chosen : {A : Type 0} (b : Bool) (o : Option A) (x : A) → (if b then o else No
 chosen true o x e = (refl, e)
 chosen false o x e = absurd (cc)
 
-pub guarded : {A : Type 0} (b : Bool) (o : Option A) (x : A) → (if b then o else None) ≡ Some x → (b ≡ true) × (o ≡ Some x)
-guarded b o x e = chosen b o x e
+pub guarded_some : {A : Type 0} (b : Bool) (o : Option A) (x : A) → (if b then o else None) ≡ Some x → (b ≡ true) × (o ≡ Some x)
+guarded_some b o x e = chosen b o x e
 
-pub begun : {A : Type 0} (b c : ℕ) (o : Option A) (x : A) → (if b == c then o else None) ≡ Some x → (b ≡ c) × (o ≡ Some x)
-begun b c o x e = let h = chosen (eqb b c) o x e in (eqb-true b c h.0, h.1)
+pub begun_some : {A : Type 0} (b c : ℕ) (o : Option A) (x : A) → (if b == c then o else None) ≡ Some x → (b ≡ c) × (o ≡ Some x)
+begun_some b c o x e = let h = chosen (eqb b c) o x e in (eqb-true b c h.0, h.1)
 
-pub mapped : {A B : Type 0} (f : A → B) (o : Option A) (y : B) → option_map f o ≡ Some y → (x : A) × (o ≡ Some x) × (f x ≡ y)
-mapped f None y e = absurd (cc)
-mapped f (Some x) y e = (x, refl, cc)
+pub mapped_some : {A B : Type 0} (f : A → B) (o : Option A) (y : B) → option_map f o ≡ Some y → (x : A) × (o ≡ Some x) × (f x ≡ y)
+mapped_some f None y e = absurd (cc)
+mapped_some f (Some x) y e = (x, refl, cc)
 
 pub zipped_parts : {A B : Type 0} (a : Option A) (b : Option B) (p : A × B) → both_of a b ≡ Some p → (a ≡ Some p.0) × (b ≡ Some p.1)
 zipped_parts None b p e = absurd (cc)

@@ -16,21 +16,21 @@ use Rattle.alpha_isa.specs.State.{State}
 use Rattle.alpha_isa.specs.Step.{Over, Trap, go_on, exec, step, fetched_step}
 use Rattle.alpha_isa.proofs.Runs.{exec_split}
 use Rattle.alpha_rt.specs.Code.{place_insns, zero_refusal, preparation, turn_code, common_part}
-use Rattle.alpha_rt.proofs.Runs.{Reaches, then_reaches, at_most, one_reaches, Placed, front, behind, at, straight_reaches, taken, passed}
-use Rattle.alpha_rt.proofs.Registers.{RegisterFile, listed}
-use Rattle.alpha_rt.proofs.Places.{Halfway, Advanced, place_done, more_places}
+use Rattle.alpha_rt.proofs.Runs.{Reaches, then_reaches, at_most, one_reaches, CodeStandsAt, front, behind, at, straight_reaches, taken_branch, passed_branch}
+use Rattle.alpha_rt.proofs.Registers.{RegisterFile, listed_registers}
+use Rattle.alpha_rt.proofs.Places.{Halfway, AdvancesPlaces, place_done, more_places}
 
 -- ---- a round: four places
 
-four : (p : Program) (s : State) (a : ℕ) (x : RegisterFile) (n d worth product quotient : ℕ) (more : List Fields) → Placed p a (place_insns ++ (place_insns ++ (place_insns ++ (place_insns ++ more)))) → a + 128 < 2 ^ 64 → 8 * worth ≤ 2 ^ 63 → d < 2 ^ 64 → x.r2 ≡ d → Halfway n d worth product quotient x.r1 x.r27 →
-    Advanced p s 32 a (a + 32 + 32 + 32 + 32) n d (worth + worth + (worth + worth) + (worth + worth + (worth + worth)) + (worth + worth + (worth + worth) + (worth + worth + (worth + worth)))) x
+four : (p : Program) (s : State) (a : ℕ) (x : RegisterFile) (n d worth product quotient : ℕ) (more : List Fields) → CodeStandsAt p a (place_insns ++ (place_insns ++ (place_insns ++ (place_insns ++ more)))) → a + 128 < 2 ^ 64 → 8 * worth ≤ 2 ^ 63 → d < 2 ^ 64 → x.r2 ≡ d → Halfway n d worth product quotient x.r1 x.r27 →
+    AdvancesPlaces p s 32 a (a + 32 + 32 + 32 + 32) n d (worth + worth + (worth + worth) + (worth + worth + (worth + worth)) + (worth + worth + (worth + worth) + (worth + worth + (worth + worth)))) x
 four p s a x n d worth product quotient more h room large word two half =
-    let h1 : Placed p (a + 32) (place_insns ++ (place_insns ++ (place_insns ++ more))) = behind p a place_insns (place_insns ++ (place_insns ++ (place_insns ++ more))) h in
-    let h2 : Placed p (a + 32 + 32) (place_insns ++ (place_insns ++ more)) = behind p (a + 32) place_insns (place_insns ++ (place_insns ++ more)) h1 in
-    let h3 : Placed p (a + 32 + 32 + 32) (place_insns ++ more) = behind p (a + 32 + 32) place_insns (place_insns ++ more) h2 in
-    let v1 : Advanced p s 8 a (a + 32) n d (worth + worth) x = place_done p s a x n d worth product quotient (front p a place_insns (place_insns ++ (place_insns ++ (place_insns ++ more))) h) (omega arith) (omega arith) word two half in
-    let v2 : Advanced p s 16 a (a + 32 + 32) n d (worth + worth + (worth + worth)) x = more_places p s 8 a (a + 32) n d (worth + worth) x v1 (front p (a + 32) place_insns (place_insns ++ (place_insns ++ more)) h1) (omega arith) (omega arith) word two in
-    let v3 : Advanced p s 24 a (a + 32 + 32 + 32) n d (worth + worth + (worth + worth) + (worth + worth + (worth + worth))) x = more_places p s 16 a (a + 32 + 32) n d (worth + worth + (worth + worth)) x v2 (front p (a + 32 + 32) place_insns (place_insns ++ more) h2) (omega arith) (omega arith) word two in
+    let h1 : CodeStandsAt p (a + 32) (place_insns ++ (place_insns ++ (place_insns ++ more))) = behind p a place_insns (place_insns ++ (place_insns ++ (place_insns ++ more))) h in
+    let h2 : CodeStandsAt p (a + 32 + 32) (place_insns ++ (place_insns ++ more)) = behind p (a + 32) place_insns (place_insns ++ (place_insns ++ more)) h1 in
+    let h3 : CodeStandsAt p (a + 32 + 32 + 32) (place_insns ++ more) = behind p (a + 32 + 32) place_insns (place_insns ++ more) h2 in
+    let v1 : AdvancesPlaces p s 8 a (a + 32) n d (worth + worth) x = place_done p s a x n d worth product quotient (front p a place_insns (place_insns ++ (place_insns ++ (place_insns ++ more))) h) (omega arith) (omega arith) word two half in
+    let v2 : AdvancesPlaces p s 16 a (a + 32 + 32) n d (worth + worth + (worth + worth)) x = more_places p s 8 a (a + 32) n d (worth + worth) x v1 (front p (a + 32) place_insns (place_insns ++ (place_insns ++ more)) h1) (omega arith) (omega arith) word two in
+    let v3 : AdvancesPlaces p s 24 a (a + 32 + 32 + 32) n d (worth + worth + (worth + worth) + (worth + worth + (worth + worth))) x = more_places p s 16 a (a + 32 + 32) n d (worth + worth + (worth + worth)) x v2 (front p (a + 32 + 32) place_insns (place_insns ++ more) h2) (omega arith) (omega arith) word two in
     more_places p s 24 a (a + 32 + 32 + 32) n d _ x v3 (front p (a + 32 + 32 + 32) place_insns more h3) (omega arith) (omega arith) word two
 
 abbrev round : List Fields → List Fields
@@ -43,20 +43,20 @@ record RoundDone (p : Program) (s : State) (a n d worth count : ℕ) (x : Regist
   rest : ℕ
   low : ℕ
   scratch : ℕ
-  reaches : Reaches p 33 (at s a (listed x)) (at s (a + 132) (listed (record x { r1 = rest; r3 = count; r27 = low; r28 = scratch })))
+  reaches : Reaches p 33 (at s a (listed_registers x)) (at s (a + 132) (listed_registers (record x { r1 = rest; r3 = count; r27 = low; r28 = scratch })))
   halfway : Halfway n d (16 * worth) product quotient rest low
 
-round_done : (p : Program) (s : State) (a : ℕ) (x : RegisterFile) (n d worth product quotient count : ℕ) (more : List Fields) → Placed p a (round more) → a + 136 < 2 ^ 64 → 16 * worth ≤ 2 ^ 64 → d < 2 ^ 64 → x.r2 ≡ d → x.r3 ≡ suc count → suc count < 2 ^ 64 → Halfway n d worth product quotient x.r1 x.r27 → RoundDone p s a n d worth count x
+round_done : (p : Program) (s : State) (a : ℕ) (x : RegisterFile) (n d worth product quotient count : ℕ) (more : List Fields) → CodeStandsAt p a (round more) → a + 136 < 2 ^ 64 → 16 * worth ≤ 2 ^ 64 → d < 2 ^ 64 → x.r2 ≡ d → x.r3 ≡ suc count → suc count < 2 ^ 64 → Halfway n d worth product quotient x.r1 x.r27 → RoundDone p s a n d worth count x
 round_done p s a x n d worth product quotient count more h room large word two three small half =
     let v = four p s a x n d worth product quotient (turn_code ++ more) h (omega arith) (omega arith) word two half in
     let y : RegisterFile = record x { r1 = v.rest; r27 = v.low; r28 = v.scratch } in
     let counted : word_at (word_difference x.r3 1) ≡ count = omega arith in
-    let h1 : Placed p (a + 32) (place_insns ++ (place_insns ++ (place_insns ++ (turn_code ++ more)))) = behind p a place_insns (place_insns ++ (place_insns ++ (place_insns ++ (turn_code ++ more)))) h in
-    let h2 : Placed p (a + 32 + 32) (place_insns ++ (place_insns ++ (turn_code ++ more))) = behind p (a + 32) place_insns (place_insns ++ (place_insns ++ (turn_code ++ more))) h1 in
-    let h3 : Placed p (a + 32 + 32 + 32) (place_insns ++ (turn_code ++ more)) = behind p (a + 32 + 32) place_insns (place_insns ++ (turn_code ++ more)) h2 in
-    let h4 : Placed p (a + 32 + 32 + 32 + 32) (turn_code ++ more) = behind p (a + 32 + 32 + 32) place_insns (turn_code ++ more) h3 in
-    let last : Reaches p 1 (at s (a + 32 + 32 + 32 + 32) (listed y)) (at s (a + 32 + 32 + 32 + 32 + 4) (listed (record y { r3 = word_at (word_difference x.r3 1) }))) =
-    straight_reaches p (Operate Subq 3 (Literal 1) 3 ∷ []) (a + 32 + 32 + 32 + 32) (listed y) (listed (record y { r3 = word_at (word_difference x.r3 1) })) s (h4.0, tt) refl in
+    let h1 : CodeStandsAt p (a + 32) (place_insns ++ (place_insns ++ (place_insns ++ (turn_code ++ more)))) = behind p a place_insns (place_insns ++ (place_insns ++ (place_insns ++ (turn_code ++ more)))) h in
+    let h2 : CodeStandsAt p (a + 32 + 32) (place_insns ++ (place_insns ++ (turn_code ++ more))) = behind p (a + 32) place_insns (place_insns ++ (place_insns ++ (turn_code ++ more))) h1 in
+    let h3 : CodeStandsAt p (a + 32 + 32 + 32) (place_insns ++ (turn_code ++ more)) = behind p (a + 32 + 32) place_insns (place_insns ++ (turn_code ++ more)) h2 in
+    let h4 : CodeStandsAt p (a + 32 + 32 + 32 + 32) (turn_code ++ more) = behind p (a + 32 + 32 + 32) place_insns (turn_code ++ more) h3 in
+    let last : Reaches p 1 (at s (a + 32 + 32 + 32 + 32) (listed_registers y)) (at s (a + 32 + 32 + 32 + 32 + 4) (listed_registers (record y { r3 = word_at (word_difference x.r3 1) }))) =
+    straight_reaches p (Operate Subq 3 (Literal 1) 3 ∷ []) (a + 32 + 32 + 32 + 32) (listed_registers y) (listed_registers (record y { r3 = word_at (word_difference x.r3 1) })) s (h4.0, tt) refl in
     let end : a + 32 + 32 + 32 + 32 + 4 ≡ a + 132 = omega arith in
     let size : worth + worth + (worth + worth) + (worth + worth + (worth + worth)) + (worth + worth + (worth + worth) + (worth + worth + (worth + worth))) ≡ 16 * worth = omega arith in
     record {
@@ -65,8 +65,8 @@ round_done p s a x n d worth product quotient count more h room large word two t
       rest = v.rest;
       low = v.low;
       scratch = v.scratch;
-      reaches = subst (λ to. Reaches p 33 (at s a (listed x)) (at s to (listed (record y { r3 = count })))) end
-          (subst (λ c. Reaches p 33 (at s a (listed x)) (at s (a + 32 + 32 + 32 + 32 + 4) (listed (record y { r3 = c })))) counted (then_reaches p 32 1 _ _ _ v.reaches last));
+      reaches = subst (λ to. Reaches p 33 (at s a (listed_registers x)) (at s to (listed_registers (record y { r3 = count })))) end
+          (subst (λ c. Reaches p 33 (at s a (listed_registers x)) (at s (a + 32 + 32 + 32 + 32 + 4) (listed_registers (record y { r3 = c })))) counted (then_reaches p 32 1 _ _ _ v.reaches last));
       halfway = subst (λ w. Halfway n d w v.product v.quotient v.rest v.low) size v.halfway;
     }
 
@@ -90,18 +90,18 @@ record RoundsDone (p : Program) (s : State) (most a n d : ℕ) (x : RegisterFile
   rest : ℕ
   low : ℕ
   scratch : ℕ
-  reaches : Reaches p most (at s a (listed x)) (at s (a + 136) (listed (record x { r1 = rest; r3 = 0; r27 = low; r28 = scratch })))
+  reaches : Reaches p most (at s a (listed_registers x)) (at s (a + 136) (listed_registers (record x { r1 = rest; r3 = 0; r27 = low; r28 = scratch })))
   halfway : Halfway n d (2 ^ 64) product quotient rest low
 
-branch_placed : (p : Program) (a : ℕ) (more : List Fields) → Placed p a (round more) → Placed p (a + 132) (Branch Bne 3 (negsuc 33) ∷ more)
+branch_placed : (p : Program) (a : ℕ) (more : List Fields) → CodeStandsAt p a (round more) → CodeStandsAt p (a + 132) (Branch Bne 3 (negsuc 33) ∷ more)
 branch_placed p a more h =
     behind p a (place_insns ++ (place_insns ++ (place_insns ++ (place_insns ++ (Operate Subq 3 (Literal 1) 3 ∷ []))))) (Branch Bne 3 (negsuc 33) ∷ more) h
 
-rounds_done : (count : ℕ) (p : Program) (s : State) (a : ℕ) (x : RegisterFile) (n d worth product quotient : ℕ) (more : List Fields) → Placed p a (round more) → a + 136 < 2 ^ 64 → d < 2 ^ 64 → x.r2 ≡ d → x.r3 ≡ suc count → suc count < 2 ^ 64 → worth * (16 * sixteens count) ≡ 2 ^ 64 → Halfway n d worth product quotient x.r1 x.r27 → RoundsDone p s (34 * suc count) a n d x
+rounds_done : (count : ℕ) (p : Program) (s : State) (a : ℕ) (x : RegisterFile) (n d worth product quotient : ℕ) (more : List Fields) → CodeStandsAt p a (round more) → a + 136 < 2 ^ 64 → d < 2 ^ 64 → x.r2 ≡ d → x.r3 ≡ suc count → suc count < 2 ^ 64 → worth * (16 * sixteens count) ≡ 2 ^ 64 → Halfway n d worth product quotient x.r1 x.r27 → RoundsDone p s (34 * suc count) a n d x
 rounds_done zero p s a x n d worth product quotient more h room word two three small whole half =
     let v : RoundDone p s a n d worth 0 x = round_done p s a x n d worth product quotient 0 more h room (room_for worth 0 whole) word two three small half in
     let y : RegisterFile = record x { r1 = v.rest; r3 = 0; r27 = v.low; r28 = v.scratch } in
-    let past : Reaches p 1 (at s (a + 132) (listed y)) (at s (a + 132 + 4) (listed y)) = passed p Bne 3 (a + 132) (negsuc 33) (listed y) s (branch_placed p a more h).0 refl refl in
+    let past : Reaches p 1 (at s (a + 132) (listed_registers y)) (at s (a + 132 + 4) (listed_registers y)) = passed_branch p Bne 3 (a + 132) (negsuc 33) (listed_registers y) s (branch_placed p a more h).0 refl refl in
     let end : a + 132 + 4 ≡ a + 136 = omega arith in
     let size : 16 * worth ≡ 2 ^ 64 = omega arith in
     record {
@@ -110,13 +110,13 @@ rounds_done zero p s a x n d worth product quotient more h room word two three s
       rest = v.rest;
       low = v.low;
       scratch = v.scratch;
-      reaches = subst (λ to. Reaches p 34 (at s a (listed x)) (at s to (listed y))) end (then_reaches p 33 1 _ _ _ v.reaches past);
+      reaches = subst (λ to. Reaches p 34 (at s a (listed_registers x)) (at s to (listed_registers y))) end (then_reaches p 33 1 _ _ _ v.reaches past);
       halfway = subst (λ w. Halfway n d w v.product v.quotient v.rest v.low) size v.halfway;
     }
 rounds_done (suc count) p s a x n d worth product quotient more h room word two three small whole half =
     let v : RoundDone p s a n d worth (suc count) x = round_done p s a x n d worth product quotient (suc count) more h room (room_for worth (suc count) whole) word two three small half in
     let y : RegisterFile = record x { r1 = v.rest; r3 = suc count; r27 = v.low; r28 = v.scratch } in
-    let back : Reaches p 1 (at s (a + 132) (listed y)) (at s a (listed y)) = taken p Bne 3 (a + 132) a (negsuc 33) (listed y) s (branch_placed p a more h).0 refl (ap not (ne_eqb (suc count) 0 (λ e. absurd (omega arith)))) (omega arith) in
+    let back : Reaches p 1 (at s (a + 132) (listed_registers y)) (at s a (listed_registers y)) = taken_branch p Bne 3 (a + 132) a (negsuc 33) (listed_registers y) s (branch_placed p a more h).0 refl (ap not (ne_eqb (suc count) 0 (λ e. absurd (omega arith)))) (omega arith) in
     let rest : RoundsDone p s (34 * suc count) a n d y = rounds_done count p s a y n d (16 * worth) v.product v.quotient more h room word two refl (omega arith) (omega arith) v.halfway in
     record {
       product = rest.product;
@@ -139,31 +139,31 @@ quotient_is n d product quotient rest low word h =
     )
 
 -- register 1 gets the remainder and 27 the quotient, and the machine goes on at the address in 4
-pub record Divided (p : Program) (s : State) (a : ℕ) (x : RegisterFile) : Type 0 where
+pub record CommonPartDivides (p : Program) (s : State) (a : ℕ) (x : RegisterFile) : Type 0 where
   pub scratch : ℕ
-  pub reaches : Reaches p 548 (at s a (listed x)) (at s (x.r4 / 4 * 4) (listed (record x { r1 = x.r27 % x.r2; r3 = 0; r27 = x.r27 / x.r2; r28 = scratch })))
+  pub reaches : Reaches p 548 (at s a (listed_registers x)) (at s (x.r4 / 4 * 4) (listed_registers (record x { r1 = x.r27 % x.r2; r3 = 0; r27 = x.r27 / x.r2; r28 = scratch })))
 
-pub common_divides : (p : Program) (s : State) (a : ℕ) (x : RegisterFile) → Placed p a common_part → a + 160 < 2 ^ 64 → x.r27 < 2 ^ 64 → x.r2 < 2 ^ 64 → 0 < x.r2 → Divided p s a x
+pub common_divides : (p : Program) (s : State) (a : ℕ) (x : RegisterFile) → CodeStandsAt p a common_part → a + 160 < 2 ^ 64 → x.r27 < 2 ^ 64 → x.r2 < 2 ^ 64 → 0 < x.r2 → CommonPartDivides p s a x
 common_divides p s a x h room word divisor some =
     let ends : List Fields = Jump Ret 31 4 ∷ [] in
     let y : RegisterFile = record x { r1 = 0; r3 = 16 } in
-    let over : Reaches p 1 (at s a (listed x)) (at s (a + 12) (listed x)) = taken p Bne 2 a (a + 12) (pos 2) (listed x) s h.0 refl (ap not (ne_eqb x.r2 0 (λ e. absurd (omega arith)))) (omega arith) in
-    let h1 : Placed p (a + 12) (preparation ++ round ends) = behind p a zero_refusal (preparation ++ round ends) h in
-    let ready : Reaches p 2 (at s (a + 12) (listed x)) (at s (a + 12 + 8) (listed y)) = straight_reaches p preparation (a + 12) (listed x) (listed y) s (front p (a + 12) preparation (round ends) h1) refl in
-    let h2 : Placed p (a + 12 + 8) (round ends) = behind p (a + 12) preparation (round ends) h1 in
+    let over : Reaches p 1 (at s a (listed_registers x)) (at s (a + 12) (listed_registers x)) = taken_branch p Bne 2 a (a + 12) (pos 2) (listed_registers x) s h.0 refl (ap not (ne_eqb x.r2 0 (λ e. absurd (omega arith)))) (omega arith) in
+    let h1 : CodeStandsAt p (a + 12) (preparation ++ round ends) = behind p a zero_refusal (preparation ++ round ends) h in
+    let ready : Reaches p 2 (at s (a + 12) (listed_registers x)) (at s (a + 12 + 8) (listed_registers y)) = straight_reaches p preparation (a + 12) (listed_registers x) (listed_registers y) s (front p (a + 12) preparation (round ends) h1) refl in
+    let h2 : CodeStandsAt p (a + 12 + 8) (round ends) = behind p (a + 12) preparation (round ends) h1 in
     let begins : Halfway x.r27 x.r2 1 0 0 0 x.r27 = record { whole = omega arith; product_is = omega arith; below = some; rest_small = omega arith; quotient_small = omega arith; low_word = word } in
     let v : RoundsDone p s 544 (a + 12 + 8) x.r27 x.r2 y = rounds_done 15 p s (a + 12 + 8) y x.r27 x.r2 1 0 0 ends h2 (omega arith) divisor refl refl (omega arith) refl begins in
     let z : RegisterFile = record x { r1 = v.rest; r3 = 0; r27 = v.low; r28 = v.scratch } in
-    let h3 : Placed p (a + 12 + 8 + 132) (Branch Bne 3 (negsuc 33) ∷ ends) = branch_placed p (a + 12 + 8) ends h2 in
+    let h3 : CodeStandsAt p (a + 12 + 8 + 132) (Branch Bne 3 (negsuc 33) ∷ ends) = branch_placed p (a + 12 + 8) ends h2 in
     let there : a + 12 + 8 + 132 + 4 ≡ a + 12 + 8 + 136 = omega arith in
-    let h4 : Placed p (a + 12 + 8 + 136) ends = subst (λ n. Placed p n ends) there h3.1 in
-    let returns : Reaches p 1 (at s (a + 12 + 8 + 136) (listed z)) (at s (x.r4 / 4 * 4) (listed z)) = one_reaches p (Jump Ret 31 4) (at s (a + 12 + 8 + 136) (listed z)) (at s (x.r4 / 4 * 4) (listed z)) h4.0 refl in
+    let h4 : CodeStandsAt p (a + 12 + 8 + 136) ends = subst (λ n. CodeStandsAt p n ends) there h3.1 in
+    let returns : Reaches p 1 (at s (a + 12 + 8 + 136) (listed_registers z)) (at s (x.r4 / 4 * 4) (listed_registers z)) = one_reaches p (Jump Ret 31 4) (at s (a + 12 + 8 + 136) (listed_registers z)) (at s (x.r4 / 4 * 4) (listed_registers z)) h4.0 refl in
     let is = quotient_is x.r27 x.r2 v.product v.quotient v.rest v.low word v.halfway in
-    let whole : Reaches p 548 (at s a (listed x)) (at s (x.r4 / 4 * 4) (listed z)) = then_reaches p 547 1 _ _ _ (then_reaches p 3 544 _ _ _ (then_reaches p 1 2 _ _ _ over ready) v.reaches) returns in
+    let whole : Reaches p 548 (at s a (listed_registers x)) (at s (x.r4 / 4 * 4) (listed_registers z)) = then_reaches p 547 1 _ _ _ (then_reaches p 3 544 _ _ _ (then_reaches p 1 2 _ _ _ over ready) v.reaches) returns in
     record {
       scratch = v.scratch;
-      reaches = subst (λ low. Reaches p 548 (at s a (listed x)) (at s (x.r4 / 4 * 4) (listed (record x { r1 = x.r27 % x.r2; r3 = 0; r27 = low; r28 = v.scratch })))) is.0
-          (subst (λ rest. Reaches p 548 (at s a (listed x)) (at s (x.r4 / 4 * 4) (listed (record x { r1 = rest; r3 = 0; r27 = v.low; r28 = v.scratch })))) is.1 whole);
+      reaches = subst (λ low. Reaches p 548 (at s a (listed_registers x)) (at s (x.r4 / 4 * 4) (listed_registers (record x { r1 = x.r27 % x.r2; r3 = 0; r27 = low; r28 = v.scratch })))) is.0
+          (subst (λ rest. Reaches p 548 (at s a (listed_registers x)) (at s (x.r4 / 4 * 4) (listed_registers (record x { r1 = rest; r3 = 0; r27 = v.low; r28 = v.scratch })))) is.1 whole);
     }
 
 -- ---- a division by zero
@@ -187,21 +187,21 @@ then_ends p m k code s t a b i o = record {
   output = b.output ∙ o;
 }
 
-trap_ends : (p : Program) (s : State) (a : ℕ) (x : RegisterFile) → Placed p a (Pal 0xAA ∷ []) → Ends p 1 x.r16 (at s a (listed x))
+trap_ends : (p : Program) (s : State) (a : ℕ) (x : RegisterFile) → CodeStandsAt p a (Pal 0xAA ∷ []) → Ends p 1 x.r16 (at s a (listed_registers x))
 unfolding exec step
 trap_ends p s a x h = record {
   steps = 1;
   soon = omega arith;
-  last = at s a (listed x);
-  run = ap (λ o. go_on (fetched_step p o (at s a (listed x))) (exec p 0)) h.0;
+  last = at s a (listed_registers x);
+  run = ap (λ o. go_on (fetched_step p o (at s a (listed_registers x))) (exec p 0)) h.0;
   input = refl;
   output = refl;
 }
 
-pub common_traps : (p : Program) (s : State) (a : ℕ) (x : RegisterFile) → Placed p a common_part → x.r2 ≡ 0 → Ends p 3 1 (at s a (listed x))
+pub common_traps : (p : Program) (s : State) (a : ℕ) (x : RegisterFile) → CodeStandsAt p a common_part → x.r2 ≡ 0 → Ends p 3 1 (at s a (listed_registers x))
 common_traps p s a x h none =
     let y : RegisterFile = record x { r16 = 1 } in
-    let h1 : Placed p a zero_refusal = front p a zero_refusal (preparation ++ round (Jump Ret 31 4 ∷ [])) h in
-    let past : Reaches p 1 (at s a (listed x)) (at s (a + 4) (listed x)) = passed p Bne 2 a (pos 2) (listed x) s h1.0 refl (ap (λ m. not (eqb m 0)) none) in
-    let set : Reaches p 1 (at s (a + 4) (listed x)) (at s (a + 4 + 4) (listed y)) = straight_reaches p (Memory Lda 16 31 (pos 1) ∷ []) (a + 4) (listed x) (listed y) s (h1.1.0, tt) refl in
+    let h1 : CodeStandsAt p a zero_refusal = front p a zero_refusal (preparation ++ round (Jump Ret 31 4 ∷ [])) h in
+    let past : Reaches p 1 (at s a (listed_registers x)) (at s (a + 4) (listed_registers x)) = passed_branch p Bne 2 a (pos 2) (listed_registers x) s h1.0 refl (ap (λ m. not (eqb m 0)) none) in
+    let set : Reaches p 1 (at s (a + 4) (listed_registers x)) (at s (a + 4 + 4) (listed_registers y)) = straight_reaches p (Memory Lda 16 31 (pos 1) ∷ []) (a + 4) (listed_registers x) (listed_registers y) s (h1.1.0, tt) refl in
     then_ends p 2 1 1 _ _ (then_reaches p 1 1 _ _ _ past set) (trap_ends p s (a + 4 + 4) y h1.1.1) refl refl

@@ -11,9 +11,9 @@ use Rattle.alpha_rt.specs.Routine.{Routine, Answers, Traps, Divlu, Remlu}
 use Rattle.alpha_rt.specs.Code.{low_numbers, long_quotient, long_remainder}
 use Rattle.alpha_rt.specs.Calls.{IsCall, RoutineDoes, Divides}
 use Rattle.alpha_rt.proofs.Runs.{at, after}
-use Rattle.alpha_rt.proofs.Registers.{RegisterFile, listed}
+use Rattle.alpha_rt.proofs.Registers.{RegisterFile, listed_registers}
 use Rattle.alpha_rt.proofs.Routines.{Parts}
-use Rattle.alpha_rt.proofs.Unsigned.{from_files, by_divisor, untested}
+use Rattle.alpha_rt.proofs.Unsigned.{from_files, by_divisor, untested_operands}
 use Rattle.alpha_rt.proofs.Signed.{long_range}
 
 -- a word that is its own sign extension is 0 where its low bits are
@@ -24,41 +24,41 @@ zero_from b (inr high) word = ne_eqb (b % 2 ^ 32) 0 (λ e. absurd (omega arith))
 zero_alike : (b : ℕ) → sign_extension w32 b ≡ b → b < 2 ^ 64 → eqb (b % 2 ^ 32) 0 ≡ eqb b 0
 zero_alike b e word = zero_from b (long_range b e) word
 
-low_loaded : (x : RegisterFile) (j : ℕ) → after low_numbers (listed (record x { r28 = j })) ≡ Some (listed (record x { r2 = x.r25 % 2 ^ 32; r27 = x.r24 % 2 ^ 32; r28 = j }))
+low_loaded : (x : RegisterFile) (j : ℕ) → after low_numbers (listed_registers (record x { r28 = j })) ≡ Some (listed_registers (record x { r2 = x.r25 % 2 ^ 32; r27 = x.r24 % 2 ^ 32; r28 = j }))
 low_loaded x j =
-    ap (λ k. Some (listed (record x { r2 = kept_bytes 8 x.r25 0x0F; r27 = k; r28 = j }))) (kept_bytes-long x.r24)
-    ∙ ap (λ k. Some (listed (record x { r2 = k; r27 = x.r24 % 2 ^ 32; r28 = j }))) (kept_bytes-long x.r25)
+    ap (λ k. Some (listed_registers (record x { r2 = kept_bytes 8 x.r25 0x0F; r27 = k; r28 = j }))) (kept_bytes-long x.r24)
+    ∙ ap (λ k. Some (listed_registers (record x { r2 = k; r27 = x.r24 % 2 ^ 32; r28 = j }))) (kept_bytes-long x.r25)
 
-quotient_extended : (y : RegisterFile) → after long_quotient (listed y) ≡ Some (listed (record y { r27 = sign_extension w32 y.r27 }))
-quotient_extended y = let same : y.r27 + 0 ≡ y.r27 = omega arith in ap (λ k. Some (listed (record y { r27 = sign_extension w32 k }))) same
+quotient_extended : (y : RegisterFile) → after long_quotient (listed_registers y) ≡ Some (listed_registers (record y { r27 = sign_extension w32 y.r27 }))
+quotient_extended y = let same : y.r27 + 0 ≡ y.r27 = omega arith in ap (λ k. Some (listed_registers (record y { r27 = sign_extension w32 k }))) same
 
-remainder_extended : (y : RegisterFile) → after long_remainder (listed y) ≡ Some (listed (record y { r27 = sign_extension w32 y.r1 }))
-remainder_extended y = let same : y.r1 + 0 ≡ y.r1 = omega arith in ap (λ k. Some (listed (record y { r27 = sign_extension w32 k }))) same
+remainder_extended : (y : RegisterFile) → after long_remainder (listed_registers y) ≡ Some (listed_registers (record y { r27 = sign_extension w32 y.r1 }))
+remainder_extended y = let same : y.r1 + 0 ≡ y.r1 = omega arith in ap (λ k. Some (listed_registers (record y { r27 = sign_extension w32 k }))) same
 
-divlu_parts : (p : Program) (word : ℕ) (s : State) (a : ℕ) (x : RegisterFile) → IsCall p word Divlu (at s a (listed x)) → Parts Divlu p s a x (x.r24 % 2 ^ 32) (x.r25 % 2 ^ 32) (sign_extension w32 (x.r24 % 2 ^ 32 / (x.r25 % 2 ^ 32)))
+divlu_parts : (p : Program) (word : ℕ) (s : State) (a : ℕ) (x : RegisterFile) → IsCall p word Divlu (at s a (listed_registers x)) → Parts Divlu p s a x (x.r24 % 2 ^ 32) (x.r25 % 2 ^ 32) (sign_extension w32 (x.r24 % 2 ^ 32 / (x.r25 % 2 ^ 32)))
 divlu_parts p word s a x call = record {
   dividend_word = omega arith;
   divisor_word = omega arith;
   tested = x.r28;
-  tests = untested p s a x;
+  tests = untested_operands p s a x;
   operands = λ j. (j, low_loaded x j);
   answers = λ some link j. (x.r24 % 2 ^ 32 % (x.r25 % 2 ^ 32), j, quotient_extended (record x { r1 = x.r24 % 2 ^ 32 % (x.r25 % 2 ^ 32); r2 = x.r25 % 2 ^ 32; r3 = 0; r4 = link; r27 = x.r24 % 2 ^ 32 / (x.r25 % 2 ^ 32); r28 = j }));
 }
 
-remlu_parts : (p : Program) (word : ℕ) (s : State) (a : ℕ) (x : RegisterFile) → IsCall p word Remlu (at s a (listed x)) → Parts Remlu p s a x (x.r24 % 2 ^ 32) (x.r25 % 2 ^ 32) (sign_extension w32 (x.r24 % 2 ^ 32 % (x.r25 % 2 ^ 32)))
+remlu_parts : (p : Program) (word : ℕ) (s : State) (a : ℕ) (x : RegisterFile) → IsCall p word Remlu (at s a (listed_registers x)) → Parts Remlu p s a x (x.r24 % 2 ^ 32) (x.r25 % 2 ^ 32) (sign_extension w32 (x.r24 % 2 ^ 32 % (x.r25 % 2 ^ 32)))
 remlu_parts p word s a x call = record {
   dividend_word = omega arith;
   divisor_word = omega arith;
   tested = x.r28;
-  tests = untested p s a x;
+  tests = untested_operands p s a x;
   operands = λ j. (j, low_loaded x j);
   answers = λ some link j. (x.r24 % 2 ^ 32 % (x.r25 % 2 ^ 32), j, remainder_extended (record x { r1 = x.r24 % 2 ^ 32 % (x.r25 % 2 ^ 32); r2 = x.r25 % 2 ^ 32; r3 = 0; r4 = link; r27 = x.r24 % 2 ^ 32 / (x.r25 % 2 ^ 32); r28 = j }));
 }
 
 -- the low bits of the divisor are zero where it is
-long_does : (r : Routine) (p : Program) (word : ℕ) (s : State) (a : ℕ) (x : RegisterFile) (answer : ℕ) → IsCall p word r (at s a (listed x)) → sign_extension w32 x.r25 ≡ x.r25 → Parts r p s a x (x.r24 % 2 ^ 32) (x.r25 % 2 ^ 32) answer → RoutineDoes p (at s a (listed x)) (cond (eqb x.r25 0) (Traps 1) (Answers answer))
+long_does : (r : Routine) (p : Program) (word : ℕ) (s : State) (a : ℕ) (x : RegisterFile) (answer : ℕ) → IsCall p word r (at s a (listed_registers x)) → sign_extension w32 x.r25 ≡ x.r25 → Parts r p s a x (x.r24 % 2 ^ 32) (x.r25 % 2 ^ 32) answer → RoutineDoes p (at s a (listed_registers x)) (cond (eqb x.r25 0) (Traps 1) (Answers answer))
 long_does r p word s a x answer call extended parts =
-    subst (λ b. RoutineDoes p (at s a (listed x)) (cond b (Traps 1) (Answers answer))) (zero_alike x.r25 extended (call.words 25))
+    subst (λ b. RoutineDoes p (at s a (listed_registers x)) (cond b (Traps 1) (Answers answer))) (zero_alike x.r25 extended (call.words 25))
     (by_divisor r p word s a x (x.r24 % 2 ^ 32) (x.r25 % 2 ^ 32) answer call parts (eqb (x.r25 % 2 ^ 32) 0) refl)
 
 pub divlu_divides : Divides Divlu

@@ -11,12 +11,12 @@ use Rattle.alpha_rt.specs.Routine.{Routine, Answers, Traps, Divq, Remq, Divqu, R
 use Rattle.alpha_rt.proofs.Signed.{strictly_from}
 
 -- an answer comes only where nothing traps
-record Answered (z l : Bool) (made word : ℕ) : Type 0 where
+record AnswersWord (z l : Bool) (made word : ℕ) : Type 0 where
   some : z ≡ false
   other : l ≡ false
   same : made ≡ word
 
-answered : (z l : Bool) (made word : ℕ) → cond z (Traps 1) (cond l (Traps 3) (Answers made)) ≡ Answers word → Answered z l made word
+answered : (z l : Bool) (made word : ℕ) → cond z (Traps 1) (cond l (Traps 3) (Answers made)) ≡ Answers word → AnswersWord z l made word
 answered true l made word e = let impossible : ⊥ = cc in absurd impossible
 answered false true made word e = let impossible : ⊥ = cc in absurd impossible
 answered false false made word e = record { some = refl; other = refl; same = cc }
@@ -94,14 +94,14 @@ not_both a b x y other n m =
 quotient_extended : (a b word : ℕ) → sign_extension w32 a ≡ a → sign_extension w32 b ≡ b → routine_outcome Divl a b ≡ Answers word → sign_extension w32 word ≡ word
 quotient_extended a b word x y e =
     let z : ℤ = int_div (signed_value w32 a) (signed_value w32 b) in
-    let found : Answered (eqb b 0) (is_least_by_minus_one w32 a b) (word_from z) word = answered (eqb b 0) (is_least_by_minus_one w32 a b) (word_from z) word e in
+    let found : AnswersWord (eqb b 0) (is_least_by_minus_one w32 a b) (word_from z) word = answered (eqb b 0) (is_least_by_minus_one w32 a b) (word_from z) word e in
     let fits : FitsSigned w32 z = quotient_fits (a % 2 ^ 32) (b % 2 ^ 32) (ltb (a % 2 ^ 32) (2 ^ 31)) (ltb (b % 2 ^ 32) (2 ^ 31)) refl refl (omega arith) (omega arith) (not_both a b x y found.other) in
     subst (λ k. sign_extension w32 k ≡ k) found.same (extended z fits)
 
 remainder_extended : (a b word : ℕ) → routine_outcome Reml a b ≡ Answers word → sign_extension w32 word ≡ word
 remainder_extended a b word e =
     let z : ℤ = int_rem (signed_value w32 a) (signed_value w32 b) in
-    let found : Answered (eqb b 0) (is_least_by_minus_one w32 a b) (word_from z) word = answered (eqb b 0) (is_least_by_minus_one w32 a b) (word_from z) word e in
+    let found : AnswersWord (eqb b 0) (is_least_by_minus_one w32 a b) (word_from z) word = answered (eqb b 0) (is_least_by_minus_one w32 a b) (word_from z) word e in
     let fits : FitsSigned w32 z = remainder_fits (a % 2 ^ 32) (signed_value w32 b) (ltb (a % 2 ^ 32) (2 ^ 31)) refl (omega arith) in
     subst (λ k. sign_extension w32 k ≡ k) found.same (extended z fits)
 

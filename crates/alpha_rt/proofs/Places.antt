@@ -7,8 +7,8 @@ use Rattle.alpha_isa.specs.Arithmetic.{word_at, word_difference}
 use Rattle.alpha_isa.specs.Program.{Program}
 use Rattle.alpha_isa.specs.State.{State}
 use Rattle.alpha_rt.specs.Code.{place_front, place_back, place_insns}
-use Rattle.alpha_rt.proofs.Runs.{Reaches, then_reaches, at_most, Placed, front, behind, at, straight_reaches, taken, passed}
-use Rattle.alpha_rt.proofs.Registers.{RegisterFile, listed}
+use Rattle.alpha_rt.proofs.Runs.{Reaches, then_reaches, at_most, CodeStandsAt, front, behind, at, straight_reaches, taken_branch, passed_branch}
+use Rattle.alpha_rt.proofs.Registers.{RegisterFile, listed_registers}
 
 -- ---- the arithmetic
 
@@ -55,23 +55,23 @@ stays_out n d worth product quotient rest low large h short = record {
 -- ---- the instructions
 
 -- some places more: the machine has come to an address with a rest and a lower word, and with scratch in register 28
-pub record Advanced (p : Program) (s : State) (most a to n d worth : ℕ) (x : RegisterFile) : Type 0 where
+pub record AdvancesPlaces (p : Program) (s : State) (most a to n d worth : ℕ) (x : RegisterFile) : Type 0 where
   pub product : ℕ
   pub quotient : ℕ
   pub rest : ℕ
   pub low : ℕ
   pub scratch : ℕ
-  pub reaches : Reaches p most (at s a (listed x)) (at s to (listed (record x { r1 = rest; r27 = low; r28 = scratch })))
+  pub reaches : Reaches p most (at s a (listed_registers x)) (at s to (listed_registers (record x { r1 = rest; r27 = low; r28 = scratch })))
   pub halfway : Halfway n d worth product quotient rest low
 
-place_by : (p : Program) (s : State) (a : ℕ) (x : RegisterFile) (n d worth product quotient : ℕ) → Placed p a place_insns → a + 32 < 2 ^ 64 → worth ≤ 2 ^ 63 → d < 2 ^ 64 → x.r2 ≡ d → Halfway n d worth product quotient x.r1 x.r27 → (b : Bool) → leb x.r2 (doubled x.r1 x.r27) ≡ b → Advanced p s 8 a (a + 32) n d (worth + worth) x
+place_by : (p : Program) (s : State) (a : ℕ) (x : RegisterFile) (n d worth product quotient : ℕ) → CodeStandsAt p a place_insns → a + 32 < 2 ^ 64 → worth ≤ 2 ^ 63 → d < 2 ^ 64 → x.r2 ≡ d → Halfway n d worth product quotient x.r1 x.r27 → (b : Bool) → leb x.r2 (doubled x.r1 x.r27) ≡ b → AdvancesPlaces p s 8 a (a + 32) n d (worth + worth) x
 place_by p s a x n d worth product quotient h room large word two half true e =
     let y : RegisterFile = record x { r1 = doubled x.r1 x.r27; r27 = word_at (x.r27 + x.r27); r28 = cond (leb x.r2 (doubled x.r1 x.r27)) 1 0 } in
     let z : RegisterFile = record y { r1 = word_at (word_difference (doubled x.r1 x.r27) x.r2); r27 = word_at (word_at (x.r27 + x.r27) + 1) } in
-    let begun : Reaches p 5 (at s a (listed x)) (at s (a + 20) (listed y)) = straight_reaches p place_front a (listed x) (listed y) s (front p a place_front (Branch Beq 28 (pos 2) ∷ place_back) h) refl in
-    let later : Placed p (a + 20) (Branch Beq 28 (pos 2) ∷ place_back) = behind p a place_front (Branch Beq 28 (pos 2) ∷ place_back) h in
-    let past : Reaches p 1 (at s (a + 20) (listed y)) (at s (a + 20 + 4) (listed y)) = passed p Beq 28 (a + 20) (pos 2) (listed y) s later.0 refl (ap (λ t. eqb (cond t 1 0) 0) e) in
-    let taken_off : Reaches p 2 (at s (a + 20 + 4) (listed y)) (at s (a + 20 + 4 + 8) (listed z)) = straight_reaches p place_back (a + 20 + 4) (listed y) (listed z) s later.1 refl in
+    let begun : Reaches p 5 (at s a (listed_registers x)) (at s (a + 20) (listed_registers y)) = straight_reaches p place_front a (listed_registers x) (listed_registers y) s (front p a place_front (Branch Beq 28 (pos 2) ∷ place_back) h) refl in
+    let later : CodeStandsAt p (a + 20) (Branch Beq 28 (pos 2) ∷ place_back) = behind p a place_front (Branch Beq 28 (pos 2) ∷ place_back) h in
+    let past : Reaches p 1 (at s (a + 20) (listed_registers y)) (at s (a + 20 + 4) (listed_registers y)) = passed_branch p Beq 28 (a + 20) (pos 2) (listed_registers y) s later.0 refl (ap (λ t. eqb (cond t 1 0) 0) e) in
+    let taken_off : Reaches p 2 (at s (a + 20 + 4) (listed_registers y)) (at s (a + 20 + 4 + 8) (listed_registers z)) = straight_reaches p place_back (a + 20 + 4) (listed_registers y) (listed_registers z) s later.1 refl in
     let end : a + 20 + 4 + 8 ≡ a + 32 = omega arith in
     let fits : d ≤ doubled x.r1 x.r27 = subst (λ m. m ≤ doubled x.r1 x.r27) two (leb-true x.r2 (doubled x.r1 x.r27) e) in
     let done : Halfway n d (worth + worth) (product + product + d) (quotient + quotient + 1) (word_at (word_difference (doubled x.r1 x.r27) x.r2)) (word_at (word_at (x.r27 + x.r27) + 1)) =
@@ -82,15 +82,15 @@ place_by p s a x n d worth product quotient h room large word two half true e =
       rest = word_at (word_difference (doubled x.r1 x.r27) x.r2);
       low = word_at (word_at (x.r27 + x.r27) + 1);
       scratch = cond (leb x.r2 (doubled x.r1 x.r27)) 1 0;
-      reaches = subst (λ to. Reaches p 8 (at s a (listed x)) (at s to (listed z))) end
+      reaches = subst (λ to. Reaches p 8 (at s a (listed_registers x)) (at s to (listed_registers z))) end
           (then_reaches p 6 2 _ _ _ (then_reaches p 5 1 _ _ _ begun past) taken_off);
       halfway = done;
     }
 place_by p s a x n d worth product quotient h room large word two half false e =
     let y : RegisterFile = record x { r1 = doubled x.r1 x.r27; r27 = word_at (x.r27 + x.r27); r28 = cond (leb x.r2 (doubled x.r1 x.r27)) 1 0 } in
-    let begun : Reaches p 5 (at s a (listed x)) (at s (a + 20) (listed y)) = straight_reaches p place_front a (listed x) (listed y) s (front p a place_front (Branch Beq 28 (pos 2) ∷ place_back) h) refl in
-    let later : Placed p (a + 20) (Branch Beq 28 (pos 2) ∷ place_back) = behind p a place_front (Branch Beq 28 (pos 2) ∷ place_back) h in
-    let over : Reaches p 1 (at s (a + 20) (listed y)) (at s (a + 32) (listed y)) = taken p Beq 28 (a + 20) (a + 32) (pos 2) (listed y) s later.0 refl (ap (λ t. eqb (cond t 1 0) 0) e) (omega arith) in
+    let begun : Reaches p 5 (at s a (listed_registers x)) (at s (a + 20) (listed_registers y)) = straight_reaches p place_front a (listed_registers x) (listed_registers y) s (front p a place_front (Branch Beq 28 (pos 2) ∷ place_back) h) refl in
+    let later : CodeStandsAt p (a + 20) (Branch Beq 28 (pos 2) ∷ place_back) = behind p a place_front (Branch Beq 28 (pos 2) ∷ place_back) h in
+    let over : Reaches p 1 (at s (a + 20) (listed_registers y)) (at s (a + 32) (listed_registers y)) = taken_branch p Beq 28 (a + 20) (a + 32) (pos 2) (listed_registers y) s later.0 refl (ap (λ t. eqb (cond t 1 0) 0) e) (omega arith) in
     let short : doubled x.r1 x.r27 < d = subst (λ m. doubled x.r1 x.r27 < m) two (leb-false x.r2 (doubled x.r1 x.r27) e) in
     record {
       product = product + product;
@@ -102,14 +102,14 @@ place_by p s a x n d worth product quotient h room large word two half false e =
       halfway = stays_out n d worth product quotient x.r1 x.r27 large half short;
     }
 
-pub place_done : (p : Program) (s : State) (a : ℕ) (x : RegisterFile) (n d worth product quotient : ℕ) → Placed p a place_insns → a + 32 < 2 ^ 64 → worth ≤ 2 ^ 63 → d < 2 ^ 64 → x.r2 ≡ d → Halfway n d worth product quotient x.r1 x.r27 → Advanced p s 8 a (a + 32) n d (worth + worth) x
+pub place_done : (p : Program) (s : State) (a : ℕ) (x : RegisterFile) (n d worth product quotient : ℕ) → CodeStandsAt p a place_insns → a + 32 < 2 ^ 64 → worth ≤ 2 ^ 63 → d < 2 ^ 64 → x.r2 ≡ d → Halfway n d worth product quotient x.r1 x.r27 → AdvancesPlaces p s 8 a (a + 32) n d (worth + worth) x
 place_done p s a x n d worth product quotient h room large word two half = place_by p s a x n d worth product quotient h room large word two half (leb x.r2 (doubled x.r1 x.r27)) refl
 
 -- one place behind others
-pub more_places : (p : Program) (s : State) (most a to n d worth : ℕ) (x : RegisterFile) → Advanced p s most a to n d worth x → Placed p to place_insns → to + 32 < 2 ^ 64 → worth ≤ 2 ^ 63 → d < 2 ^ 64 → x.r2 ≡ d → Advanced p s (most + 8) a (to + 32) n d (worth + worth) x
+pub more_places : (p : Program) (s : State) (most a to n d worth : ℕ) (x : RegisterFile) → AdvancesPlaces p s most a to n d worth x → CodeStandsAt p to place_insns → to + 32 < 2 ^ 64 → worth ≤ 2 ^ 63 → d < 2 ^ 64 → x.r2 ≡ d → AdvancesPlaces p s (most + 8) a (to + 32) n d (worth + worth) x
 more_places p s most a to n d worth x v h room large word two =
     let y : RegisterFile = record x { r1 = v.rest; r27 = v.low; r28 = v.scratch } in
-    let w : Advanced p s 8 to (to + 32) n d (worth + worth) y = place_done p s to y n d worth v.product v.quotient h room large word two v.halfway in
+    let w : AdvancesPlaces p s 8 to (to + 32) n d (worth + worth) y = place_done p s to y n d worth v.product v.quotient h room large word two v.halfway in
     record {
       product = w.product;
       quotient = w.quotient;

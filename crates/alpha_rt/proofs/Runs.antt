@@ -45,30 +45,30 @@ one_reaches p i s t h e = record { steps = 1; soon = omega arith; run = one_done
 
 -- ---- instructions in a row
 
-abbrev pub Placed : Program → ℕ → List Fields → Type 0
-Placed p a [] = Unit {0}
-Placed p a (i ∷ is) = (instruction_at p a ≡ Some i) × Placed p (a + 4) is
+abbrev pub CodeStandsAt : Program → ℕ → List Fields → Type 0
+CodeStandsAt p a [] = Unit {0}
+CodeStandsAt p a (i ∷ is) = (instruction_at p a ≡ Some i) × CodeStandsAt p (a + 4) is
 
-pub placed_from : (p : Program) (is : List Fields) (w : ℕ) → ((k : ℕ) → k < length is → instruction_at p (word_address (w + k)) ≡ slice_get is k) → Placed p (word_address w) is
+pub placed_from : (p : Program) (is : List Fields) (w : ℕ) → ((k : ℕ) → k < length is → instruction_at p (word_address (w + k)) ≡ slice_get is k) → CodeStandsAt p (word_address w) is
 placed_from p [] w h = tt
 placed_from p (i ∷ is) w h =
     let none : w + 0 ≡ w = omega arith in
     let next : word_address (w + 1) ≡ word_address w + 4 = omega arith in (
       subst (λ n. instruction_at p (word_address n) ≡ Some i) none (h 0 (omega arith)),
-      subst (λ a. Placed p a is) next (placed_from p is (w + 1) (λ k below.
+      subst (λ a. CodeStandsAt p a is) next (placed_from p is (w + 1) (λ k below.
           let further : w + suc k ≡ w + 1 + k = omega arith in
           subst (λ n. instruction_at p (word_address n) ≡ slice_get is k) further (h (suc k) (omega arith)))),
     )
 
-pub front : (p : Program) (a : ℕ) (xs ys : List Fields) → Placed p a (xs ++ ys) → Placed p a xs
+pub front : (p : Program) (a : ℕ) (xs ys : List Fields) → CodeStandsAt p a (xs ++ ys) → CodeStandsAt p a xs
 front p a [] ys h = tt
 front p a (x ∷ xs) ys h = (h.0, front p (a + 4) xs ys h.1)
 
-pub behind : (p : Program) (a : ℕ) (xs ys : List Fields) → Placed p a (xs ++ ys) → Placed p (a + 4 * length xs) ys
-behind p a [] ys h = let none : a ≡ a + 4 * 0 = omega arith in subst (λ n. Placed p n ys) none h
+pub behind : (p : Program) (a : ℕ) (xs ys : List Fields) → CodeStandsAt p a (xs ++ ys) → CodeStandsAt p (a + 4 * length xs) ys
+behind p a [] ys h = let none : a ≡ a + 4 * 0 = omega arith in subst (λ n. CodeStandsAt p n ys) none h
 behind p a (x ∷ xs) ys h =
     let further : a + 4 + 4 * length xs ≡ a + 4 * suc (length xs) = omega arith in
-    subst (λ n. Placed p n ys) further (behind p (a + 4) xs ys h.1)
+    subst (λ n. CodeStandsAt p n ys) further (behind p (a + 4) xs ys h.1)
 
 -- ---- operations on registers
 
@@ -128,7 +128,7 @@ straight_from : (p : Program) (i : Fields) (is : List Fields) (a : ℕ) (rs new 
 straight_from p i is a rs new s rest h None one e = let clash : ⊥ = cc in absurd clash
 straight_from p i is a rs new s rest h (Some mid) one e = one_done p (length is) i (at s a rs) (at s (a + 4) mid) h (one_step p i a rs mid s one) ∙ rest mid e
 
-pub straight : (p : Program) (is : List Fields) (a : ℕ) (rs new : List ℕ) (s : State) → Placed p a is → after is rs ≡ Some new → exec p (length is) (at s a rs) ≡ Goes (at s (a + 4 * length is) new)
+pub straight : (p : Program) (is : List Fields) (a : ℕ) (rs new : List ℕ) (s : State) → CodeStandsAt p a is → after is rs ≡ Some new → exec p (length is) (at s a rs) ≡ Goes (at s (a + 4 * length is) new)
 unfolding exec
 straight p [] a rs new s h e =
     let none : a ≡ a + 4 * 0 = omega arith in
@@ -138,7 +138,7 @@ straight p (i ∷ is) a rs new s h e =
     let further : a + 4 + 4 * length is ≡ a + 4 * suc (length is) = omega arith in
     straight_from p i is a rs new s (λ mid f. straight p is (a + 4) mid new s h.1 f) h.0 (after_one i rs) refl e ∙ ap (λ n. Goes (at s n new)) further
 
-pub straight_reaches : (p : Program) (is : List Fields) (a : ℕ) (rs new : List ℕ) (s : State) → Placed p a is → after is rs ≡ Some new → Reaches p (length is) (at s a rs) (at s (a + 4 * length is) new)
+pub straight_reaches : (p : Program) (is : List Fields) (a : ℕ) (rs new : List ℕ) (s : State) → CodeStandsAt p a is → after is rs ≡ Some new → Reaches p (length is) (at s a rs) (at s (a + 4 * length is) new)
 straight_reaches p is a rs new s h e = record { steps = length is; soon = omega arith; run = straight p is a rs new s h e }
 
 -- ---- branches
@@ -146,9 +146,9 @@ straight_reaches p is a rs new s h e = record { steps = length is; soon = omega 
 chosen : State → State → ℕ → ℕ → Bool → Bool → MachineNext
 chosen linked s far near l t = Goes (record (cond l linked s) { pc = cond t far near })
 
-pub taken : (p : Program) (op : BranchOp) (ra a target : ℕ) (disp : ℤ) (rs : List ℕ) (s : State) → instruction_at p a ≡ Some (Branch op ra disp) → links op ≡ false → is_branch_taken op (register_of rs ra) ≡ true → branch_target (at s a rs) disp ≡ target → Reaches p 1 (at s a rs) (at s target rs)
+pub taken_branch : (p : Program) (op : BranchOp) (ra a target : ℕ) (disp : ℤ) (rs : List ℕ) (s : State) → instruction_at p a ≡ Some (Branch op ra disp) → links op ≡ false → is_branch_taken op (register_of rs ra) ≡ true → branch_target (at s a rs) disp ≡ target → Reaches p 1 (at s a rs) (at s target rs)
 unfolding chosen
-taken p op ra a target disp rs s h l t e =
+taken_branch p op ra a target disp rs s h l t e =
     let far : ℕ = branch_target (at s a rs) disp in
     let linked : State = with_register ra (a + 4) (at s a rs) in
     one_reaches p (Branch op ra disp) (at s a rs) (at s target rs) h
@@ -156,9 +156,9 @@ taken p op ra a target disp rs s h l t e =
     ∙ ap (chosen linked (at s a rs) far (a + 4) false) t
     ∙ ap (λ n. Goes (at s n rs)) e)
 
-pub passed : (p : Program) (op : BranchOp) (ra a : ℕ) (disp : ℤ) (rs : List ℕ) (s : State) → instruction_at p a ≡ Some (Branch op ra disp) → links op ≡ false → is_branch_taken op (register_of rs ra) ≡ false → Reaches p 1 (at s a rs) (at s (a + 4) rs)
+pub passed_branch : (p : Program) (op : BranchOp) (ra a : ℕ) (disp : ℤ) (rs : List ℕ) (s : State) → instruction_at p a ≡ Some (Branch op ra disp) → links op ≡ false → is_branch_taken op (register_of rs ra) ≡ false → Reaches p 1 (at s a rs) (at s (a + 4) rs)
 unfolding chosen
-passed p op ra a disp rs s h l t =
+passed_branch p op ra a disp rs s h l t =
     let far : ℕ = branch_target (at s a rs) disp in
     let linked : State = with_register ra (a + 4) (at s a rs) in
     one_reaches p (Branch op ra disp) (at s a rs) (at s (a + 4) rs) h

@@ -21,8 +21,8 @@ use Rattle.alpha_isa.specs.Step.{operate_step, go_on, exec, step, fetched_step}
 use Rattle.alpha_rt.specs.Routine.{Routine, Answers, Traps, Divq, Remq, Divl, Reml, signed_outcome, is_least_by_minus_one}
 use Rattle.alpha_rt.specs.Code.{least_test, magnitude_code, magnitudes, signed_quotient, signed_remainder}
 use Rattle.alpha_rt.specs.Calls.{IsCall, RoutineDoes, Divides, TrapsWith}
-use Rattle.alpha_rt.proofs.Runs.{Reaches, then_reaches, at_most, Placed, at, after, effect_on, straight_reaches, taken, passed}
-use Rattle.alpha_rt.proofs.Registers.{RegisterFile, listed}
+use Rattle.alpha_rt.proofs.Runs.{Reaches, then_reaches, at_most, CodeStandsAt, at, after, effect_on, straight_reaches, taken_branch, passed_branch}
+use Rattle.alpha_rt.proofs.Registers.{RegisterFile, listed_registers}
 use Rattle.alpha_rt.proofs.Common.{Ends, then_ends}
 use Rattle.alpha_rt.proofs.Routines.{Parts, test_at}
 use Rattle.alpha_rt.proofs.Unsigned.{from_files, by_divisor}
@@ -189,56 +189,56 @@ long_negation a number = record {
 
 -- ---- the test for the least number by -1
 
-tested : (op : OperateOp) (p : Program) (s : State) (a : ℕ) (x : RegisterFile) → Placed p a (least_test op) → Reaches p 1 (at s a (listed x)) (at s (a + 4) (listed (record x { r28 = word_at (x.r25 + 1) })))
-tested op p s a x h = straight_reaches p (Operate Addq 25 (Literal 1) 28 ∷ []) a (listed x) (listed (record x { r28 = word_at (x.r25 + 1) })) s (h.0, tt) refl
+tested : (op : OperateOp) (p : Program) (s : State) (a : ℕ) (x : RegisterFile) → CodeStandsAt p a (least_test op) → Reaches p 1 (at s a (listed_registers x)) (at s (a + 4) (listed_registers (record x { r28 = word_at (x.r25 + 1) })))
+tested op p s a x h = straight_reaches p (Operate Addq 25 (Literal 1) 28 ∷ []) a (listed_registers x) (listed_registers (record x { r28 = word_at (x.r25 + 1) })) s (h.0, tt) refl
 
-passes_other : (op : OperateOp) (p : Program) (s : State) (a : ℕ) (x : RegisterFile) → Placed p a (least_test op) → a + 12 < 2 ^ 64 → x.r25 < 2 ^ 64 → (x.r25 ≡ 2 ^ 64 - 1 → ⊥) → Reaches p 3 (at s a (listed x)) (at s (a + 12) (listed (record x { r28 = word_at (x.r25 + 1) })))
+passes_other : (op : OperateOp) (p : Program) (s : State) (a : ℕ) (x : RegisterFile) → CodeStandsAt p a (least_test op) → a + 12 < 2 ^ 64 → x.r25 < 2 ^ 64 → (x.r25 ≡ 2 ^ 64 - 1 → ⊥) → Reaches p 3 (at s a (listed_registers x)) (at s (a + 12) (listed_registers (record x { r28 = word_at (x.r25 + 1) })))
 passes_other op p s a x h room word other =
     let y : RegisterFile = record x { r28 = word_at (x.r25 + 1) } in
-    let over : Reaches p 1 (at s (a + 4) (listed y)) (at s (a + 12) (listed y)) =
-    taken p Bne 28 (a + 4) (a + 12) (pos 1) (listed y) s h.1.0 refl (ap not (ne_eqb (word_at (x.r25 + 1)) 0 (λ e. let same : x.r25 ≡ 2 ^ 64 - 1 = omega arith in other same))) (omega arith) in
-    at_most p 2 3 (at s a (listed x)) (at s (a + 12) (listed y)) (omega arith) (then_reaches p 1 1 (at s a (listed x)) (at s (a + 4) (listed y)) (at s (a + 12) (listed y)) (tested op p s a x h) over)
+    let over : Reaches p 1 (at s (a + 4) (listed_registers y)) (at s (a + 12) (listed_registers y)) =
+    taken_branch p Bne 28 (a + 4) (a + 12) (pos 1) (listed_registers y) s h.1.0 refl (ap not (ne_eqb (word_at (x.r25 + 1)) 0 (λ e. let same : x.r25 ≡ 2 ^ 64 - 1 = omega arith in other same))) (omega arith) in
+    at_most p 2 3 (at s a (listed_registers x)) (at s (a + 12) (listed_registers y)) (omega arith) (then_reaches p 1 1 (at s a (listed_registers x)) (at s (a + 4) (listed_registers y)) (at s (a + 12) (listed_registers y)) (tested op p s a x h) over)
 
-comes_to_negation : (op : OperateOp) (p : Program) (s : State) (a : ℕ) (x : RegisterFile) → Placed p a (least_test op) → x.r25 ≡ 2 ^ 64 - 1 → Reaches p 2 (at s a (listed x)) (at s (a + 4 + 4) (listed (record x { r28 = word_at (x.r25 + 1) })))
+comes_to_negation : (op : OperateOp) (p : Program) (s : State) (a : ℕ) (x : RegisterFile) → CodeStandsAt p a (least_test op) → x.r25 ≡ 2 ^ 64 - 1 → Reaches p 2 (at s a (listed_registers x)) (at s (a + 4 + 4) (listed_registers (record x { r28 = word_at (x.r25 + 1) })))
 comes_to_negation op p s a x h minus =
     let y : RegisterFile = record x { r28 = word_at (x.r25 + 1) } in
     let none : word_at (x.r25 + 1) ≡ 0 = omega arith in
-    let past : Reaches p 1 (at s (a + 4) (listed y)) (at s (a + 4 + 4) (listed y)) = passed p Bne 28 (a + 4) (pos 1) (listed y) s h.1.0 refl (ap not (eq-eqb (word_at (x.r25 + 1)) 0 none)) in
-    then_reaches p 1 1 (at s a (listed x)) (at s (a + 4) (listed y)) (at s (a + 4 + 4) (listed y)) (tested op p s a x h) past
+    let past : Reaches p 1 (at s (a + 4) (listed_registers y)) (at s (a + 4 + 4) (listed_registers y)) = passed_branch p Bne 28 (a + 4) (pos 1) (listed_registers y) s h.1.0 refl (ap not (eq-eqb (word_at (x.r25 + 1)) 0 none)) in
+    then_reaches p 1 1 (at s a (listed_registers x)) (at s (a + 4) (listed_registers y)) (at s (a + 4 + 4) (listed_registers y)) (tested op p s a x h) past
 
-passes_negated : (op : OperateOp) (p : Program) (s : State) (a : ℕ) (x : RegisterFile) (word : ℕ) → Placed p a (least_test op) → x.r25 ≡ 2 ^ 64 - 1 → operation_effect op 0 x.r24 ≡ Gives word → Reaches p 3 (at s a (listed x)) (at s (a + 12) (listed (record x { r28 = word })))
+passes_negated : (op : OperateOp) (p : Program) (s : State) (a : ℕ) (x : RegisterFile) (word : ℕ) → CodeStandsAt p a (least_test op) → x.r25 ≡ 2 ^ 64 - 1 → operation_effect op 0 x.r24 ≡ Gives word → Reaches p 3 (at s a (listed_registers x)) (at s (a + 12) (listed_registers (record x { r28 = word })))
 passes_negated op p s a x word h minus e =
     let y : RegisterFile = record x { r28 = word_at (x.r25 + 1) } in
     let z : RegisterFile = record x { r28 = word } in
-    let made : Reaches p 1 (at s (a + 4 + 4) (listed y)) (at s (a + 4 + 4 + 4) (listed z)) =
-    straight_reaches p (Operate op 31 (Reg 24) 28 ∷ []) (a + 4 + 4) (listed y) (listed z) s (h.1.1.0, tt) (ap (λ o. option_and_then (after []) (effect_on o 28 (listed y))) e) in
+    let made : Reaches p 1 (at s (a + 4 + 4) (listed_registers y)) (at s (a + 4 + 4 + 4) (listed_registers z)) =
+    straight_reaches p (Operate op 31 (Reg 24) 28 ∷ []) (a + 4 + 4) (listed_registers y) (listed_registers z) s (h.1.1.0, tt) (ap (λ o. option_and_then (after []) (effect_on o 28 (listed_registers y))) e) in
     let end : a + 4 + 4 + 4 ≡ a + 12 = omega arith in
-    subst (λ to. Reaches p 3 (at s a (listed x)) (at s to (listed z))) end
-    (then_reaches p 2 1 (at s a (listed x)) (at s (a + 4 + 4) (listed y)) (at s (a + 4 + 4 + 4) (listed z)) (comes_to_negation op p s a x h minus) made)
+    subst (λ to. Reaches p 3 (at s a (listed_registers x)) (at s to (listed_registers z))) end
+    (then_reaches p 2 1 (at s a (listed_registers x)) (at s (a + 4 + 4) (listed_registers y)) (at s (a + 4 + 4 + 4) (listed_registers z)) (comes_to_negation op p s a x h minus) made)
 
-overflow_ends : (op : OperateOp) (p : Program) (s : State) (a : ℕ) (y : RegisterFile) → Placed p a (Operate op 31 (Reg 24) 28 ∷ []) → operation_effect op 0 y.r24 ≡ Overflows → Ends p 1 3 (at s a (listed y))
+overflow_ends : (op : OperateOp) (p : Program) (s : State) (a : ℕ) (y : RegisterFile) → CodeStandsAt p a (Operate op 31 (Reg 24) 28 ∷ []) → operation_effect op 0 y.r24 ≡ Overflows → Ends p 1 3 (at s a (listed_registers y))
 unfolding exec step
 overflow_ends op p s a y h e = record {
   steps = 1;
   soon = omega arith;
-  last = at s a (listed y);
-  run = ap (λ o. go_on (fetched_step p o (at s a (listed y))) (exec p 0)) h.0 ∙ ap (λ o. go_on (operate_step o 28 (at s a (listed y))) (exec p 0)) e;
+  last = at s a (listed_registers y);
+  run = ap (λ o. go_on (fetched_step p o (at s a (listed_registers y))) (exec p 0)) h.0 ∙ ap (λ o. go_on (operate_step o 28 (at s a (listed_registers y))) (exec p 0)) e;
   input = refl;
   output = refl;
 }
 
-least_traps : (op : OperateOp) (p : Program) (s : State) (a : ℕ) (x : RegisterFile) → Placed p a (least_test op) → x.r25 ≡ 2 ^ 64 - 1 → operation_effect op 0 x.r24 ≡ Overflows → TrapsWith p (at s a (listed x)) 3
+least_traps : (op : OperateOp) (p : Program) (s : State) (a : ℕ) (x : RegisterFile) → CodeStandsAt p a (least_test op) → x.r25 ≡ 2 ^ 64 - 1 → operation_effect op 0 x.r24 ≡ Overflows → TrapsWith p (at s a (listed_registers x)) 3
 least_traps op p s a x h minus e =
     let y : RegisterFile = record x { r28 = word_at (x.r25 + 1) } in
-    let v : Ends p 3 3 (at s a (listed x)) = then_ends p 2 1 3 (at s a (listed x)) (at s (a + 4 + 4) (listed y)) (comes_to_negation op p s a x h minus) (overflow_ends op p s (a + 4 + 4) y h.1.1 e) refl refl in
+    let v : Ends p 3 3 (at s a (listed_registers x)) = then_ends p 2 1 3 (at s a (listed_registers x)) (at s (a + 4 + 4) (listed_registers y)) (comes_to_negation op p s a x h minus) (overflow_ends op p s (a + 4 + 4) y h.1.1 e) refl refl in
     record { steps = v.steps; soon = omega arith; last = v.last; run = v.run; input = v.input; output = v.output }
 
 -- the test is passed where the pair is not the least number and -1
 record Passes (p : Program) (s : State) (a : ℕ) (x : RegisterFile) : Type 0 where
   word : ℕ
-  reaches : Reaches p 3 (at s a (listed x)) (at s (a + 12) (listed (record x { r28 = word })))
+  reaches : Reaches p 3 (at s a (listed_registers x)) (at s (a + 12) (listed_registers (record x { r28 = word })))
 
-passes_by : (op : OperateOp) (w : Width) (p : Program) (s : State) (a : ℕ) (x : RegisterFile) → Placed p a (least_test op) → a + 12 < 2 ^ 64 → x.r25 < 2 ^ 64 → Negation op w x.r24 → is_least_by_minus_one w x.r24 x.r25 ≡ false → (b : Bool) → eqb x.r25 (2 ^ 64 - 1) ≡ b → Passes p s a x
+passes_by : (op : OperateOp) (w : Width) (p : Program) (s : State) (a : ℕ) (x : RegisterFile) → CodeStandsAt p a (least_test op) → a + 12 < 2 ^ 64 → x.r25 < 2 ^ 64 → Negation op w x.r24 → is_least_by_minus_one w x.r24 x.r25 ≡ false → (b : Bool) → eqb x.r25 (2 ^ 64 - 1) ≡ b → Passes p s a x
 passes_by op w p s a x h room word n other false e = record { word = word_at (x.r25 + 1); reaches = passes_other op p s a x h room word (eqb-false x.r25 (2 ^ 64 - 1) e) }
 passes_by op w p s a x h room word n other true e = record { word = n.word; reaches = passes_negated op p s a x n.word h (eqb-true x.r25 (2 ^ 64 - 1) e) (n.gives (not_least (and_cases (eqb x.r24 (2 ^ 64 - 2 ^ hbits w)) (eqb x.r25 (2 ^ 64 - 1)) other))) }
   where
@@ -248,49 +248,49 @@ passes_by op w p s a x h room word n other true e = record { word = n.word; reac
 
 -- ---- the operands and the answers
 
-dividend_sized : (x : RegisterFile) (more : List Fields) (new : Option (List ℕ)) (t : Bool) → is_negative x.r24 ≡ t → after more (listed (record x { r27 = size_of t x.r24; r28 = cond t 1 0 })) ≡ new →
-    after (Operate Cmplt 24 (Reg 31) 28 ∷ Operate Subq 31 (Reg 24) 27 ∷ Operate Cmoveq 28 (Reg 24) 27 ∷ more) (listed x) ≡ new
+dividend_sized : (x : RegisterFile) (more : List Fields) (new : Option (List ℕ)) (t : Bool) → is_negative x.r24 ≡ t → after more (listed_registers (record x { r27 = size_of t x.r24; r28 = cond t 1 0 })) ≡ new →
+    after (Operate Cmplt 24 (Reg 31) 28 ∷ Operate Subq 31 (Reg 24) 27 ∷ Operate Cmoveq 28 (Reg 24) 27 ∷ more) (listed_registers x) ≡ new
 unfolding is_negative size_of
-dividend_sized x more new true e f = ap (λ t. after (Operate Cmoveq 28 (Reg 24) 27 ∷ more) (listed (record x { r27 = word_at (word_difference 0 x.r24); r28 = cond t 1 0 }))) e ∙ f
-dividend_sized x more new false e f = ap (λ t. after (Operate Cmoveq 28 (Reg 24) 27 ∷ more) (listed (record x { r27 = word_at (word_difference 0 x.r24); r28 = cond t 1 0 }))) e ∙ f
+dividend_sized x more new true e f = ap (λ t. after (Operate Cmoveq 28 (Reg 24) 27 ∷ more) (listed_registers (record x { r27 = word_at (word_difference 0 x.r24); r28 = cond t 1 0 }))) e ∙ f
+dividend_sized x more new false e f = ap (λ t. after (Operate Cmoveq 28 (Reg 24) 27 ∷ more) (listed_registers (record x { r27 = word_at (word_difference 0 x.r24); r28 = cond t 1 0 }))) e ∙ f
 
-divisor_sized : (x : RegisterFile) (u : Bool) → is_negative x.r25 ≡ u → after (magnitude_code 25 2) (listed x) ≡ Some (listed (record x { r2 = size_of u x.r25; r28 = cond u 1 0 }))
+divisor_sized : (x : RegisterFile) (u : Bool) → is_negative x.r25 ≡ u → after (magnitude_code 25 2) (listed_registers x) ≡ Some (listed_registers (record x { r2 = size_of u x.r25; r28 = cond u 1 0 }))
 unfolding is_negative size_of
-divisor_sized x true e = ap (λ t. after (Operate Cmoveq 28 (Reg 25) 2 ∷ []) (listed (record x { r2 = word_at (word_difference 0 x.r25); r28 = cond t 1 0 }))) e
-divisor_sized x false e = ap (λ t. after (Operate Cmoveq 28 (Reg 25) 2 ∷ []) (listed (record x { r2 = word_at (word_difference 0 x.r25); r28 = cond t 1 0 }))) e
+divisor_sized x true e = ap (λ t. after (Operate Cmoveq 28 (Reg 25) 2 ∷ []) (listed_registers (record x { r2 = word_at (word_difference 0 x.r25); r28 = cond t 1 0 }))) e
+divisor_sized x false e = ap (λ t. after (Operate Cmoveq 28 (Reg 25) 2 ∷ []) (listed_registers (record x { r2 = word_at (word_difference 0 x.r25); r28 = cond t 1 0 }))) e
 
 magnitudes_loaded : (x : RegisterFile) (j : ℕ) (t u : Bool) → is_negative x.r24 ≡ t → is_negative x.r25 ≡ u →
-    after magnitudes (listed (record x { r28 = j })) ≡ Some (listed (record x { r2 = size_of u x.r25; r27 = size_of t x.r24; r28 = cond u 1 0 }))
+    after magnitudes (listed_registers (record x { r28 = j })) ≡ Some (listed_registers (record x { r2 = size_of u x.r25; r27 = size_of t x.r24; r28 = cond u 1 0 }))
 magnitudes_loaded x j t u e f =
-    dividend_sized (record x { r28 = j }) (magnitude_code 25 2) (Some (listed (record x { r2 = size_of u x.r25; r27 = size_of t x.r24; r28 = cond u 1 0 }))) t e
+    dividend_sized (record x { r28 = j }) (magnitude_code 25 2) (Some (listed_registers (record x { r2 = size_of u x.r25; r27 = size_of t x.r24; r28 = cond u 1 0 }))) t e
     (divisor_sized (record x { r27 = size_of t x.r24; r28 = cond t 1 0 }) u f)
 
 quotient_answered : (y : RegisterFile) (t u : Bool) → is_negative y.r24 ≡ t → is_negative y.r25 ≡ u →
-    after signed_quotient (listed y) ≡ Some (listed (record y { r1 = word_at (word_difference 0 y.r27); r27 = size_of (differ t u) y.r27; r28 = cond (differ t u) 1 0 }))
+    after signed_quotient (listed_registers y) ≡ Some (listed_registers (record y { r1 = word_at (word_difference 0 y.r27); r27 = size_of (differ t u) y.r27; r28 = cond (differ t u) 1 0 }))
 unfolding is_negative size_of differ
 quotient_answered y true true e f =
-    ap (λ t. after (Operate Xor 28 (Reg 1) 28 ∷ Operate Subq 31 (Reg 27) 1 ∷ Operate Cmovne 28 (Reg 1) 27 ∷ []) (listed (record y { r1 = cond (is_negative y.r25) 1 0; r28 = cond t 1 0 }))) e
-    ∙ ap (λ u. after (Operate Xor 28 (Reg 1) 28 ∷ Operate Subq 31 (Reg 27) 1 ∷ Operate Cmovne 28 (Reg 1) 27 ∷ []) (listed (record y { r1 = cond u 1 0; r28 = 1 }))) f
+    ap (λ t. after (Operate Xor 28 (Reg 1) 28 ∷ Operate Subq 31 (Reg 27) 1 ∷ Operate Cmovne 28 (Reg 1) 27 ∷ []) (listed_registers (record y { r1 = cond (is_negative y.r25) 1 0; r28 = cond t 1 0 }))) e
+    ∙ ap (λ u. after (Operate Xor 28 (Reg 1) 28 ∷ Operate Subq 31 (Reg 27) 1 ∷ Operate Cmovne 28 (Reg 1) 27 ∷ []) (listed_registers (record y { r1 = cond u 1 0; r28 = 1 }))) f
 quotient_answered y true false e f =
-    ap (λ t. after (Operate Xor 28 (Reg 1) 28 ∷ Operate Subq 31 (Reg 27) 1 ∷ Operate Cmovne 28 (Reg 1) 27 ∷ []) (listed (record y { r1 = cond (is_negative y.r25) 1 0; r28 = cond t 1 0 }))) e
-    ∙ ap (λ u. after (Operate Xor 28 (Reg 1) 28 ∷ Operate Subq 31 (Reg 27) 1 ∷ Operate Cmovne 28 (Reg 1) 27 ∷ []) (listed (record y { r1 = cond u 1 0; r28 = 1 }))) f
+    ap (λ t. after (Operate Xor 28 (Reg 1) 28 ∷ Operate Subq 31 (Reg 27) 1 ∷ Operate Cmovne 28 (Reg 1) 27 ∷ []) (listed_registers (record y { r1 = cond (is_negative y.r25) 1 0; r28 = cond t 1 0 }))) e
+    ∙ ap (λ u. after (Operate Xor 28 (Reg 1) 28 ∷ Operate Subq 31 (Reg 27) 1 ∷ Operate Cmovne 28 (Reg 1) 27 ∷ []) (listed_registers (record y { r1 = cond u 1 0; r28 = 1 }))) f
 quotient_answered y false true e f =
-    ap (λ t. after (Operate Xor 28 (Reg 1) 28 ∷ Operate Subq 31 (Reg 27) 1 ∷ Operate Cmovne 28 (Reg 1) 27 ∷ []) (listed (record y { r1 = cond (is_negative y.r25) 1 0; r28 = cond t 1 0 }))) e
-    ∙ ap (λ u. after (Operate Xor 28 (Reg 1) 28 ∷ Operate Subq 31 (Reg 27) 1 ∷ Operate Cmovne 28 (Reg 1) 27 ∷ []) (listed (record y { r1 = cond u 1 0; r28 = 0 }))) f
+    ap (λ t. after (Operate Xor 28 (Reg 1) 28 ∷ Operate Subq 31 (Reg 27) 1 ∷ Operate Cmovne 28 (Reg 1) 27 ∷ []) (listed_registers (record y { r1 = cond (is_negative y.r25) 1 0; r28 = cond t 1 0 }))) e
+    ∙ ap (λ u. after (Operate Xor 28 (Reg 1) 28 ∷ Operate Subq 31 (Reg 27) 1 ∷ Operate Cmovne 28 (Reg 1) 27 ∷ []) (listed_registers (record y { r1 = cond u 1 0; r28 = 0 }))) f
 quotient_answered y false false e f =
-    ap (λ t. after (Operate Xor 28 (Reg 1) 28 ∷ Operate Subq 31 (Reg 27) 1 ∷ Operate Cmovne 28 (Reg 1) 27 ∷ []) (listed (record y { r1 = cond (is_negative y.r25) 1 0; r28 = cond t 1 0 }))) e
-    ∙ ap (λ u. after (Operate Xor 28 (Reg 1) 28 ∷ Operate Subq 31 (Reg 27) 1 ∷ Operate Cmovne 28 (Reg 1) 27 ∷ []) (listed (record y { r1 = cond u 1 0; r28 = 0 }))) f
+    ap (λ t. after (Operate Xor 28 (Reg 1) 28 ∷ Operate Subq 31 (Reg 27) 1 ∷ Operate Cmovne 28 (Reg 1) 27 ∷ []) (listed_registers (record y { r1 = cond (is_negative y.r25) 1 0; r28 = cond t 1 0 }))) e
+    ∙ ap (λ u. after (Operate Xor 28 (Reg 1) 28 ∷ Operate Subq 31 (Reg 27) 1 ∷ Operate Cmovne 28 (Reg 1) 27 ∷ []) (listed_registers (record y { r1 = cond u 1 0; r28 = 0 }))) f
 
-remainder_answered : (y : RegisterFile) (t : Bool) → is_negative y.r24 ≡ t → after signed_remainder (listed y) ≡ Some (listed (record y { r27 = size_of t y.r1; r28 = cond t 1 0 }))
+remainder_answered : (y : RegisterFile) (t : Bool) → is_negative y.r24 ≡ t → after signed_remainder (listed_registers y) ≡ Some (listed_registers (record y { r27 = size_of t y.r1; r28 = cond t 1 0 }))
 unfolding is_negative size_of
-remainder_answered y true e = ap (λ t. after (Operate Cmoveq 28 (Reg 1) 27 ∷ []) (listed (record y { r27 = word_at (word_difference 0 y.r1); r28 = cond t 1 0 }))) e
-remainder_answered y false e = ap (λ t. after (Operate Cmoveq 28 (Reg 1) 27 ∷ []) (listed (record y { r27 = word_at (word_difference 0 y.r1); r28 = cond t 1 0 }))) e
+remainder_answered y true e = ap (λ t. after (Operate Cmoveq 28 (Reg 1) 27 ∷ []) (listed_registers (record y { r27 = word_at (word_difference 0 y.r1); r28 = cond t 1 0 }))) e
+remainder_answered y false e = ap (λ t. after (Operate Cmoveq 28 (Reg 1) 27 ∷ []) (listed_registers (record y { r27 = word_at (word_difference 0 y.r1); r28 = cond t 1 0 }))) e
 
 -- ---- calls
 
 -- a routine that divides absolute values, and its test
 record SignedParts (r : Routine) (op : OperateOp) (w : Width) (operation : ℤ → ℤ → ℤ) (p : Program) (s : State) (a : ℕ) (x : RegisterFile) : Type 0 where
-  placed : Placed p a (least_test op)
+  placed : CodeStandsAt p a (least_test op)
   room : a + 12 < 2 ^ 64
   divisor_word : x.r25 < 2 ^ 64
   negation : Negation op w x.r24
@@ -298,24 +298,24 @@ record SignedParts (r : Routine) (op : OperateOp) (w : Width) (operation : ℤ �
   parts : Passes p s a x → Parts r p s a x (size_of (is_negative x.r24) x.r24) (size_of (is_negative x.r25) x.r25) answer
   answer_is : answer ≡ word_from (operation (signed_value w x.r24) (signed_value w x.r25))
 
-signed_by : (r : Routine) (op : OperateOp) (w : Width) (operation : ℤ → ℤ → ℤ) (p : Program) (word : ℕ) (s : State) (a : ℕ) (x : RegisterFile) → IsCall p word r (at s a (listed x)) → SignedParts r op w operation p s a x → (l : Bool) → is_least_by_minus_one w x.r24 x.r25 ≡ l →
-    RoutineDoes p (at s a (listed x)) (cond (eqb x.r25 0) (Traps 1) (cond l (Traps 3) (Answers (word_from (operation (signed_value w x.r24) (signed_value w x.r25))))))
+signed_by : (r : Routine) (op : OperateOp) (w : Width) (operation : ℤ → ℤ → ℤ) (p : Program) (word : ℕ) (s : State) (a : ℕ) (x : RegisterFile) → IsCall p word r (at s a (listed_registers x)) → SignedParts r op w operation p s a x → (l : Bool) → is_least_by_minus_one w x.r24 x.r25 ≡ l →
+    RoutineDoes p (at s a (listed_registers x)) (cond (eqb x.r25 0) (Traps 1) (cond l (Traps 3) (Answers (word_from (operation (signed_value w x.r24) (signed_value w x.r25))))))
 signed_by r op w operation p word s a x call q true e =
     let both = and_parts (eqb x.r24 (2 ^ 64 - 2 ^ hbits w)) (eqb x.r25 (2 ^ 64 - 1)) e in
     let minus : x.r25 ≡ 2 ^ 64 - 1 = eqb-true x.r25 (2 ^ 64 - 1) both.1 in
     let least : x.r24 ≡ 2 ^ 64 - 2 ^ hbits w = eqb-true x.r24 (2 ^ 64 - 2 ^ hbits w) both.0 in
     let some : eqb x.r25 0 ≡ false = ne_eqb x.r25 0 (λ z. absurd (omega arith)) in
-    subst (λ b. RoutineDoes p (at s a (listed x)) (cond b (Traps 1) (Traps 3))) (sym some) (least_traps op p s a x q.placed minus (q.negation.overflows least))
+    subst (λ b. RoutineDoes p (at s a (listed_registers x)) (cond b (Traps 1) (Traps 3))) (sym some) (least_traps op p s a x q.placed minus (q.negation.overflows least))
 signed_by r op w operation p word s a x call q false e =
     let passes : Passes p s a x = passes_by op w p s a x q.placed q.room q.divisor_word q.negation e (eqb x.r25 (2 ^ 64 - 1)) refl in
     let d : ℕ = size_of (is_negative x.r25) x.r25 in
     let sign : HasSign x.r25 (is_negative x.r25) = sign_of x.r25 q.divisor_word in
-    subst (λ b. RoutineDoes p (at s a (listed x)) (cond b (Traps 1) (Answers (word_from (operation (signed_value w x.r24) (signed_value w x.r25)))))) sign.zero_alike
-    (subst (λ n. RoutineDoes p (at s a (listed x)) (cond (eqb d 0) (Traps 1) (Answers n))) q.answer_is
+    subst (λ b. RoutineDoes p (at s a (listed_registers x)) (cond b (Traps 1) (Answers (word_from (operation (signed_value w x.r24) (signed_value w x.r25)))))) sign.zero_alike
+    (subst (λ n. RoutineDoes p (at s a (listed_registers x)) (cond (eqb d 0) (Traps 1) (Answers n))) q.answer_is
     (by_divisor r p word s a x (size_of (is_negative x.r24) x.r24) d q.answer call (q.parts passes) (eqb d 0) refl))
 
-signed_does : (r : Routine) (op : OperateOp) (w : Width) (operation : ℤ → ℤ → ℤ) (p : Program) (word : ℕ) (s : State) (a : ℕ) (x : RegisterFile) → IsCall p word r (at s a (listed x)) → SignedParts r op w operation p s a x →
-    RoutineDoes p (at s a (listed x)) (signed_outcome w operation x.r24 x.r25)
+signed_does : (r : Routine) (op : OperateOp) (w : Width) (operation : ℤ → ℤ → ℤ) (p : Program) (word : ℕ) (s : State) (a : ℕ) (x : RegisterFile) → IsCall p word r (at s a (listed_registers x)) → SignedParts r op w operation p s a x →
+    RoutineDoes p (at s a (listed_registers x)) (signed_outcome w operation x.r24 x.r25)
 signed_does r op w operation p word s a x call q = signed_by r op w operation p word s a x call q (is_least_by_minus_one w x.r24 x.r25) refl
 
 -- what is answered, by the signs
@@ -335,7 +335,7 @@ remainder_is w a b m n =
     ∙ ap (λ z. word_from (int_rem (cond (is_negative a) (negsuc (2 ^ 64 - suc a)) (pos a)) z)) (n.value ∙ u.same)
     ∙ remainder_signed (is_negative a) (is_negative b) a b (size_of (is_negative a) a) (size_of (is_negative b) b) t.size u.size t.small)
 
-divq_parts : (p : Program) (word : ℕ) (s : State) (a : ℕ) (x : RegisterFile) → IsCall p word Divq (at s a (listed x)) → SignedParts Divq SubqV w64 int_div p s a x
+divq_parts : (p : Program) (word : ℕ) (s : State) (a : ℕ) (x : RegisterFile) → IsCall p word Divq (at s a (listed_registers x)) → SignedParts Divq SubqV w64 int_div p s a x
 divq_parts p word s a x call =
     let place = test_at Divq p word a call.lawful call.code_stands call.at_entry in
     let dividend : IsNumber w64 x.r24 = quad_number x.r24 (call.words 24) in
@@ -360,7 +360,7 @@ divq_parts p word s a x call =
 pub divq_divides : Divides Divq
 divq_divides = from_files Divq (λ p word s a x call. signed_does Divq SubqV w64 int_div p word s a x call (divq_parts p word s a x call))
 
-remq_parts : (p : Program) (word : ℕ) (s : State) (a : ℕ) (x : RegisterFile) → IsCall p word Remq (at s a (listed x)) → SignedParts Remq SubqV w64 int_rem p s a x
+remq_parts : (p : Program) (word : ℕ) (s : State) (a : ℕ) (x : RegisterFile) → IsCall p word Remq (at s a (listed_registers x)) → SignedParts Remq SubqV w64 int_rem p s a x
 remq_parts p word s a x call =
     let place = test_at Remq p word a call.lawful call.code_stands call.at_entry in
     let dividend : IsNumber w64 x.r24 = quad_number x.r24 (call.words 24) in
@@ -385,7 +385,7 @@ remq_parts p word s a x call =
 pub remq_divides : Divides Remq
 remq_divides = from_files Remq (λ p word s a x call. signed_does Remq SubqV w64 int_rem p word s a x call (remq_parts p word s a x call))
 
-divl_parts : (p : Program) (word : ℕ) (s : State) (a : ℕ) (x : RegisterFile) → IsCall p word Divl (at s a (listed x)) → SignedParts Divl SublV w32 int_div p s a x
+divl_parts : (p : Program) (word : ℕ) (s : State) (a : ℕ) (x : RegisterFile) → IsCall p word Divl (at s a (listed_registers x)) → SignedParts Divl SublV w32 int_div p s a x
 divl_parts p word s a x call =
     let place = test_at Divl p word a call.lawful call.code_stands call.at_entry in
     let dividend : IsNumber w32 x.r24 = long_number x.r24 (call.words 24) call.dividend in
@@ -410,7 +410,7 @@ divl_parts p word s a x call =
 pub divl_divides : Divides Divl
 divl_divides = from_files Divl (λ p word s a x call. signed_does Divl SublV w32 int_div p word s a x call (divl_parts p word s a x call))
 
-reml_parts : (p : Program) (word : ℕ) (s : State) (a : ℕ) (x : RegisterFile) → IsCall p word Reml (at s a (listed x)) → SignedParts Reml SublV w32 int_rem p s a x
+reml_parts : (p : Program) (word : ℕ) (s : State) (a : ℕ) (x : RegisterFile) → IsCall p word Reml (at s a (listed_registers x)) → SignedParts Reml SublV w32 int_rem p s a x
 reml_parts p word s a x call =
     let place = test_at Reml p word a call.lawful call.code_stands call.at_entry in
     let dividend : IsNumber w32 x.r24 = long_number x.r24 (call.words 24) call.dividend in

@@ -11,8 +11,8 @@ use Rattle.alpha_isa.specs.Program.{Program, instruction_at, data_start, stack_s
 use Rattle.alpha_isa.specs.State.{State, with_register, with_part, byte_range, lies_in, bytes_at, with_bytes}
 use Rattle.alpha_isa.specs.Step.{Goes, next_instruction, load_into, go_on_stored}
 use Rattle.alpha_rt.specs.Code.{prologue, epilogue}
-use Rattle.alpha_rt.proofs.Runs.{Reaches, then_reaches, one_reaches, Placed, at, register_of, put, put_step}
-use Rattle.alpha_rt.proofs.Registers.{RegisterFile, listed}
+use Rattle.alpha_rt.proofs.Runs.{Reaches, then_reaches, one_reaches, CodeStandsAt, at, register_of, put, put_step}
+use Rattle.alpha_rt.proofs.Registers.{RegisterFile, listed_registers}
 
 -- ---- parts of lists
 
@@ -132,8 +132,8 @@ loaded p s a rs ra disp address word f b h e slot small =
 lowered : (top n : ℕ) → n ≤ top → n ≤ 2 ^ 64 → top < 2 ^ 64 → word_at (top + (2 ^ 64 - n)) ≡ top - n
 lowered top n low small word = omega arith
 
-abbrev pub spelled : ℕ → List ℕ
-spelled word = to_le_bytes w64 word
+abbrev pub spelled_word : ℕ → List ℕ
+spelled_word word = to_le_bytes w64 word
 
 -- a stack whose 32 bytes behind a front are four words, the last of register 1
 abbrev pub frame : List ℕ → List ℕ → List ℕ → List ℕ → List ℕ → List ℕ → List ℕ
@@ -176,49 +176,49 @@ slot1 p s top f m4 m3 m2 m1 b h = record { aligned = omega arith; data_below = h
 abbrev pub over : State → List ℕ → State
 over s l = record s { stack_bytes = l }
 
-pub saved : (p : Program) (s : State) (a : ℕ) (x : RegisterFile) (f m4 m3 m2 m1 b : List ℕ) → Placed p a prologue → IsFrame p s x.r30 f m4 m3 m2 m1 b →
-    Reaches p 4 (at s a (listed x)) (at (over s (frame f (spelled x.r4) (spelled x.r3) (spelled x.r2) (spelled x.r1) b)) (a + 16) (listed x))
-saved p s a x f m4 m3 m2 m1 b h k =
+pub saved_in_frame : (p : Program) (s : State) (a : ℕ) (x : RegisterFile) (f m4 m3 m2 m1 b : List ℕ) → CodeStandsAt p a prologue → IsFrame p s x.r30 f m4 m3 m2 m1 b →
+    Reaches p 4 (at s a (listed_registers x)) (at (over s (frame f (spelled_word x.r4) (spelled_word x.r3) (spelled_word x.r2) (spelled_word x.r1) b)) (a + 16) (listed_registers x))
+saved_in_frame p s a x f m4 m3 m2 m1 b h k =
     let room : 32 ≤ x.r30 = omega (arith, k.top_is) in
-    let s1 : State = over s (frame f m4 m3 m2 (spelled x.r1) b) in
-    let s2 : State = over s (frame f m4 m3 (spelled x.r2) (spelled x.r1) b) in
-    let s3 : State = over s (frame f m4 (spelled x.r3) (spelled x.r2) (spelled x.r1) b) in
-    let s4 : State = over s (frame f (spelled x.r4) (spelled x.r3) (spelled x.r2) (spelled x.r1) b) in
-    let k1 : IsFrame p s1 x.r30 f m4 m3 m2 (spelled x.r1) b = record { aligned = k.aligned; word = k.word; data_below = k.data_below; top_is = k.top_is; eight4 = k.eight4; eight3 = k.eight3; eight2 = k.eight2; eight1 = refl; stack = refl } in
-    let k2 : IsFrame p s2 x.r30 f m4 m3 (spelled x.r2) (spelled x.r1) b = record { aligned = k.aligned; word = k.word; data_below = k.data_below; top_is = k.top_is; eight4 = k.eight4; eight3 = k.eight3; eight2 = refl; eight1 = refl; stack = refl } in
-    let k3 : IsFrame p s3 x.r30 f m4 (spelled x.r3) (spelled x.r2) (spelled x.r1) b = record { aligned = k.aligned; word = k.word; data_below = k.data_below; top_is = k.top_is; eight4 = k.eight4; eight3 = refl; eight2 = refl; eight1 = refl; stack = refl } in
-    let first : Reaches p 1 (at s a (listed x)) (at s1 (a + 4) (listed x)) =
-    subst (λ l. Reaches p 1 (at s a (listed x)) (at (over s l) (a + 4) (listed x))) (sym (fourth f m4 m3 m2 (spelled x.r1 ++ b)))
-    (stored p s a (listed x) 1 (negsuc 7) (x.r30 - 8) (((f ++ m4) ++ m3) ++ m2) m1 b h.0 (lowered x.r30 8 (omega arith) (omega arith) k.word) (slot1 p s x.r30 f m4 m3 m2 m1 b k)) in
-    let next : Reaches p 1 (at s1 (a + 4) (listed x)) (at s2 (a + 4 + 4) (listed x)) =
-    subst (λ l. Reaches p 1 (at s1 (a + 4) (listed x)) (at (over s l) (a + 4 + 4) (listed x))) (sym (third f m4 m3 (spelled x.r2 ++ (spelled x.r1 ++ b))))
-    (stored p s1 (a + 4) (listed x) 2 (negsuc 15) (x.r30 - 16) ((f ++ m4) ++ m3) m2 (spelled x.r1 ++ b) h.1.0 (lowered x.r30 16 (omega arith) (omega arith) k.word) (slot2 p s1 x.r30 f m4 m3 m2 (spelled x.r1) b k1)) in
-    let then : Reaches p 1 (at s2 (a + 4 + 4) (listed x)) (at s3 (a + 4 + 4 + 4) (listed x)) =
-    subst (λ l. Reaches p 1 (at s2 (a + 4 + 4) (listed x)) (at (over s l) (a + 4 + 4 + 4) (listed x))) (sym (second f m4 (spelled x.r3 ++ (spelled x.r2 ++ (spelled x.r1 ++ b)))))
-    (stored p s2 (a + 4 + 4) (listed x) 3 (negsuc 23) (x.r30 - 24) (f ++ m4) m3 (spelled x.r2 ++ (spelled x.r1 ++ b)) h.1.1.0 (lowered x.r30 24 (omega arith) (omega arith) k.word) (slot3 p s2 x.r30 f m4 m3 (spelled x.r2) (spelled x.r1) b k2)) in
-    let last : Reaches p 1 (at s3 (a + 4 + 4 + 4) (listed x)) (at s4 (a + 4 + 4 + 4 + 4) (listed x)) =
-    stored p s3 (a + 4 + 4 + 4) (listed x) 4 (negsuc 31) (x.r30 - 32) f m4 (spelled x.r3 ++ (spelled x.r2 ++ (spelled x.r1 ++ b))) h.1.1.1.0 (lowered x.r30 32 (omega arith) (omega arith) k.word) (slot4 p s3 x.r30 f m4 (spelled x.r3) (spelled x.r2) (spelled x.r1) b k3) in
+    let s1 : State = over s (frame f m4 m3 m2 (spelled_word x.r1) b) in
+    let s2 : State = over s (frame f m4 m3 (spelled_word x.r2) (spelled_word x.r1) b) in
+    let s3 : State = over s (frame f m4 (spelled_word x.r3) (spelled_word x.r2) (spelled_word x.r1) b) in
+    let s4 : State = over s (frame f (spelled_word x.r4) (spelled_word x.r3) (spelled_word x.r2) (spelled_word x.r1) b) in
+    let k1 : IsFrame p s1 x.r30 f m4 m3 m2 (spelled_word x.r1) b = record { aligned = k.aligned; word = k.word; data_below = k.data_below; top_is = k.top_is; eight4 = k.eight4; eight3 = k.eight3; eight2 = k.eight2; eight1 = refl; stack = refl } in
+    let k2 : IsFrame p s2 x.r30 f m4 m3 (spelled_word x.r2) (spelled_word x.r1) b = record { aligned = k.aligned; word = k.word; data_below = k.data_below; top_is = k.top_is; eight4 = k.eight4; eight3 = k.eight3; eight2 = refl; eight1 = refl; stack = refl } in
+    let k3 : IsFrame p s3 x.r30 f m4 (spelled_word x.r3) (spelled_word x.r2) (spelled_word x.r1) b = record { aligned = k.aligned; word = k.word; data_below = k.data_below; top_is = k.top_is; eight4 = k.eight4; eight3 = refl; eight2 = refl; eight1 = refl; stack = refl } in
+    let first : Reaches p 1 (at s a (listed_registers x)) (at s1 (a + 4) (listed_registers x)) =
+    subst (λ l. Reaches p 1 (at s a (listed_registers x)) (at (over s l) (a + 4) (listed_registers x))) (sym (fourth f m4 m3 m2 (spelled_word x.r1 ++ b)))
+    (stored p s a (listed_registers x) 1 (negsuc 7) (x.r30 - 8) (((f ++ m4) ++ m3) ++ m2) m1 b h.0 (lowered x.r30 8 (omega arith) (omega arith) k.word) (slot1 p s x.r30 f m4 m3 m2 m1 b k)) in
+    let next : Reaches p 1 (at s1 (a + 4) (listed_registers x)) (at s2 (a + 4 + 4) (listed_registers x)) =
+    subst (λ l. Reaches p 1 (at s1 (a + 4) (listed_registers x)) (at (over s l) (a + 4 + 4) (listed_registers x))) (sym (third f m4 m3 (spelled_word x.r2 ++ (spelled_word x.r1 ++ b))))
+    (stored p s1 (a + 4) (listed_registers x) 2 (negsuc 15) (x.r30 - 16) ((f ++ m4) ++ m3) m2 (spelled_word x.r1 ++ b) h.1.0 (lowered x.r30 16 (omega arith) (omega arith) k.word) (slot2 p s1 x.r30 f m4 m3 m2 (spelled_word x.r1) b k1)) in
+    let then : Reaches p 1 (at s2 (a + 4 + 4) (listed_registers x)) (at s3 (a + 4 + 4 + 4) (listed_registers x)) =
+    subst (λ l. Reaches p 1 (at s2 (a + 4 + 4) (listed_registers x)) (at (over s l) (a + 4 + 4 + 4) (listed_registers x))) (sym (second f m4 (spelled_word x.r3 ++ (spelled_word x.r2 ++ (spelled_word x.r1 ++ b)))))
+    (stored p s2 (a + 4 + 4) (listed_registers x) 3 (negsuc 23) (x.r30 - 24) (f ++ m4) m3 (spelled_word x.r2 ++ (spelled_word x.r1 ++ b)) h.1.1.0 (lowered x.r30 24 (omega arith) (omega arith) k.word) (slot3 p s2 x.r30 f m4 m3 (spelled_word x.r2) (spelled_word x.r1) b k2)) in
+    let last : Reaches p 1 (at s3 (a + 4 + 4 + 4) (listed_registers x)) (at s4 (a + 4 + 4 + 4 + 4) (listed_registers x)) =
+    stored p s3 (a + 4 + 4 + 4) (listed_registers x) 4 (negsuc 31) (x.r30 - 32) f m4 (spelled_word x.r3 ++ (spelled_word x.r2 ++ (spelled_word x.r1 ++ b))) h.1.1.1.0 (lowered x.r30 32 (omega arith) (omega arith) k.word) (slot4 p s3 x.r30 f m4 (spelled_word x.r3) (spelled_word x.r2) (spelled_word x.r1) b k3) in
     let end : a + 4 + 4 + 4 + 4 ≡ a + 16 = omega arith in
-    subst (λ to. Reaches p 4 (at s a (listed x)) (at s4 to (listed x))) end
+    subst (λ to. Reaches p 4 (at s a (listed_registers x)) (at s4 to (listed_registers x))) end
     (then_reaches p 3 1 _ _ _ (then_reaches p 2 1 _ _ _ (then_reaches p 1 1 _ _ _ first next) then) last)
 
 -- the four words come back, and the machine goes on at the address in register 23
-pub restored : (p : Program) (s : State) (a : ℕ) (y : RegisterFile) (v1 v2 v3 v4 : ℕ) (f b : List ℕ) → Placed p a epilogue → IsFrame p s y.r30 f (spelled v4) (spelled v3) (spelled v2) (spelled v1) b → v1 < 2 ^ 64 → v2 < 2 ^ 64 → v3 < 2 ^ 64 → v4 < 2 ^ 64 →
-    Reaches p 5 (at s a (listed y)) (at s (y.r23 / 4 * 4) (listed (record y { r1 = v1; r2 = v2; r3 = v3; r4 = v4 })))
-restored p s a y v1 v2 v3 v4 f b h k w1 w2 w3 w4 =
+pub restored_from_frame : (p : Program) (s : State) (a : ℕ) (y : RegisterFile) (v1 v2 v3 v4 : ℕ) (f b : List ℕ) → CodeStandsAt p a epilogue → IsFrame p s y.r30 f (spelled_word v4) (spelled_word v3) (spelled_word v2) (spelled_word v1) b → v1 < 2 ^ 64 → v2 < 2 ^ 64 → v3 < 2 ^ 64 → v4 < 2 ^ 64 →
+    Reaches p 5 (at s a (listed_registers y)) (at s (y.r23 / 4 * 4) (listed_registers (record y { r1 = v1; r2 = v2; r3 = v3; r4 = v4 })))
+restored_from_frame p s a y v1 v2 v3 v4 f b h k w1 w2 w3 w4 =
     let room : 32 ≤ y.r30 = omega (arith, k.top_is) in
     let y1 : RegisterFile = record y { r1 = v1 } in
     let y2 : RegisterFile = record y1 { r2 = v2 } in
     let y3 : RegisterFile = record y2 { r3 = v3 } in
     let y4 : RegisterFile = record y3 { r4 = v4 } in
-    let first : Reaches p 1 (at s a (listed y)) (at s (a + 4) (listed y1)) =
-    loaded p s a (listed y) 1 (negsuc 7) (y.r30 - 8) v1 (((f ++ spelled v4) ++ spelled v3) ++ spelled v2) b h.0 (lowered y.r30 8 (omega arith) (omega arith) k.word) (slot1 p s y.r30 f (spelled v4) (spelled v3) (spelled v2) (spelled v1) b k) w1 in
-    let next : Reaches p 1 (at s (a + 4) (listed y1)) (at s (a + 4 + 4) (listed y2)) =
-    loaded p s (a + 4) (listed y1) 2 (negsuc 15) (y.r30 - 16) v2 ((f ++ spelled v4) ++ spelled v3) (spelled v1 ++ b) h.1.0 (lowered y.r30 16 (omega arith) (omega arith) k.word) (slot2 p s y.r30 f (spelled v4) (spelled v3) (spelled v2) (spelled v1) b k) w2 in
-    let then : Reaches p 1 (at s (a + 4 + 4) (listed y2)) (at s (a + 4 + 4 + 4) (listed y3)) =
-    loaded p s (a + 4 + 4) (listed y2) 3 (negsuc 23) (y.r30 - 24) v3 (f ++ spelled v4) (spelled v2 ++ (spelled v1 ++ b)) h.1.1.0 (lowered y.r30 24 (omega arith) (omega arith) k.word) (slot3 p s y.r30 f (spelled v4) (spelled v3) (spelled v2) (spelled v1) b k) w3 in
-    let last : Reaches p 1 (at s (a + 4 + 4 + 4) (listed y3)) (at s (a + 4 + 4 + 4 + 4) (listed y4)) =
-    loaded p s (a + 4 + 4 + 4) (listed y3) 4 (negsuc 31) (y.r30 - 32) v4 f (spelled v3 ++ (spelled v2 ++ (spelled v1 ++ b))) h.1.1.1.0 (lowered y.r30 32 (omega arith) (omega arith) k.word) (slot4 p s y.r30 f (spelled v4) (spelled v3) (spelled v2) (spelled v1) b k) w4 in
-    let returns : Reaches p 1 (at s (a + 4 + 4 + 4 + 4) (listed y4)) (at s (y.r23 / 4 * 4) (listed y4)) =
-    one_reaches p (Jump Ret 31 23) (at s (a + 4 + 4 + 4 + 4) (listed y4)) (at s (y.r23 / 4 * 4) (listed y4)) h.1.1.1.1.0 refl in
+    let first : Reaches p 1 (at s a (listed_registers y)) (at s (a + 4) (listed_registers y1)) =
+    loaded p s a (listed_registers y) 1 (negsuc 7) (y.r30 - 8) v1 (((f ++ spelled_word v4) ++ spelled_word v3) ++ spelled_word v2) b h.0 (lowered y.r30 8 (omega arith) (omega arith) k.word) (slot1 p s y.r30 f (spelled_word v4) (spelled_word v3) (spelled_word v2) (spelled_word v1) b k) w1 in
+    let next : Reaches p 1 (at s (a + 4) (listed_registers y1)) (at s (a + 4 + 4) (listed_registers y2)) =
+    loaded p s (a + 4) (listed_registers y1) 2 (negsuc 15) (y.r30 - 16) v2 ((f ++ spelled_word v4) ++ spelled_word v3) (spelled_word v1 ++ b) h.1.0 (lowered y.r30 16 (omega arith) (omega arith) k.word) (slot2 p s y.r30 f (spelled_word v4) (spelled_word v3) (spelled_word v2) (spelled_word v1) b k) w2 in
+    let then : Reaches p 1 (at s (a + 4 + 4) (listed_registers y2)) (at s (a + 4 + 4 + 4) (listed_registers y3)) =
+    loaded p s (a + 4 + 4) (listed_registers y2) 3 (negsuc 23) (y.r30 - 24) v3 (f ++ spelled_word v4) (spelled_word v2 ++ (spelled_word v1 ++ b)) h.1.1.0 (lowered y.r30 24 (omega arith) (omega arith) k.word) (slot3 p s y.r30 f (spelled_word v4) (spelled_word v3) (spelled_word v2) (spelled_word v1) b k) w3 in
+    let last : Reaches p 1 (at s (a + 4 + 4 + 4) (listed_registers y3)) (at s (a + 4 + 4 + 4 + 4) (listed_registers y4)) =
+    loaded p s (a + 4 + 4 + 4) (listed_registers y3) 4 (negsuc 31) (y.r30 - 32) v4 f (spelled_word v3 ++ (spelled_word v2 ++ (spelled_word v1 ++ b))) h.1.1.1.0 (lowered y.r30 32 (omega arith) (omega arith) k.word) (slot4 p s y.r30 f (spelled_word v4) (spelled_word v3) (spelled_word v2) (spelled_word v1) b k) w4 in
+    let returns : Reaches p 1 (at s (a + 4 + 4 + 4 + 4) (listed_registers y4)) (at s (y.r23 / 4 * 4) (listed_registers y4)) =
+    one_reaches p (Jump Ret 31 23) (at s (a + 4 + 4 + 4 + 4) (listed_registers y4)) (at s (y.r23 / 4 * 4) (listed_registers y4)) h.1.1.1.1.0 refl in
     then_reaches p 4 1 _ _ _ (then_reaches p 3 1 _ _ _ (then_reaches p 2 1 _ _ _ (then_reaches p 1 1 _ _ _ first next) then) last) returns

@@ -166,18 +166,18 @@ abbrev pub epilogue_entry : ℕ
 epilogue_entry = 151
 
 -- the part of a routine up to the common part, and the part behind it
-abbrev pub opening : Routine → List Fields
-opening r = test_of r ++ (prologue ++ operands_of r)
+abbrev pub opening_code : Routine → List Fields
+opening_code r = test_of r ++ (prologue ++ operands_of r)
 
 abbrev pub call_place : Routine → ℕ
-call_place r = entry r + length (opening r)
+call_place r = entry r + length (opening_code r)
 
 abbrev pub exit_place : Routine → ℕ
 exit_place r = call_place r + 1 + length (answer_of r)
 
 abbrev pub routine_code : Routine → List Fields
 routine_code r =
-    opening r
+    opening_code r
     ++ (Branch Bsr 4 (pos (common_entry - (call_place r + 1)))
     ∷ (answer_of r ++ Branch Br 31 (pos (epilogue_entry - (exit_place r + 1))) ∷ []))
 

@@ -1,6 +1,7 @@
 -- What is asked where the blocks of a function are selected.
 use Rattle.std.proofs.Common.{ℕ, ◌+◌, ◌^◌, ◌<◌, ◌≤◌, List, [], ◌∷◌, length, sum_by, Option, Some, None, All, arith}
 use Rattle.std.proofs.lemmas.List.Sums.{sum_by-cons}
+use Rattle.std.proofs.lemmas.List.Elements.{All-nil, All-cons, All-head, All-tail}
 use Rattle.suifvm_ir.specs.Functions.{AllInsns, UsesRegisters, count_of}
 use Rattle.suifvm_ir.specs.Insns.{reads_of, writes_of}
 use Rattle.suifvm_ir.specs.Programs.{VmFunction, IsLawfulFunction, weight_of, function_size, program_size}
@@ -11,7 +12,6 @@ use Rattle.suifvm_ir.specs.declared.insn.VmInsn.TheVariants as x
 use Rattle.selection_code.specs.Fields.{IsNumbered, HasNumbers}
 use Rattle.selection_code.specs.Functions.{selected_blocks}
 use Rattle.selection_costs.proofs.Lengths.{code_short}
-use Rattle.selection_shapes.proofs.Lists.{all_nil, all_more, all_first, all_rest}
 use Rattle.alpha_select.specs.model.Limits.{IsWithinLimits}
 
 few_returned : (value : Option TypedRegister) → length (reads_of (x.Return value)) ≤ 3
@@ -48,32 +48,32 @@ module _ (temps : ℕ) (le : temps ≤ 2 ^ 24) where
   }
 
   block_numbers : (insns : List VmInsn) → sum_by weight_of insns ≤ 2 ^ 24 → All (UsesRegisters reads_of writes_of temps) insns → All HasNumbers insns
-  block_numbers [] small h = all_nil HasNumbers
+  block_numbers [] small h = All-nil HasNumbers
   block_numbers (y ∷ insns) small h =
-      all_more HasNumbers y insns (insn_numbers y (omega (arith, small, sum_by-cons weight_of y insns)) (all_first (UsesRegisters reads_of writes_of temps) y insns h))
-      (block_numbers insns (omega (arith, small, sum_by-cons weight_of y insns)) (all_rest (UsesRegisters reads_of writes_of temps) y insns h))
+      All-cons HasNumbers y insns (insn_numbers y (omega (arith, small, sum_by-cons weight_of y insns)) (All-head (UsesRegisters reads_of writes_of temps) y insns h))
+      (block_numbers insns (omega (arith, small, sum_by-cons weight_of y insns)) (All-tail (UsesRegisters reads_of writes_of temps) y insns h))
 
   blocks_numbers : (blocks : List (List VmInsn)) → sum_by (λ block. sum_by weight_of block) blocks ≤ 2 ^ 24 → AllInsns (UsesRegisters reads_of writes_of temps) blocks → AllInsns HasNumbers blocks
-  blocks_numbers [] small h = all_nil (All HasNumbers)
+  blocks_numbers [] small h = All-nil (All HasNumbers)
   blocks_numbers (block ∷ blocks) small h =
-      all_more (All HasNumbers) block blocks
-      (block_numbers block (omega (arith, small, sum_by-cons (λ b. sum_by weight_of b) block blocks)) (all_first (All (UsesRegisters reads_of writes_of temps)) block blocks h))
-      (blocks_numbers blocks (omega (arith, small, sum_by-cons (λ b. sum_by weight_of b) block blocks)) (all_rest (All (UsesRegisters reads_of writes_of temps)) block blocks h))
+      All-cons (All HasNumbers) block blocks
+      (block_numbers block (omega (arith, small, sum_by-cons (λ b. sum_by weight_of b) block blocks)) (All-head (All (UsesRegisters reads_of writes_of temps)) block blocks h))
+      (blocks_numbers blocks (omega (arith, small, sum_by-cons (λ b. sum_by weight_of b) block blocks)) (All-tail (All (UsesRegisters reads_of writes_of temps)) block blocks h))
 
 pub numbers : (f : VmFunction) → IsWithinLimits f → AllInsns HasNumbers f.blocks
 numbers f w = blocks_numbers f.temps w.temps f.blocks (omega (arith, w.size)) f.registers
 
 -- each function of a lawful program within the bounds is within them
 pub within : (fs all : List VmFunction) (globals : List DataObject) → program_size fs ≤ 2 ^ 24 → All (λ (f : VmFunction). f.temps ≤ 2 ^ 24) fs → All (IsLawfulFunction all globals) fs → All IsWithinLimits fs
-within [] all globals size temps lawful = all_nil IsWithinLimits
+within [] all globals size temps lawful = All-nil IsWithinLimits
 within (f ∷ fs) all globals size temps lawful =
-    all_more IsWithinLimits f fs
+    All-cons IsWithinLimits f fs
     (record {
-      params = (all_first (IsLawfulFunction all globals) f fs lawful).parameters;
-      temps = all_first (λ (g : VmFunction). g.temps ≤ 2 ^ 24) f fs temps;
+      params = (All-head (IsLawfulFunction all globals) f fs lawful).parameters;
+      temps = All-head (λ (g : VmFunction). g.temps ≤ 2 ^ 24) f fs temps;
       size = omega (arith, size, sum_by-cons function_size f fs);
     })
-    (within fs all globals (omega (arith, size, sum_by-cons function_size f fs)) (all_rest (λ (g : VmFunction). g.temps ≤ 2 ^ 24) f fs temps) (all_rest (IsLawfulFunction all globals) f fs lawful))
+    (within fs all globals (omega (arith, size, sum_by-cons function_size f fs)) (All-tail (λ (g : VmFunction). g.temps ≤ 2 ^ 24) f fs temps) (All-tail (IsLawfulFunction all globals) f fs lawful))
 
 -- ---- the size of the code
 

@@ -3,6 +3,7 @@ use Rattle.std.proofs.Common.{◌≡◌, ℕ, zero, suc, ◌+◌, ◌*◌, ◌<�
 use Rattle.std.specs.Prelude.{◌==◌, cond, slice_get, slice_index_or, IsTrue, codes, bytes_eq}
 use Rattle.std.proofs.lemmas.List.Sums.{sum_by-cons}
 use Rattle.std.proofs.lemmas.Option.{slice_get_within, slice_get-get_or, get_or_from_slice_get}
+use Rattle.std.proofs.lemmas.List.Elements.{All-nil, All-cons, All-head, All-tail}
 use Rattle.data_object.specs.declared.DataObject.{DataObject}
 use Rattle.suifvm_ir.specs.Functions.{AllInsns, count_of}
 use Rattle.suifvm_ir.specs.Programs.{VmFunction, function_size, program_size}
@@ -13,7 +14,6 @@ use Rattle.temp_ir.specs.Fixed.{is_settled}
 use Rattle.temp_ir.specs.Programs.{TempFn, is_main, main_count, function_takes, names_what_is_there, goes_back_to_marks, IsLawfulTempFn}
 use Rattle.alloc_model.specs.Temporaries.{TemporaryCode, code_of}
 use Rattle.selection_code.specs.Functions.{selected_blocks}
-use Rattle.selection_shapes.proofs.Lists.{all_nil, all_more, all_first, all_rest}
 use Rattle.selection_shapes.proofs.Marks.{marks_kept}
 use Rattle.selection_shapes.proofs.Named.{names_there}
 use Rattle.selection_shapes.proofs.Settled.{functions_settled}
@@ -108,12 +108,12 @@ module _ (fs : List VmFunction) (gs : List TempFn) (globals : List DataObject) (
   }
 
   each_lawful : (xs : List VmFunction) (ys : List TempFn) → ArePlain xs ys → All (vm.IsLawfulFunction fs globals) xs → All (IsLawfulTempFn gs globals) ys
-  each_lawful [] [] h law = all_nil (IsLawfulTempFn gs globals)
+  each_lawful [] [] h law = All-nil (IsLawfulTempFn gs globals)
   each_lawful [] (g ∷ ys) h law = absurd h
   each_lawful (f ∷ xs) [] h law = absurd h
   each_lawful (f ∷ xs) (g ∷ ys) h law =
-      all_more (IsLawfulTempFn gs globals) g ys (lawful f g h.0 (all_first (vm.IsLawfulFunction fs globals) f xs law))
-      (each_lawful xs ys h.1 (all_rest (vm.IsLawfulFunction fs globals) f xs law))
+      All-cons (IsLawfulTempFn gs globals) g ys (lawful f g h.0 (All-head (vm.IsLawfulFunction fs globals) f xs law))
+      (each_lawful xs ys h.1 (All-tail (vm.IsLawfulFunction fs globals) f xs law))
 
   pub all_lawful : All (vm.IsLawfulFunction fs globals) fs → All (IsLawfulTempFn gs globals) gs
   all_lawful law = each_lawful fs gs all law

@@ -1,11 +1,11 @@
 -- Turns of the loop over functions that are let go.
 use Rattle.std.proofs.Common.{◌≡◌, List, [], ◌∷◌, ◌++◌, length, All, sym, ap, ◌∙◌, subst, arith}
 use Rattle.std.proofs.lemmas.List.{append_assoc, append-nil}
+use Rattle.std.proofs.lemmas.List.Elements.{All-nil, All-cons, All-head, All-tail}
 use Rattle.suifvm_ir.specs.Functions.{AllInsns}
 use Rattle.suifvm_ir.specs.Programs.{VmFunction}
 use Rattle.temp_ir.specs.Programs.{TempFn}
 use Rattle.selection_code.specs.Fields.{HasFields}
-use Rattle.selection_shapes.proofs.Lists.{all_nil, all_more, all_first, all_rest}
 use Rattle.alpha_select.specs.Selection.{IsSelectedFunction, AreSelected}
 use Rattle.alpha_select.specs.model.Limits.{IsWithinLimits}
 
@@ -20,7 +20,7 @@ pub record AreSelectedSoFar (all rest : List VmFunction) (selected : List TempFn
   pub within : All IsWithinLimits rest
 
 pub turn_within : (all left rest : List VmFunction) (selected : List TempFn) (f : VmFunction) → AreSelectedSoFar all left selected → left ≡ f ∷ rest → IsWithinLimits f
-turn_within all left rest selected f so is = all_first IsWithinLimits f rest (subst (All IsWithinLimits) is so.within)
+turn_within all left rest selected f so is = All-head IsWithinLimits f rest (subst (All IsWithinLimits) is so.within)
 
 pub turn_more : (all left rest : List VmFunction) (selected new : List TempFn) (f : VmFunction) (g : TempFn) → AreSelectedSoFar all left selected → left ≡ f ∷ rest → IsSelectedFunction f g → AllInsns HasFields f.blocks
     → new ≡ selected ++ g ∷ [] → AreSelectedSoFar all rest new
@@ -28,8 +28,8 @@ turn_more all left rest selected new f g so is one fit put = record {
   whole = λ others h.
       subst (AreSelected all) (sym (append_assoc selected (g ∷ []) others) ∙ ap (λ l. l ++ others) (sym put))
       (so.whole (g ∷ others) (subst (λ l. AreSelected l (g ∷ others)) (sym is) (one, h)));
-  fields = λ h. so.fields (subst (All FieldsFit) (sym is) (all_more FieldsFit f rest fit h));
-  within = all_rest IsWithinLimits f rest (subst (All IsWithinLimits) is so.within);
+  fields = λ h. so.fields (subst (All FieldsFit) (sym is) (All-cons FieldsFit f rest fit h));
+  within = All-tail IsWithinLimits f rest (subst (All IsWithinLimits) is so.within);
 }
 
 pub turn_last : (all left : List VmFunction) (selected : List TempFn) → AreSelectedSoFar all left selected → length left ≡ 0 → AreSelected all selected
@@ -37,5 +37,5 @@ turn_last all [] selected so none = subst (AreSelected all) (append-nil selected
 turn_last all (f ∷ left) selected so none = absurd (omega (arith, none))
 
 pub fields_fit : (all left : List VmFunction) (selected : List TempFn) → AreSelectedSoFar all left selected → length left ≡ 0 → All (λ (f : VmFunction). AllInsns HasFields f.blocks) all
-fields_fit all [] selected so none = so.fields (all_nil FieldsFit)
+fields_fit all [] selected so none = so.fields (All-nil FieldsFit)
 fields_fit all (f ∷ left) selected so none = absurd (omega (arith, none))

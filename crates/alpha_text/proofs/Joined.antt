@@ -23,9 +23,9 @@ said_fault all st start found line (fault.Line n) h wrong = subst (λ k. WrongFr
 said_fault all st start found line (fault.Data n) h wrong = absurd h
 said_fault all st start found line fault.NoMemory h wrong = h.1
 
-pub raised : {A : Type 0} (P : TextFault → Type 0) (r : Result A TextFault) (f : TextFault) → P f → IsErrAnd r (λ e. e ≡ f) → IfErr r P
-raised P (Ok a) f h e = tt
-raised P (Err g) f h e = subst P (sym e) h
+pub raised_fault : {A : Type 0} (P : TextFault → Type 0) (r : Result A TextFault) (f : TextFault) → P f → IsErrAnd r (λ e. e ≡ f) → IfErr r P
+raised_fault P (Ok a) f h e = tt
+raised_fault P (Err g) f h e = subst P (sym e) h
 
 pub raised_only : {A : Type 0} (P : A → Type 0) (r : Result A TextFault) (f g : TextFault) → f ≡ g → IsErrAnd r (λ e. e ≡ f) → MatchResult r P (λ e. e ≡ g)
 raised_only P (Ok a) f g same e = absurd e

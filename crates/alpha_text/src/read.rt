@@ -14,12 +14,10 @@ use crate::cursor::Cursor;
 use crate::fault::TextFault;
 use crate::items::read_items;
 use crate::survey::Survey;
+use alpha_isa::limits::MOST_BYTES;
 use alpha_items::asm::Asm;
 use alpha_items::item::{AsmItem, Fix};
 use std::alloc::Global;
-
-/// The most bytes that the data may have.
-const MOST_BYTES: u64 = 67_108_864;
 
 /// What the lines of a text say that are all in their forms.
 #[derive(Drop)]
@@ -72,7 +70,7 @@ fn within_limit(counted: u64) -> Result<(), TextFault>
     ensures within { OnOk result (counted ≤ most_bytes) }
     ensures beyond { IfErr result (λ fault. (fault ≡ TextFault.Data counted) × (most_bytes < counted)) }
 {
-    if counted > MOST_BYTES {
+    if counted > u64::from(MOST_BYTES) {
         Err(TextFault::Data { counted })
     } else {
         Ok(())

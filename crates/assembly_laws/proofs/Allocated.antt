@@ -13,7 +13,7 @@ use Rattle.frame_bounds.proofs.Rooms.{is_few}
 use Rattle.program_assembly.specs.Programs.{plans_of}
 use Rattle.program_assembly.specs.Layouts.{FitsProgram}
 use Rattle.assembly_laws.specs.Laws.{ProgramsAreAllocated}
-use Rattle.assembly_laws.proofs.Placed.{planned}
+use Rattle.assembly_laws.proofs.Placed.{planned_at}
 
 functions-are : (allocations : List Allocation) → functions_of (plans_of allocations) ≡ map (λ (a : Allocation). code_of a.func) allocations
 functions-are [] = refl
@@ -34,8 +34,8 @@ pub programs-allocated : ProgramsAreAllocated
 programs-allocated program allocations rooms code fits split room =
     record {
       functions = code ∙ sym (functions-are allocations);
-      faithful = record { each = λ f a e. let p = planned allocations f a e in subst Faithful p.is (all-get (FitsProgram (length allocations) program.globals) allocations f p.one fits p.there).faithful };
+      faithful = record { each = λ f a e. let p = planned_at allocations f a e in subst Faithful p.is (all-get (FitsProgram (length allocations) program.globals) allocations f p.one fits p.there).faithful };
       split = split;
-      frames = λ f a e. let p = planned allocations f a e in subst (λ q. frame_size (shape_of q) < 2 ^ 29) p.is (frame-small (length allocations) program.globals p.one (all-get (FitsProgram (length allocations) program.globals) allocations f p.one fits p.there));
+      frames = λ f a e. let p = planned_at allocations f a e in subst (λ q. frame_size (shape_of q) < 2 ^ 29) p.is (frame-small (length allocations) program.globals p.one (all-get (FitsProgram (length allocations) program.globals) allocations f p.one fits p.there));
       room = room;
     }

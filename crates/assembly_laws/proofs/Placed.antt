@@ -24,7 +24,7 @@ use Rattle.frame_bounds.proofs.Fronts.{function_front}
 use Rattle.program_assembly.specs.Programs.{HasItemsOf, plans_of, start_items}
 use Rattle.program_assembly.specs.Assemblies.{final_items, main_of, whole_assembly}
 use Rattle.program_assembly.specs.Layouts.{first_label, label_count, FunctionIsLaidOut, FollowFrom}
-use Rattle.assembly_laws.specs.Laws.{no_plan, setting_at, placing_of, AssembliesHavePrograms}
+use Rattle.assembly_laws.specs.Laws.{no_plan, setting_at, placement_of, AssembliesHavePrograms}
 
 -- ---- lists
 
@@ -40,23 +40,23 @@ index-is f (y ∷ xs) zero x d e = let is : y ≡ x = cc in ap f is
 index-is f (y ∷ xs) (suc k) x d e = index-is f xs k x d e
 
 -- an allocation with a plan
-pub record Planned (allocations : List Allocation) (k : ℕ) (a : Plan) : Type 0 where
+pub record PlannedAllocation (allocations : List Allocation) (k : ℕ) (a : Plan) : Type 0 where
   pub one : Allocation
   pub there : slice_get allocations k ≡ Some one
   pub is : plan_of one ≡ a
 
-pub planned : (allocations : List Allocation) (k : ℕ) (a : Plan) → slice_get (plans_of allocations) k ≡ Some a → Planned allocations k a
-planned [] k a e = absurd (cc)
-planned (x ∷ xs) zero a e = let is : plan_of x ≡ a = cc in record { one = x; there = refl; is = is }
-planned (x ∷ xs) (suc k) a e = let h = planned xs k a e in record { one = h.one; there = h.there; is = h.is }
+pub planned_at : (allocations : List Allocation) (k : ℕ) (a : Plan) → slice_get (plans_of allocations) k ≡ Some a → PlannedAllocation allocations k a
+planned_at [] k a e = absurd (cc)
+planned_at (x ∷ xs) zero a e = let is : plan_of x ≡ a = cc in record { one = x; there = refl; is = is }
+planned_at (x ∷ xs) (suc k) a e = let h = planned_at xs k a e in record { one = h.one; there = h.there; is = h.is }
 
 -- a function that is laid out
-record Laid (globals : List DataObject) (number first k : ℕ) (allocations : List Allocation) (finals : List FinalFn) (x : Allocation) : Type 0 where
+record LaidOutFunction (globals : List DataObject) (number first k : ℕ) (allocations : List Allocation) (finals : List FinalFn) (x : Allocation) : Type 0 where
   one : FinalFn
   there : slice_get finals k ≡ Some one
   laid : FunctionIsLaidOut globals (number + k) (first + sum_by label_count (take k allocations)) x one
 
-laid-at : (globals : List DataObject) (number first k : ℕ) (allocations : List Allocation) (finals : List FinalFn) (x : Allocation) → FollowFrom globals number first allocations finals → slice_get allocations k ≡ Some x → Laid globals number first k allocations finals x
+laid-at : (globals : List DataObject) (number first k : ℕ) (allocations : List Allocation) (finals : List FinalFn) (x : Allocation) → FollowFrom globals number first allocations finals → slice_get allocations k ≡ Some x → LaidOutFunction globals number first k allocations finals x
 laid-at globals number first k [] finals x h e = absurd (cc)
 laid-at globals number first k (a ∷ allocations) [] x h e = absurd h
 laid-at globals number first zero (a ∷ allocations) (f ∷ finals) x h e =
@@ -122,13 +122,13 @@ module _ (program : TempProgram) (allocations : List Allocation) (finals : List 
   first = first_label (length allocations)
 
   place-is : (f : ℕ) (a : Plan) → slice_get (plans_of allocations) f ≡ Some a → slice_index_or (plans_of allocations) f no_plan ≡ a
-  place-is f a e = let p = planned allocations f a e in index-is plan_of allocations f p.one no_plan p.there ∙ p.is
+  place-is f a e = let p = planned_at allocations f a e in index-is plan_of allocations f p.one no_plan p.there ∙ p.is
 
   function-at : (f : ℕ) (a : Plan) → slice_get (plans_of allocations) f ≡ Some a →
       start_items (main_of finals) (final_items finals ++ all_items)
-      ≡ (placing_of program.globals allocations finals).front f ++ function_items a (setting_at program.globals allocations f) f ((placing_of program.globals allocations finals).behind f)
+      ≡ (placement_of program.globals allocations finals).front f ++ function_items a (setting_at program.globals allocations f) f ((placement_of program.globals allocations finals).behind f)
   function-at f a e =
-      let p = planned allocations f a e in
+      let p = planned_at allocations f a e in
       let l = laid-at program.globals 0 first f allocations finals p.one laid p.there in
       let same = near-at allocations f p.one near p.there in
       let plan : near_plan (plan_of p.one) ≡ a = same ∙ p.is in
@@ -154,7 +154,7 @@ module _ (program : TempProgram) (allocations : List Allocation) (finals : List 
           (append_assoc (function_items a g f []) (final_items (drop (suc f) finals)) all_items ∙ function_front a g f [] (final_items (drop (suc f) finals) ++ all_items))
           ∙ sym (append_assoc (final_items (take f finals)) (Name nm ∷ []) (function_items a g f (final_items (drop (suc f) finals) ++ all_items)))
 
-  pub has-items : HasItemsOf (whole_assembly finals program.globals) program (plans_of allocations) (placing_of program.globals allocations finals)
+  pub has-items : HasItemsOf (whole_assembly finals program.globals) program (plans_of allocations) (placement_of program.globals allocations finals)
   has-items = record {
     start = ap (λ m. start_items m (final_items finals ++ all_items)) (same-main finals program.functions (main-from program.functions allocations names program.globals 0 first finals laid));
     functions = function-at;

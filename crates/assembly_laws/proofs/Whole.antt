@@ -106,39 +106,39 @@ module _ (globals : List DataObject) (allocations : List Allocation) (finals : L
         high),
   )
 
-  Known : ℕ → Type 0
-  Known l = Contains (labels items) l
+  IsKnownLabel : ℕ → Type 0
+  IsKnownLabel l = Contains (labels items) l
 
-  known-own : (l : ℕ) → Contains own l → Known l
-  unfolding Known
+  known-own : (l : ℕ) → Contains own l → IsKnownLabel l
+  unfolding IsKnownLabel
   known-own l h = subst (λ ls. Contains ls l) (sym labels-are) (has-later 0 l (own ++ labels all_items) (has-left own (labels all_items) l h))
 
-  known-routine : (l : ℕ) → Contains (labels all_items) l → Known l
-  unfolding Known
+  known-routine : (l : ℕ) → Contains (labels all_items) l → IsKnownLabel l
+  unfolding IsKnownLabel
   known-routine l h = subst (λ ls. Contains ls l) (sym labels-are) (has-later 0 l (own ++ labels all_items) (has-right own (labels all_items) l h))
 
-  entries : (k : ℕ) → k < n → Known (256 + k)
-  entries k lt = let e : 256 + 0 + k ≡ 256 + k = omega arith in subst Known e (known-own (256 + 0 + k) (has-function 0 first k allocations lt))
+  entries : (k : ℕ) → k < n → IsKnownLabel (256 + k)
+  entries k lt = let e : 256 + 0 + k ≡ 256 + k = omega arith in subst IsKnownLabel e (known-own (256 + 0 + k) (has-function 0 first k allocations lt))
 
-  used : All (λ x. IfSome (label_used x) Known) items
+  used : All (λ x. IfSome (label_used x) IsKnownLabel) items
   used =
-      start-all (λ x. IfSome (label_used x) Known) main texts tt (entries main main-there) ending-uses
-      (All-append (λ x. IfSome (label_used x) Known) (final_items finals) all_items
-      (finals-use n globals Known entries (λ l low most. known-routine l (has-entry l low most)) 0 first (end_of first allocations) allocations finals (λ l low below. known-own l (has-block 0 first l allocations low below)) refl sound laid)
-      (All-weaker (λ x. IfSome (label_used x) (Contains (labels all_items))) (λ x. IfSome (label_used x) Known) (λ x h. if-known (label_used x) h) all_items routines-use))
+      start-all (λ x. IfSome (label_used x) IsKnownLabel) main texts tt (entries main main-there) ending-uses
+      (All-append (λ x. IfSome (label_used x) IsKnownLabel) (final_items finals) all_items
+      (finals-use n globals IsKnownLabel entries (λ l low most. known-routine l (has-entry l low most)) 0 first (end_of first allocations) allocations finals (λ l low below. known-own l (has-block 0 first l allocations low below)) refl sound laid)
+      (All-weaker (λ x. IfSome (label_used x) (Contains (labels all_items))) (λ x. IfSome (label_used x) IsKnownLabel) (λ x h. if-known (label_used x) h) all_items routines-use))
     where
-      if-known : (o : Option ℕ) → IfSome o (Contains (labels all_items)) → IfSome o Known
+      if-known : (o : Option ℕ) → IfSome o (Contains (labels all_items)) → IfSome o IsKnownLabel
       if-known None h = tt
       if-known (Some l) h = known-routine l h
 
-      ending-uses : All (λ x. IfSome (label_used x) Known) ending_items
+      ending-uses : All (λ x. IfSome (label_used x) IsKnownLabel) ending_items
       ending-uses zero d lt = tt
       ending-uses (suc zero) d lt = tt
       ending-uses (suc (suc zero)) d lt = tt
       ending-uses (suc (suc (suc k))) d lt = absurd (omega (arith, lt))
 
   pub whole : IsWhole (whole_assembly finals globals)
-  unfolding Known
+  unfolding IsKnownLabel
   whole = record {
     items = items-in;
     labels_once = subst (λ ls. AllPairs (λ l m. l ≢ m) ls) (sym labels-are) (pairs-differ (0 ∷ (own ++ labels all_items)) apart);

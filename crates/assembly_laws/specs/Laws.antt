@@ -25,7 +25,7 @@ use Rattle.instruction_items.specs.Items.{ItemSetting}
 use Rattle.frame_bounds.specs.Near.{IsNear}
 use Rattle.frame_bounds.specs.Settings.{setting_of}
 use Rattle.program_assembly.specs.Ranges.{HasSmallNumbers}
-use Rattle.program_assembly.specs.Programs.{Placing, HasItemsOf, IsAllocated, plans_of, start_items}
+use Rattle.program_assembly.specs.Programs.{ProgramPlacement, HasItemsOf, IsAllocated, plans_of, start_items}
 use Rattle.program_assembly.specs.Assemblies.{final_items, whole_assembly, main_of}
 use Rattle.program_assembly.specs.Layouts.{first_label, label_count, FitsProgram, FunctionsAreLaidOut}
 
@@ -65,8 +65,8 @@ setting_at globals allocations f =
     (first_label (length allocations) + sum_by label_count (take f allocations))
 
 -- a name stands in front of each function
-abbrev pub placing_of : List DataObject → List Allocation → List FinalFn → Placing
-placing_of globals allocations finals = record {
+abbrev pub placement_of : List DataObject → List Allocation → List FinalFn → ProgramPlacement
+placement_of globals allocations finals = record {
   setting = setting_at globals allocations;
   front = λ f. start_items (main_of finals)
       (final_items (take f finals) ++ Name (slice_index_or (map (λ a. a.func.name) allocations) f []) ∷ []);
@@ -84,7 +84,7 @@ AssembliesHavePrograms =
     map (λ f. f.name) program.functions ≡ map (λ a. a.func.name) allocations →
     All (λ a. AllInsns IsNear a.func.blocks) allocations → FunctionsAreLaidOut program.globals allocations finals →
     HasItemsOf (whole_assembly finals program.globals) program (plans_of allocations)
-    (placing_of program.globals allocations finals)
+    (placement_of program.globals allocations finals)
 
 -- ---- that a program is allocated
 

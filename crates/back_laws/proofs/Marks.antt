@@ -1,10 +1,11 @@
 -- Jumps back go to blocks that begin with a mark.
 use Rattle.std.proofs.Common.{◌≡◌, ℕ, zero, suc, ◌-◌, ◌≤◌, List, [], ◌∷◌, length, take, Bool, true, false, Option, Some, None, inl, inr, refl, sym, ap, ◌∙◌, subst, arith}
-use Rattle.std.specs.Prelude.{◌&&◌, ◌||◌, All, IsTrue, nat_lt, slice_get, slice_index_or}
+use Rattle.std.specs.Prelude.{◌||◌, All, IsTrue, nat_lt, slice_get, slice_index_or}
 use Rattle.std.specs.List.{list_all, Contains}
-use Rattle.std.proofs.lemmas.Bool.{and_from}
+use Rattle.std.proofs.lemmas.Bool.{and_from, and_parts}
 use Rattle.std.proofs.lemmas.Bool.Decides.{leb_tells}
 use Rattle.std.proofs.lemmas.Option.{slice_get_within, slice_get-get_or, get_or_from_slice_get}
+use Rattle.std.proofs.lemmas.List.Elements.{All-nil, All-head, All-tail}
 use Rattle.suifvm_ir.specs.Functions.{EndsLate, IsStraight, front_of, insn_in, insn_at}
 use Rattle.temp_ir.specs.declared.insn.TempInsn.{TempInsn}
 use Rattle.temp_ir.specs.declared.insn.TempInsn.TheVariants as i
@@ -14,11 +15,7 @@ use Rattle.cfg.specs.Walks.{block_at}
 use Rattle.cfg.specs.Paths.{GoesBack}
 use Rattle.cfg.specs.Contents.{KeepsBack}
 use Rattle.back_laws.specs.Kept.{GoBackToMarks, MarksAreKept}
-use Rattle.back_laws.proofs.Forms.{contents_of, Kind, Jumps, Branches, Stays, kind, stays_first, all_nil, all_first, all_rest}
-
-both : (a b : Bool) → (a && b) ≡ true → (a ≡ true) × (b ≡ true)
-both true b g = (refl, g)
-both false b g = absurd (cc)
+use Rattle.back_laws.proofs.Forms.{contents_of, Kind, Jumps, Branches, Stays, kind, stays_first}
 
 second : (a b : Bool) → (a || b) ≡ true → a ≡ false → b ≡ true
 second true b h e = absurd (cc)
@@ -60,7 +57,7 @@ late_mark (z ∷ []) late h = by_kind z (kind z) h
     by_kind y (Branches op a block) g = absurd (cc)
     by_kind y (Stays y2 e same none) g = sym (ap (λ l. first_is_mark (slice_get l 0)) (stays_first y [] e same)) ∙ g
 late_mark (z ∷ x ∷ xs) late h =
-    by_kind z (kind z) (all_first (IsStraight targets_of flows_on_of) z (front_of (x ∷ xs)) (subst (All (IsStraight targets_of flows_on_of)) (front_more z x xs) late)) h
+    by_kind z (kind z) (All-head (IsStraight targets_of flows_on_of) z (front_of (x ∷ xs)) (subst (All (IsStraight targets_of flows_on_of)) (front_more z x xs) late)) h
   where
     by_kind : (y : TempInsn) → Kind y → IsStraight targets_of flows_on_of y → first_is_mark (slice_get (contents_of (y ∷ x ∷ xs)) 0) ≡ true → first_is_mark (Some y) ≡ true
     by_kind y (Jumps block) straight g = let clash : false ≡ true = straight.1 in let never : ⊥ = cc in absurd never
@@ -75,16 +72,16 @@ same_begin (block ∷ blocks) zero = refl
 same_begin (block ∷ blocks) (suc n) = same_begin blocks n
 
 late_at : (blocks : List (List TempInsn)) (n : ℕ) → All (EndsLate targets_of flows_on_of) blocks → EndsLate targets_of flows_on_of (block_at blocks n)
-late_at [] n h = all_nil (IsStraight targets_of flows_on_of)
-late_at (block ∷ blocks) zero h = all_first (EndsLate targets_of flows_on_of) block blocks h
-late_at (block ∷ blocks) (suc n) h = late_at blocks n (all_rest (EndsLate targets_of flows_on_of) block blocks h)
+late_at [] n h = All-nil (IsStraight targets_of flows_on_of)
+late_at (block ∷ blocks) zero h = All-head (EndsLate targets_of flows_on_of) block blocks h
+late_at (block ∷ blocks) (suc n) h = late_at blocks n (All-tail (EndsLate targets_of flows_on_of) block blocks h)
 
 -- ---- jumps back before
 
 passes : (p : ℕ → Bool) (ts : List ℕ) (to : ℕ) → list_all p ts ≡ true → Contains ts to → p to ≡ true
 passes p [] to h (k, lt, is) = absurd (omega (arith, lt))
-passes p (t ∷ ts) to h (zero, lt, is) = subst (λ x. p x ≡ true) is (both (p t) (list_all p ts) h).0
-passes p (t ∷ ts) to h (suc k, lt, is) = passes p ts to (both (p t) (list_all p ts) h).1 (k, omega (arith, lt), is)
+passes p (t ∷ ts) to h (zero, lt, is) = subst (λ x. p x ≡ true) is (and_parts (p t) (list_all p ts) h).0
+passes p (t ∷ ts) to h (suc k, lt, is) = passes p ts to (and_parts (p t) (list_all p ts) h).1 (k, omega (arith, lt), is)
 
 -- what goes back goes to a mark
 goes_to_mark : (blocks : List (List TempInsn)) → GoBackToMarks blocks → (to : ℕ) → GoesBack targets_of blocks to → begins_with_mark (slice_get blocks to) ≡ true

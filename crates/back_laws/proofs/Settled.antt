@@ -1,8 +1,8 @@
 -- Blocks with the contents of settled ones are settled.
-use Rattle.std.proofs.Common.{◌≡◌, ◌⊎◌, inl, inr, ℕ, zero, suc, ◌<◌, List, [], ◌∷◌, length, Bool, true, false, refl, sym, ap, ◌∙◌, arith}
+use Rattle.std.proofs.Common.{◌≡◌, ◌⊎◌, inl, inr, ℕ, zero, suc, ◌<◌, List, [], ◌∷◌, length, Bool, true, refl, sym, ap, ◌∙◌, arith}
 use Rattle.std.specs.Prelude.{◌&&◌, filter}
 use Rattle.std.specs.List.{list_all}
-use Rattle.std.proofs.lemmas.Bool.{and_from}
+use Rattle.std.proofs.lemmas.Bool.{and_from, and_parts}
 use Rattle.temp_ir.specs.declared.insn.TempInsn.{TempInsn}
 use Rattle.temp_ir.specs.declared.insn.TempInsn.TheVariants as i
 use Rattle.temp_ir.specs.Insns.{targets_of, with_block, flows_on_of}
@@ -11,10 +11,6 @@ use Rattle.cfg.specs.Walks.{block_at}
 use Rattle.cfg.specs.Contents.{HasContents}
 use Rattle.back_laws.specs.Kept.{KeepContents, SettledIsKept}
 use Rattle.back_laws.proofs.Forms.{contents_of, Kind, Jumps, Branches, Stays, kind, stays_first}
-
-both : (a b : Bool) → (a && b) ≡ true → (a ≡ true) × (b ≡ true)
-both true b g = (refl, g)
-both false b g = absurd (cc)
 
 -- an instruction that ends no register leaves those that were written
 all_kept : (w : List ℕ) → filter (λ (register : ℕ). true) w ≡ w
@@ -36,8 +32,8 @@ same_settled w (z ∷ xs) = by_kind z (kind z) (λ v. same_settled v xs)
 
 test_at : (p : List TempInsn → Bool) (blocks : List (List TempInsn)) (n : ℕ) → list_all p blocks ≡ true → n < length blocks → p (block_at blocks n) ≡ true
 test_at p [] n h lt = absurd (omega (arith, lt))
-test_at p (block ∷ blocks) zero h lt = (both (p block) (list_all p blocks) h).0
-test_at p (block ∷ blocks) (suc n) h lt = test_at p blocks n (both (p block) (list_all p blocks) h).1 (omega (arith, lt))
+test_at p (block ∷ blocks) zero h lt = (and_parts (p block) (list_all p blocks) h).0
+test_at p (block ∷ blocks) (suc n) h lt = test_at p blocks n (and_parts (p block) (list_all p blocks) h).1 (omega (arith, lt))
 
 tests_from : (p : List TempInsn → Bool) (blocks : List (List TempInsn)) → ((n : ℕ) → n < length blocks → p (block_at blocks n) ≡ true) → list_all p blocks ≡ true
 tests_from p [] h = refl
@@ -46,13 +42,13 @@ tests_from p (block ∷ blocks) h =
 
 first_settled : (params : ℕ) (blocks : List (List TempInsn)) → is_settled params blocks ≡ true → is_settled_block (argument_registers params) (block_at blocks 0) ≡ true
 first_settled params [] h = refl
-first_settled params (block ∷ blocks) h = (both (is_settled_block (argument_registers params) block) (list_all (is_settled_block []) blocks) h).0
+first_settled params (block ∷ blocks) h = (and_parts (is_settled_block (argument_registers params) block) (list_all (is_settled_block []) blocks) h).0
 
 other_settled : (params : ℕ) (blocks : List (List TempInsn)) (n : ℕ) → is_settled params blocks ≡ true → 0 < n → n < length blocks → is_settled_block [] (block_at blocks n) ≡ true
 other_settled params [] n h some lt = absurd (omega (arith, lt))
 other_settled params (block ∷ blocks) zero h some lt = absurd (omega (arith, some))
 other_settled params (block ∷ blocks) (suc n) h some lt =
-    test_at (is_settled_block []) blocks n (both (is_settled_block (argument_registers params) block) (list_all (is_settled_block []) blocks) h).1 (omega (arith, lt))
+    test_at (is_settled_block []) blocks n (and_parts (is_settled_block (argument_registers params) block) (list_all (is_settled_block []) blocks) h).1 (omega (arith, lt))
 
 all_settled : (params : ℕ) (blocks : List (List TempInsn)) → is_settled_block (argument_registers params) (block_at blocks 0) ≡ true
     → ((n : ℕ) → 0 < n → n < length blocks → is_settled_block [] (block_at blocks n) ≡ true) → is_settled params blocks ≡ true

@@ -45,12 +45,12 @@ same_length xs ys e = omega (arith, length-map xs bare_of, length-map ys bare_of
 -- ---- all blocks
 
 -- each block that comes in is one instruction and one edge, and no call
-record Added (before after : List (List TempInsn)) : Type 0 where
+record AddsBlocks (before after : List (List TempInsn)) : Type 0 where
   pub insns : count_of after + length before ≡ count_of before + length after
   pub calls : call_count after ≡ call_count before
   pub edges : edges_of after + length before ≡ edges_of before + length after
 
-added : (before after : List (List TempInsn)) → AddsJumps targets_of with_block jump_of before after → Added before after
+added : (before after : List (List TempInsn)) → AddsJumps targets_of with_block jump_of before after → AddsBlocks before after
 added _ _ NoBlocks = record { insns = refl; calls = refl; edges = refl }
 added _ _ (SameBlock {before = before} {after = after} block new e rest) =
     let r = added before after rest in

@@ -9,7 +9,8 @@ use Rattle.suifvm_ir.specs.Live.{Live}
 use Rattle.suifvm_ir.specs.Live.Live.{IsRead, Passes, Follows}
 use Rattle.cfg.specs.Edges.{successors_from}
 use Rattle.bk_bits.specs.Sets.{has}
-use Rattle.bitvector_flow.specs.Flows.{has_at, FlowsOut, FlowsIn, AreFlows}
+use Rattle.bitvector_flow.specs.Flows.{has_at, FlowsOut, FlowsIn}
+use Rattle.bitvector_flow.specs.model.Flows.{AreFlows}
 use Rattle.bitvector_flow.specs.Flows.FlowsOut.{IsMade, Passes as GoesThrough}
 use Rattle.bitvector_flow.specs.Lives.{has_register, reads_first, some_writes, AreLive}
 use Rattle.bitvector_flow.specs.model.Blocks.{AreBlockSets}

@@ -133,8 +133,8 @@ module _ {I : Type 0} (reads writes : I → List ℕ) (registers : ℕ) where
     written = λ b k. refl;
   }
 
-  pub begun : (firsts lasts : List (List Bool)) → firsts ≡ [] → lasts ≡ [] → AreBlockSets reads writes registers [] firsts lasts
-  begun firsts lasts no_firsts no_lasts =
+  pub begun_sets : (firsts lasts : List (List Bool)) → firsts ≡ [] → lasts ≡ [] → AreBlockSets reads writes registers [] firsts lasts
+  begun_sets firsts lasts no_firsts no_lasts =
       subst (λ fs. AreBlockSets reads writes registers [] fs lasts) (sym no_firsts) (subst (AreBlockSets reads writes registers [] []) (sym no_lasts) no_sets)
 
   pub sets_next : (blocks : List (List I)) (i : ℕ) (b : List I) (firsts firsts_new lasts lasts_new : List (List Bool)) → AreBlockSets reads writes registers (take i blocks) firsts lasts →

@@ -6,10 +6,11 @@ use Rattle.std.proofs.lemmas.Bool.{cases_lt, cases_eq}
 use Rattle.std.proofs.lemmas.List.{get_or_default, get_or_past, ext_get_or, length-replicate, get_or-replicate}
 use Rattle.std.proofs.lemmas.List.Sums.{sum_by-set}
 use Rattle.bk_bits.specs.Sets.{has}
-use Rattle.bitvector_flow.specs.Flows.{has_at, FlowsOut, FlowsIn, AreFlows}
+use Rattle.bitvector_flow.specs.Flows.{has_at, FlowsOut, FlowsIn}
+use Rattle.bitvector_flow.specs.model.Flows.{AreFlows}
 use Rattle.bitvector_flow.specs.Flows.FlowsOut.{IsMade, Passes}
 use Rattle.bitvector_flow.proofs.Unions.{none_past, written_back}
-use Rattle.bitvector_flow.specs.model.Rounds.{any_has, AreBelow, missing_in, missing, GrowsWhere, IsStep, turn, IsSettled, AreForced, IsSwept}
+use Rattle.bitvector_flow.specs.model.Rounds.{any_has, AreBelow, missing_in, missing_count, GrowsWhere, IsStep, turn, IsSettled, AreForced, IsSwept}
 
 -- ---- numbers that are in no set
 
@@ -183,8 +184,8 @@ turn_back false count block inside = (inside, refl)
 
 grown_both : (first outs outs_new : List (List Bool)) (grew changed : Bool) → GrowsWhere first outs grew → GrowsWhere outs outs_new changed → GrowsWhere first outs_new (grew || changed)
 grown_both first outs outs_new true true g h = omega (arith, g, h)
-grown_both first outs outs_new true false g h = let e = ap missing h in omega (arith, g, e)
-grown_both first outs outs_new false true g h = let e = ap missing g in omega (arith, h, e)
+grown_both first outs outs_new true false g h = let e = ap missing_count h in omega (arith, g, e)
+grown_both first outs outs_new false true g h = let e = ap missing_count g in omega (arith, h, e)
 grown_both first outs outs_new false false g h = h ∙ g
 
 same_where : (old new : List (List Bool)) (grew : Bool) → grew ≡ false → GrowsWhere old new grew → new ≡ old
@@ -268,7 +269,7 @@ module _ (nexts : List (List ℕ)) (makes stops : List (List Bool)) (bound : ℕ
     flows_in = λ block k. (forced.only_ins block k, λ f. joins block f.next k f.is_next (all_outs k f.next f.flows));
   }
 
-pub fewer_missing : (old new : List (List Bool)) (grew : Bool) → grew ≡ true → GrowsWhere old new grew → missing new < missing old
+pub fewer_missing : (old new : List (List Bool)) (grew : Bool) → grew ≡ true → GrowsWhere old new grew → missing_count new < missing_count old
 fewer_missing old new true h g = g
 fewer_missing old new false h g = let no : ⊥ = cc in absurd no
 
@@ -331,12 +332,12 @@ none_forced nexts makes stops count bound many = record {
   made = λ block k h. h;
 }
 
-pub solved : (nexts : List (List ℕ)) (makes stops shown ins shown_ins outs_new ins_new : List (List Bool)) (spare : List Bool) (count bound len len_ins : ℕ) →
+pub solved_sets : (nexts : List (List ℕ)) (makes stops shown ins shown_ins outs_new ins_new : List (List Bool)) (spare : List Bool) (count bound len len_ins : ℕ) →
     shown ≡ makes → shown_ins ≡ ins → ins ≡ replicate count (replicate bound false) → spare ≡ replicate bound false → length makes ≡ length nexts →
     len ≡ length makes → len_ins ≡ length ins → length outs_new ≡ length shown → length ins_new ≡ length shown_ins →
     ((m : List (List Bool)) → AreForced nexts m stops shown shown_ins → AreFlows (has_at m) (has_at stops) nexts (length spare) outs_new ins_new) →
     AreFlows (has_at makes) (has_at stops) nexts bound (take len (outs_new ++ drop (length outs_new) makes)) (take len_ins (ins_new ++ drop (length ins_new) ins))
-solved nexts makes stops shown ins shown_ins outs_new ins_new spare count bound len len_ins shown_is shown_ins_is ins_is spare_is many len_is len_ins_is outs_same ins_same flows =
+solved_sets nexts makes stops shown ins shown_ins outs_new ins_new spare count bound len len_ins shown_is shown_ins_is ins_is spare_is many len_is len_ins_is outs_same ins_same flows =
     let forced : AreForced nexts makes stops shown shown_ins =
     subst (λ o. AreForced nexts makes stops o shown_ins) (sym shown_is)
     (subst (AreForced nexts makes stops makes) (sym (shown_ins_is ∙ ins_is)) (none_forced nexts makes stops count bound many)) in

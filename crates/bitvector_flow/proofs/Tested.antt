@@ -6,7 +6,8 @@ use Rattle.std.proofs.lemmas.Bool.{cases_lt, cases_eq, lt-ltb, le-ltb, eq-eqb, n
 use Rattle.std.proofs.lemmas.List.{get_or_past, get_or_append_left}
 use Rattle.std.proofs.Math.Seq.{get_or-append_seam}
 use Rattle.bk_bits.specs.Sets.{has}
-use Rattle.bitvector_flow.specs.Flows.{has_at, FlowsOut, FlowsIn, AreBounded, AreFlows, AreLeast}
+use Rattle.bitvector_flow.specs.Flows.{has_at, FlowsOut, FlowsIn, AreBounded, AreLeast}
+use Rattle.bitvector_flow.specs.model.Flows.{AreFlows}
 use Rattle.bitvector_flow.specs.Flows.FlowsOut.{IsMade, Passes}
 use Rattle.bitvector_flow.specs.model.Rounds.{AreBelow}
 use Rattle.bitvector_flow.specs.model.Tested.{AreTested}

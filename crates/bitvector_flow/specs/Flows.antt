@@ -25,15 +25,8 @@ pub record AreBounded (count bound : ℕ) (sets : List (List Bool)) : Type 0 whe
   pub as_many : length sets ≡ count
   pub bounds : (block : ℕ) → block < count → length (slice_index_or sets block []) ≡ bound
 
--- the sets of what flows out of each block and into it
-pub record AreFlows (makes stops : (block k : ℕ) → Bool) (nexts : List (List ℕ)) (bound : ℕ)
-    (outs ins : List (List Bool)) : Type 0 where
-  pub outs_bounded : AreBounded (length nexts) bound outs
-  pub ins_bounded : AreBounded (length nexts) bound ins
-  pub flows_out : (block k : ℕ) → (has_at outs block k ≡ true) ↔ FlowsOut makes stops nexts k block
-  pub flows_in : (block k : ℕ) → (has_at ins block k ≡ true) ↔ FlowsIn makes stops nexts k block
-
--- the same where what is made and stopped is told of numbers below the bound alone
+-- the sets of what flows out of each block and into it, where what is made and stopped is told of numbers below the
+-- bound alone
 pub record AreLeast (makes stops : (block k : ℕ) → Bool) (nexts : List (List ℕ)) (bound : ℕ)
     (outs ins : List (List Bool)) : Type 0 where
   pub outs_bounded : AreBounded (length nexts) bound outs

@@ -1,7 +1,8 @@
 //! The least sets, found in rounds.
 
 ghost use Rattle.std.specs.Prelude.{◌≡◌, ◌<◌, ◌||◌, List, Bool, length, IfOk};
-ghost use Rattle.bitvector_flow.specs.Flows.{has_at, AreFlows};
+ghost use Rattle.bitvector_flow.specs.Flows.{has_at};
+ghost use Rattle.bitvector_flow.specs.model.Flows.{AreFlows};
 ghost use Rattle.bitvector_flow.specs.model.Rounds.{AreBelow, turn, IsStep, AreForced, IsSwept};
 
 use crate::sets::{empty_sets, gather, pass};

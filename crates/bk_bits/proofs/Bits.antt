@@ -155,11 +155,11 @@ module _ (words : List ℕ) (k place from : ℕ) (none : NoneBefore words k plac
           in_place : j / 64 ≡ place
           in_place = omega (arith, more, below)
 
-  pub found : (m : ℕ) → k / 64 ≤ place → m / 64 ≡ place → from ≤ m % 64 → is_member words m ≡ true →
+  pub found_member : (m : ℕ) → k / 64 ≤ place → m / 64 ≡ place → from ≤ m % 64 → is_member words m ≡ true →
       ((j : ℕ) → j / 64 ≡ place → from ≤ j % 64 → j < m → is_member words j ≡ false) →
       ((j : ℕ) → j / 64 ≡ place → from ≤ j % 64 → k ≤ j) →
       (k ≤ m) × (is_member words m ≡ true) × ((j : ℕ) → k ≤ j → j < m → is_member words j ≡ false)
-  found m within in_place above is before least =
+  found_member m within in_place above is before least =
       (least m in_place above, is, λ j from_there below. by_order j from_there below (cases_lt (j / 64) place))
     where
       by_order : (j : ℕ) → k ≤ j → j < m → (j / 64 < place) ⊎ (place ≤ j / 64) → is_member words j ≡ false

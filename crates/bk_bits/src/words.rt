@@ -152,7 +152,7 @@ fn first_of_word(place: usize, k: u32) -> u32
 }
 
 /// The least member that is at least a number.
-#[tactic(auto, using(crate::proofs::Bits::none_before, crate::proofs::Bits::none_further, crate::proofs::Bits::found, crate::proofs::Bits::none_at_all))]
+#[tactic(auto, using(crate::proofs::Bits::none_before, crate::proofs::Bits::none_further, crate::proofs::Bits::found_member, crate::proofs::Bits::none_at_all))]
 pub(crate) fn next_in(words: &[u64], k: u32) -> Option<u32>
     requires { length words.now ≤ 2 ^ 26 }
     ensures some { IfSome result (λ m. (k ≤ m) × (is_member words.now m ≡ true)

@@ -17,13 +17,13 @@ module _ {T : Type 0} where
       rw (whole, append-nil, ← is) (take-length new)
 
   -- what an insertion leaves
-  pub record Inserted (nodes put_nodes new_nodes : List (Node T)) (first last : Option ℕ) (pairs : List (ℕ × T)) : Type 0 where
+  pub record InsertsNode (nodes put_nodes new_nodes : List (Node T)) (first last : Option ℕ) (pairs : List (ℕ × T)) : Type 0 where
     pub is : put_nodes ≡ new_nodes
     pub chain : IsChain new_nodes first last pairs
     pub grown : length new_nodes ≡ length nodes + 1
 
-  pub inserted : (nodes pushed shown forward shown_2 back : List (Node T)) (n : ℕ) (first last first' last' prev next : Option ℕ) (xs before after : List (ℕ × T)) (new : ℕ) (item : T) → IsChain nodes first last xs → xs ≡ before ++ after → prev ≡ last_or before None → next ≡ first_or after None → new ≡ length nodes → pushed ≡ nodes ++ node item prev next ∷ [] → n ≡ length pushed → shown ≡ pushed → length forward ≡ length shown → Changes (with_next (Some new)) prev shown forward → shown_2 ≡ put n forward pushed → length back ≡ length shown_2 → Changes (with_prev (Some new)) next shown_2 back → first' ≡ end_behind prev (Some new) first → last' ≡ end_behind next (Some new) last → Inserted nodes (put n back (put n forward pushed)) back first' last' (before ++ (new, item) ∷ after)
-  inserted nodes pushed shown forward shown_2 back n first last first' last' prev next xs before after new item chain split prev_is next_is new_is pushed_is n_is shown_is forward_length forward_is shown_2_is back_length back_is first_is last_is =
+  pub inserted_node : (nodes pushed shown forward shown_2 back : List (Node T)) (n : ℕ) (first last first' last' prev next : Option ℕ) (xs before after : List (ℕ × T)) (new : ℕ) (item : T) → IsChain nodes first last xs → xs ≡ before ++ after → prev ≡ last_or before None → next ≡ first_or after None → new ≡ length nodes → pushed ≡ nodes ++ node item prev next ∷ [] → n ≡ length pushed → shown ≡ pushed → length forward ≡ length shown → Changes (with_next (Some new)) prev shown forward → shown_2 ≡ put n forward pushed → length back ≡ length shown_2 → Changes (with_prev (Some new)) next shown_2 back → first' ≡ end_behind prev (Some new) first → last' ≡ end_behind next (Some new) last → InsertsNode nodes (put n back (put n forward pushed)) back first' last' (before ++ (new, item) ∷ after)
+  inserted_node nodes pushed shown forward shown_2 back n first last first' last' prev next xs before after new item chain split prev_is next_is new_is pushed_is n_is shown_is forward_length forward_is shown_2_is back_length back_is first_is last_is =
       let grown : length pushed ≡ length nodes + 1 = omega (arith, ap length pushed_is, length-append nodes (node item prev next ∷ [])) in
       let forward_n : length forward ≡ n = omega (arith, ap length shown_is) in
       let one : put n forward pushed ≡ forward = written_back n forward pushed forward_n (sym n_is) in
@@ -39,13 +39,13 @@ module _ {T : Type 0} where
       }
 
   -- what a change that adds no node leaves
-  pub record Rewritten (nodes put_nodes new_nodes : List (Node T)) (first last : Option ℕ) (pairs : List (ℕ × T)) : Type 0 where
+  pub record RewritesLinks (nodes put_nodes new_nodes : List (Node T)) (first last : Option ℕ) (pairs : List (ℕ × T)) : Type 0 where
     pub is : put_nodes ≡ new_nodes
     pub chain : IsChain new_nodes first last pairs
     pub same : length new_nodes ≡ length nodes
 
-  pub unlinked : (nodes shown emptied shown_2 forward shown_3 back : List (Node T)) (n : ℕ) (first last first' last' prev next : Option ℕ) (xs before after : List (ℕ × T)) (id : ℕ) (item : T) → IsChain nodes first last xs → xs ≡ before ++ (id, item) ∷ after → prev ≡ last_or before None → next ≡ first_or after None → n ≡ length nodes → shown ≡ nodes → length emptied ≡ length shown → Changes (with_item None) (Some id) shown emptied → shown_2 ≡ put n emptied nodes → length forward ≡ length shown_2 → Changes (with_next next) prev shown_2 forward → shown_3 ≡ put n forward (put n emptied nodes) → length back ≡ length shown_3 → Changes (with_prev prev) next shown_3 back → first' ≡ end_behind prev next first → last' ≡ end_behind next prev last → Rewritten nodes (put n back (put n forward (put n emptied nodes))) back first' last' (before ++ after)
-  unlinked nodes shown emptied shown_2 forward shown_3 back n first last first' last' prev next xs before after id item chain split prev_is next_is n_is shown_is emptied_length emptied_is shown_2_is forward_length forward_is shown_3_is back_length back_is first_is last_is =
+  pub unlinked_node : (nodes shown emptied shown_2 forward shown_3 back : List (Node T)) (n : ℕ) (first last first' last' prev next : Option ℕ) (xs before after : List (ℕ × T)) (id : ℕ) (item : T) → IsChain nodes first last xs → xs ≡ before ++ (id, item) ∷ after → prev ≡ last_or before None → next ≡ first_or after None → n ≡ length nodes → shown ≡ nodes → length emptied ≡ length shown → Changes (with_item None) (Some id) shown emptied → shown_2 ≡ put n emptied nodes → length forward ≡ length shown_2 → Changes (with_next next) prev shown_2 forward → shown_3 ≡ put n forward (put n emptied nodes) → length back ≡ length shown_3 → Changes (with_prev prev) next shown_3 back → first' ≡ end_behind prev next first → last' ≡ end_behind next prev last → RewritesLinks nodes (put n back (put n forward (put n emptied nodes))) back first' last' (before ++ after)
+  unlinked_node nodes shown emptied shown_2 forward shown_3 back n first last first' last' prev next xs before after id item chain split prev_is next_is n_is shown_is emptied_length emptied_is shown_2_is forward_length forward_is shown_3_is back_length back_is first_is last_is =
       let emptied_n : length emptied ≡ n = omega (arith, ap length shown_is) in
       let one : put n emptied nodes ≡ emptied = written_back n emptied nodes emptied_n (sym n_is) in
       let forward_n : length forward ≡ n = omega (arith, ap length (shown_2_is ∙ one)) in
@@ -62,7 +62,7 @@ module _ {T : Type 0} where
         same = omega arith;
       }
 
-  pub item_set : (nodes shown new : List (Node T)) (n : ℕ) (first last : Option ℕ) (xs before after : List (ℕ × T)) (id : ℕ) (old item : T) → IsChain nodes first last xs → xs ≡ before ++ (id, old) ∷ after → n ≡ length nodes → shown ≡ nodes → length new ≡ length shown → Changes (with_item (Some item)) (Some id) shown new → Rewritten nodes (put n new nodes) new first last (before ++ (id, item) ∷ after)
+  pub item_set : (nodes shown new : List (Node T)) (n : ℕ) (first last : Option ℕ) (xs before after : List (ℕ × T)) (id : ℕ) (old item : T) → IsChain nodes first last xs → xs ≡ before ++ (id, old) ∷ after → n ≡ length nodes → shown ≡ nodes → length new ≡ length shown → Changes (with_item (Some item)) (Some id) shown new → RewritesLinks nodes (put n new nodes) new first last (before ++ (id, item) ∷ after)
   item_set nodes shown new n first last xs before after id old item chain split n_is shown_is new_length change =
       let new_n : length new ≡ n = omega (arith, ap length shown_is) in
       record {

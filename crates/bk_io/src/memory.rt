@@ -120,7 +120,7 @@ impl MemSink {
     }
 
     /// The bytes that were taken.
-    pub fn taken(&self) -> &[u8]
+    pub fn taken_bytes(&self) -> &[u8]
         ensures { result.now ≡ self.now.taken }
     {
         self.bytes.as_slice()

@@ -10,9 +10,9 @@ use std::test::Fail;
 
 /// A reader whose reads fail.
 #[derive(Drop)]
-struct Broken;
+struct BrokenReader;
 
-impl Read for Broken {
+impl Read for BrokenReader {
     fn read(&mut self, _buf: &mut [u8]) -> io::Result<usize> {
         Err(io::Error::from(ErrorKind::Other))
     }
@@ -59,7 +59,7 @@ impl Write for Once {
 
 #[test]
 fn a_read_error_is_no_end(rt: HostRuntime) -> Result<(), Fail> {
-    let mut source = HostSource::new(rt.alloc(), Broken)?;
+    let mut source = HostSource::new(rt.alloc(), BrokenReader)?;
     assert_eq!(rt; source.next(), Err(Failed));
     assert_eq!(rt; source.next(), Err(Failed));
     Ok(())
@@ -171,7 +171,7 @@ fn forms_in_memory_fail_at_the_listed_calls(rt: HostRuntime) -> Result<(), Fail>
     for want in [Err(Failed), Ok(()), Ok(()), Err(Failed)] {
         assert_eq!(rt; sink.put(5), want);
     }
-    assert_eq!(rt; sink.taken(), [5, 5].as_slice());
+    assert_eq!(rt; sink.taken_bytes(), [5, 5].as_slice());
 
     let mut name_and_bytes = Vec::new(alloc);
     name_and_bytes.push(("a.c".to_string(alloc)?, b"int".to_vec(alloc)?))?;

@@ -6,6 +6,7 @@ use Rattle.std.specs.declared.alloc.AllocError.{AllocError}
 pub record MemoryIsShort : Type 0 where
   refusal : AllocError
 
--- of the error of an allocation: for the proof of `memory_is_short` alone
+-- of the error of an allocation: for the proof of `memory_is_short` alone, and here because nothing outside this file
+-- can write the field
 pub of_refusal : AllocError → MemoryIsShort
 of_refusal error = record { refusal = error }

@@ -11,7 +11,7 @@ use Rattle.c_arithmetic.specs.IntegerTypes.{width, is_signed}
 use Rattle.c_arithmetic.specs.Words.{low_bits, signed_bits, value, extension, residue, sign_extension}
 use Rattle.c_arithmetic.specs.Operations.{is_equal, is_less}
 use Rattle.c_arithmetic.proofs.LowBits.{low_bits-extension, extension-same, value-same, value-extension, low_bits-below, signed_small, narrow}
-use Rattle.c_arithmetic.proofs.Values.{low_bits-value, signed_fits, widened}
+use Rattle.c_arithmetic.proofs.Values.{low_bits-value, signed_fits, widened_fits}
 
 pub equal-value : (t : IntegerType) (a b : ℕ) → is_equal t a b ≡ true → value t a ≡ value t b
 equal-value t a b e = value-same t a b (eqb-true (low_bits t a) (low_bits t b) e)
@@ -44,7 +44,7 @@ small_word m h = omega arith
 signed_word : (t : IntegerType) (n : ℕ) → cast_signed w64 (sign_extension t n % 2 ^ 64) ≡ signed_bits t n
 signed_word t n =
     ap (cast_signed w64) (small_word (sign_extension t n) (signed_small t n))
-    ∙ to_z-of_z w64 (signed_bits t n) (widened (width t) (signed_bits t n) (narrow t) (signed_fits t n))
+    ∙ to_z-of_z w64 (signed_bits t n) (widened_fits (width t) (signed_bits t n) (narrow t) (signed_fits t n))
 
 pub value-long : (t : IntegerType) (n : ℕ) → is_signed t ≡ true → value Long (extension t n) ≡ value t n
 value-long Char n s = signed_word Char n

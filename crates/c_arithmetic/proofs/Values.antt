@@ -98,16 +98,16 @@ value-word UnsignedLong z e = ap pos (low_at UnsignedLong z) ∙ unsigned_64 z (
 -- ---- the word of a value
 
 -- a number of a narrow width is one of 64 bits
-pub widened : (w : Width) (z : ℤ) → bits w ≤ 64 → FitsSigned w z → FitsSigned w64 z
-widened w8 z narrow f = record { sfits = omega (arith, f.sfits) }
-widened w16 z narrow f = record { sfits = omega (arith, f.sfits) }
-widened w32 z narrow f = record { sfits = omega (arith, f.sfits) }
-widened w64 z narrow f = f
-widened w128 z narrow f = absurd (omega arith)
+pub widened_fits : (w : Width) (z : ℤ) → bits w ≤ 64 → FitsSigned w z → FitsSigned w64 z
+widened_fits w8 z narrow f = record { sfits = omega (arith, f.sfits) }
+widened_fits w16 z narrow f = record { sfits = omega (arith, f.sfits) }
+widened_fits w32 z narrow f = record { sfits = omega (arith, f.sfits) }
+widened_fits w64 z narrow f = f
+widened_fits w128 z narrow f = absurd (omega arith)
 
 signed_value_low : (t : IntegerType) (n : ℕ) → low_bits t (residue (signed_bits t n)) ≡ low_bits t n
 signed_value_low t n =
-    ap (low_bits t) (residue-fits (signed_bits t n) (widened (width t) (signed_bits t n) (narrow t) (signed_fits t n))) ∙ sign_extension-low t n
+    ap (low_bits t) (residue-fits (signed_bits t n) (widened_fits (width t) (signed_bits t n) (narrow t) (signed_fits t n))) ∙ sign_extension-low t n
 
 pub low_bits-value : (t : IntegerType) (n : ℕ) → low_bits t (residue (value t n)) ≡ low_bits t n
 low_bits-value Char n = signed_value_low Char n

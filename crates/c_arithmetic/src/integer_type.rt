@@ -74,14 +74,14 @@ impl IntegerType {
         ensures { pos result ≡ greatest self }
     {
         match self {
-            IntegerType::Char => 0x7f,
-            IntegerType::UnsignedChar => 0xff,
-            IntegerType::Short => 0x7fff,
-            IntegerType::UnsignedShort => 0xffff,
-            IntegerType::Int => 0x7fff_ffff,
-            IntegerType::UnsignedInt => 0xffff_ffff,
-            IntegerType::Long => 0x7fff_ffff_ffff_ffff,
-            IntegerType::UnsignedLong => 0xffff_ffff_ffff_ffff,
+            IntegerType::Char => i8::MAX as u64,
+            IntegerType::UnsignedChar => u64::from(u8::MAX),
+            IntegerType::Short => i16::MAX as u64,
+            IntegerType::UnsignedShort => u64::from(u16::MAX),
+            IntegerType::Int => i32::MAX as u64,
+            IntegerType::UnsignedInt => u64::from(u32::MAX),
+            IntegerType::Long => i64::MAX as u64,
+            IntegerType::UnsignedLong => u64::MAX,
         }
     }
 
@@ -90,12 +90,12 @@ impl IntegerType {
         ensures { result ≡ fits self number }
     {
         match self {
-            IntegerType::Char => -0x80 <= number && number <= 0x7f,
-            IntegerType::UnsignedChar => 0 <= number && number <= 0xff,
-            IntegerType::Short => -0x8000 <= number && number <= 0x7fff,
-            IntegerType::UnsignedShort => 0 <= number && number <= 0xffff,
-            IntegerType::Int => -0x8000_0000 <= number && number <= 0x7fff_ffff,
-            IntegerType::UnsignedInt => 0 <= number && number <= 0xffff_ffff,
+            IntegerType::Char => i64::from(i8::MIN) <= number && number <= i64::from(i8::MAX),
+            IntegerType::UnsignedChar => 0 <= number && number <= i64::from(u8::MAX),
+            IntegerType::Short => i64::from(i16::MIN) <= number && number <= i64::from(i16::MAX),
+            IntegerType::UnsignedShort => 0 <= number && number <= i64::from(u16::MAX),
+            IntegerType::Int => i64::from(i32::MIN) <= number && number <= i64::from(i32::MAX),
+            IntegerType::UnsignedInt => 0 <= number && number <= i64::from(u32::MAX),
             IntegerType::Long => true,
             IntegerType::UnsignedLong => 0 <= number,
         }

@@ -33,7 +33,7 @@ use Rattle.c_tag_bodies.specs.Bodies.{TagScope, enum_entered, struct_entered, st
 use Rattle.c_judgement_laws.specs.Covers.{AreTagsIn, IsTagIn}
 use Rattle.c_expression_laws.specs.Types.{IsTypeIn}
 use Rattle.c_note_laws.specs.Steps.{NoteSteps}
-use Rattle.c_note_laws.proofs.Forms.{ruled, each_adds, enum_adds, struct_adds}
+use Rattle.c_note_laws.proofs.Forms.{ruled_steps, each_adds, enum_adds, struct_adds}
 use Rattle.c_note_laws.proofs.Walks.{judge_adds}
 use Rattle.c_struct_laws.specs.Laws.{HaveTypes}
 use Rattle.c_struct_laws.specs.Growth.{Grow}
@@ -48,11 +48,11 @@ use Rattle.c_body_laws.proofs.Types.{judge_env, leads_itself, leads_then, leads_
 value_leads : (at : ℕ) (value : k.Held-Constant-value) (before : Option (Option ℕ)) (s : JudgementState) → LeadsOn s (judge_value_held at value before s).1
 value_leads at k.Constant-value-None' None s = leads_itself s
 value_leads at k.Constant-value-None' (Some before) s =
-    leads_steps s (judge_value_held at k.Constant-value-None' (Some before) s).1 refl (each_adds before (one_above at) s.1 (λ word. ruled (next_value at word) s.1))
+    leads_steps s (judge_value_held at k.Constant-value-None' (Some before) s).1 refl (each_adds before (one_above at) s.1 (λ word. ruled_steps (next_value at word) s.1))
 value_leads at (k.Constant-value-Some' x) before s =
     let a = judge x s in
     leads_steps s (judge_value_held at (k.Constant-value-Some' x) before s).1 (judge_env x s)
-    (NoteSteps.Follows (judge_adds x s) (each_adds a.0 explicit_value a.1.1 (λ v. ruled (given_value v) a.1.1)))
+    (NoteSteps.Follows (judge_adds x s) (each_adds a.0 explicit_value a.1.1 (λ v. ruled_steps (given_value v) a.1.1)))
 
 constant_named : (name : List ℕ) (value : Option ℕ) (s : JudgementState) → LeadsOn s (with_meaning name (constant_meaning value) s.0, s.1)
 constant_named name None s = record { grow = grow_itself s.1.structs; sound = λ h. record { noted = h.noted; typedefs = (tt, h.typedefs) } }

@@ -10,7 +10,7 @@ use crate::declared::DeclaredType;
 use c_typed_tree::{CType, StructDef};
 
 /// The greatest depth of a type that is declared.
-const MOST_DEPTH: u64 = 256;
+pub const MOST_DEPTH: u64 = 256;
 
 /// Whether a type that stands behind a pointer has at most a depth there.
 #[tactic(auto, using(crate::proofs::Deeper::deeper), unfolding(c_typed_tree::specs::model::View::opens))]

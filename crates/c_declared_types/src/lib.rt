@@ -6,4 +6,4 @@ mod declared;
 mod depth;
 
 pub use declared::{DeclaredType, array_of, function_of, parameter_of, pointer_to};
-pub use depth::{is_declarable, is_deep_at_most};
+pub use depth::{MOST_DEPTH, is_declarable, is_deep_at_most};

@@ -33,9 +33,9 @@ use Rattle.c_expression_height_laws.proofs.Rules.{StandsWithin, decay_within, ta
 
 -- ---- what is found of parts
 
-pub ruled : {A : Type 0} (P : A → Type 0) (r : Ruling A) (n : Notes) → IfOk r P → IfSome (note_fault r n).0 P
-ruled P (Ok a) n h = h
-ruled P (Err f) n h = tt
+pub ruled_fits : {A : Type 0} (P : A → Type 0) (r : Ruling A) (n : Notes) → IfOk r P → IfSome (note_fault r n).0 P
+ruled_fits P (Ok a) n h = h
+ruled_fits P (Err f) n h = tt
 
 pub each_within : {A B S : Type 0} (P : A → Type 0) (Q : B → Type 0) (o : Option A) (k : A → S → Option B × S) (s : S) → IfSome o P → ((a : A) → P a → IfSome (k a s).0 Q) → IfSome (each o k s).0 Q
 each_within P Q None k s h g = tt
@@ -47,37 +47,37 @@ both_within P Q R None p k s h g f = tt
 both_within P Q R (Some a) None k s h g f = tt
 both_within P Q R (Some a) (Some b) k s h g f = f a b h g
 
-pub appended : {A : Type 0} (P : A → Type 0) (Q : List A → Type 0) → ((xs : List A) (x : A) → Q xs → P x → Q (xs ++ x ∷ [])) → (found : Option (List A)) (r : Option A) → IfSome found Q → IfSome r P → IfSome (append_part found r) Q
-appended P Q push None r h g = tt
-appended P Q push (Some xs) None h g = tt
-appended P Q push (Some xs) (Some x) h g = push xs x h g
+pub appended_all : {A : Type 0} (P : A → Type 0) (Q : List A → Type 0) → ((xs : List A) (x : A) → Q xs → P x → Q (xs ++ x ∷ [])) → (found : Option (List A)) (r : Option A) → IfSome found Q → IfSome r P → IfSome (append_part found r) Q
+appended_all P Q push None r h g = tt
+appended_all P Q push (Some xs) None h g = tt
+appended_all P Q push (Some xs) (Some x) h g = push xs x h g
 
 pub either_found : {A S : Type 0} (P : A → Type 0) (b : Bool) (x y : Option A × S) → IfSome x.0 P → IfSome y.0 P → IfSome (if b then x else y).0 P
 either_found P true x y h g = h
 either_found P false x y h g = g
 
 module _ (l : ℕ) where
-  abbrev Made : TypedExpression → Type 0
-  Made a = StandsWithin 2 (suc l) a
+  abbrev IsOneHigher : TypedExpression → Type 0
+  IsOneHigher a = StandsWithin 2 (suc l) a
 
   -- ---- operators
 
-  pub prefix_found : (at : ℕ) (op : UnaryOp) (a : TypedExpression) (n : Notes) → IsPart l a → IfSome (apply_prefix at op a n).0 Made
-  prefix_found at op a n h = ruled Made _ (taken_by op a.place n) (unary_gives l n.structs at op a h)
+  pub prefix_found : (at : ℕ) (op : UnaryOp) (a : TypedExpression) (n : Notes) → IsPart l a → IfSome (apply_prefix at op a n).0 IsOneHigher
+  prefix_found at op a n h = ruled_fits IsOneHigher _ (taken_by op a.place n) (unary_gives l n.structs at op a h)
 
-  pub choice_found : (at : ℕ) (c a b : Option TypedExpression) (n : Notes) → IfSome c (IsPart l) → IfSome a (IsPart l) → IfSome b (IsPart l) → IfSome (choice_of_parts at c a b n).0 Made
+  pub choice_found : (at : ℕ) (c a b : Option TypedExpression) (n : Notes) → IfSome c (IsPart l) → IfSome a (IsPart l) → IfSome b (IsPart l) → IfSome (choice_of_parts at c a b n).0 IsOneHigher
   choice_found at None a b n k h g = tt
-  choice_found at (Some c) a b n k h g = both_within (IsPart l) (IsPart l) Made a b (choice_check at c) n h g (λ x y i j. ruled Made _ n (conditional_gives l at c x y k i j))
+  choice_found at (Some c) a b n k h g = both_within (IsPart l) (IsPart l) IsOneHigher a b (choice_check at c) n h g (λ x y i j. ruled_fits IsOneHigher _ n (conditional_gives l at c x y k i j))
 
-  commas_made : (at : ℕ) (xs : List TypedExpression) (n : Notes) → ArePart l xs → IfSome (commas_between at xs n).0 Made
-  commas_made at xs n h = either_found Made (are_two_or_more xs) (Some (comma_value at xs), n) (fault at BadOperand n) (comma_gives l at xs h) tt
+  commas_made : (at : ℕ) (xs : List TypedExpression) (n : Notes) → ArePart l xs → IfSome (commas_between at xs n).0 IsOneHigher
+  commas_made at xs n h = either_found IsOneHigher (are_two_or_more xs) (Some (comma_value at xs), n) (fault at BadOperand n) (comma_gives l at xs h) tt
 
-  pub commas_found : (at : ℕ) (o : Option (List TypedExpression)) (n : Notes) → IfSome o (ArePart l) → IfSome (commas at o n).0 Made
-  commas_found at o n h = each_within (ArePart l) Made o (commas_between at) n h (λ xs k. commas_made at xs n k)
+  pub commas_found : (at : ℕ) (o : Option (List TypedExpression)) (n : Notes) → IfSome o (ArePart l) → IfSome (commas at o n).0 IsOneHigher
+  commas_found at o n h = each_within (ArePart l) IsOneHigher o (commas_between at) n h (λ xs k. commas_made at xs n k)
 
   -- ---- names and texts
 
-  pub name_found : (at : ℕ) (o : Option NameMeaning) (n : Notes) → IfSome (name_of at o n).0 Made
+  pub name_found : (at : ℕ) (o : Option NameMeaning) (n : Notes) → IfSome (name_of at o n).0 IsOneHigher
   name_found at None n = tt
   name_found at (Some m.Faulty) n = tt
   name_found at (Some (m.Undefined number)) n = tt
@@ -87,31 +87,31 @@ module _ (l : ℕ) where
   name_found at (Some (m.Function callee result parameters)) n = tt
   name_found at (Some (m.Typedef ty)) n = tt
 
-  text_made : (at : ℕ) (bytes : List ℕ) (n : Notes) → IfSome (string_of at bytes n).0 Made
+  text_made : (at : ℕ) (bytes : List ℕ) (n : Notes) → IfSome (string_of at bytes n).0 IsOneHigher
   text_made at bytes n =
-      either_found Made (nat_le (length bytes) MOST_DATA) (and_then (new_text bytes n) (λ number. pure (Some (text at number (length bytes))))) (fault at BadType n)
+      either_found IsOneHigher (nat_le (length bytes) MOST_DATA) (and_then (new_text bytes n) (λ number. pure (Some (text at number (length bytes))))) (fault at BadType n)
       (global_within l (text_type (length bytes)) (new_text bytes n).0) tt
 
-  pub text_found : (at : ℕ) (spellings : List (List ℕ)) (n : Notes) → IfSome (string at spellings n).0 Made
+  pub text_found : (at : ℕ) (spellings : List (List ℕ)) (n : Notes) → IfSome (string at spellings n).0 IsOneHigher
   text_found at spellings n = text_made at (spelling_bytes spellings) n
 
   -- ---- calls
 
   argument_found : (ty : CType) (a : TypedExpression) (n : Notes) → IsPart l a → IfSome (argument ty a n).0 (IsWithin 0 l)
-  argument_found ty a n h = ruled (IsWithin 0 l) (take_value ty a) n (taken_within 0 l ty a h)
+  argument_found ty a n h = ruled_fits (IsWithin 0 l) (take_value ty a) n (taken_within 0 l ty a h)
 
   arguments_found : (tys : List CType) (xs : List TypedExpression) (found : Option (List TExpr)) (n : Notes) → ArePart l xs → IfSome found (AreWithin l) → IfSome (convert_arguments tys xs found n).0 (AreWithin l)
   arguments_found [] xs found n h g = g
   arguments_found (ty ∷ tys) [] found n h g = g
   arguments_found (ty ∷ tys) (x ∷ xs) found n h g =
       let r = argument ty x n in
-      arguments_found tys xs (append_part found r.0) r.1 h.1 (appended (IsWithin 0 l) (AreWithin l) (trees_more l) found r.0 g (argument_found ty x n h.0))
+      arguments_found tys xs (append_part found r.0) r.1 h.1 (appended_all (IsWithin 0 l) (AreWithin l) (trees_more l) found r.0 g (argument_found ty x n h.0))
 
-  call_made : (at : ℕ) (callee : Callee) (ty : CType) (o : Option (List TExpr)) → IfSome o (AreWithin l) → IfSome (call_with at callee ty o) Made
+  call_made : (at : ℕ) (callee : Callee) (ty : CType) (o : Option (List TExpr)) → IfSome o (AreWithin l) → IfSome (call_with at callee ty o) IsOneHigher
   call_made at callee ty None h = tt
   call_made at callee ty (Some xs) h = call_within l ty callee xs h
 
-  passing_found : (at : ℕ) (callee : Callee) (ty : CType) (tys : List CType) (xs : List TypedExpression) (n : Notes) → ArePart l xs → IfSome (call_passing at callee ty tys xs n).0 Made
+  passing_found : (at : ℕ) (callee : Callee) (ty : CType) (tys : List CType) (xs : List TypedExpression) (n : Notes) → ArePart l xs → IfSome (call_passing at callee ty tys xs n).0 IsOneHigher
   passing_found at callee ty tys xs n h = call_made at callee ty (convert_arguments tys xs (Some []) n).0 (arguments_found tys xs (Some []) n h (no_trees l))
 
   counted : (at : ℕ) (tys : List CType) (xs : List TypedExpression) → ArePart l xs → IfOk (count_arguments at tys xs) (ArePart l)
@@ -121,35 +121,35 @@ module _ (l : ℕ) where
       choose true = h
       choose false = tt
 
-  call_of_found : (at : ℕ) (callee : Callee) (ty : CType) (tys : List CType) (xs : List TypedExpression) (n : Notes) → ArePart l xs → IfSome (call_of at callee ty tys xs n).0 Made
+  call_of_found : (at : ℕ) (callee : Callee) (ty : CType) (tys : List CType) (xs : List TypedExpression) (n : Notes) → ArePart l xs → IfSome (call_of at callee ty tys xs n).0 IsOneHigher
   call_of_found at callee ty tys xs n h =
       let r = note_fault (count_arguments at tys xs) n in
-      each_within (ArePart l) Made r.0 (call_passing at callee ty tys) r.1 (ruled (ArePart l) (count_arguments at tys xs) n (counted at tys xs h)) (λ ys k. passing_found at callee ty tys ys r.1 k)
+      each_within (ArePart l) IsOneHigher r.0 (call_passing at callee ty tys) r.1 (ruled_fits (ArePart l) (count_arguments at tys xs) n (counted at tys xs h)) (λ ys k. passing_found at callee ty tys ys r.1 k)
 
-  pub call_found : (at : ℕ) (o : Option NameMeaning) (xs : Option (List TypedExpression)) (n : Notes) → IfSome xs (ArePart l) → IfSome (call_by_meaning at o xs n).0 Made
+  pub call_found : (at : ℕ) (o : Option NameMeaning) (xs : Option (List TypedExpression)) (n : Notes) → IfSome xs (ArePart l) → IfSome (call_by_meaning at o xs n).0 IsOneHigher
   call_found at None xs n h = tt
   call_found at (Some m.Faulty) xs n h = tt
   call_found at (Some (m.Undefined number)) xs n h = tt
   call_found at (Some (m.Local number ty)) xs n h = tt
   call_found at (Some (m.Object number ty)) xs n h = tt
   call_found at (Some (m.Constant word)) xs n h = tt
-  call_found at (Some (m.Function callee ty tys)) xs n h = each_within (ArePart l) Made xs (call_of at callee ty tys) n h (λ ys k. call_of_found at callee ty tys ys n k)
+  call_found at (Some (m.Function callee ty tys)) xs n h = each_within (ArePart l) IsOneHigher xs (call_of at callee ty tys) n h (λ ys k. call_of_found at callee ty tys ys n k)
   call_found at (Some (m.Typedef ty)) xs n h = tt
 
   -- ---- members
 
-  field_by : (at : ℕ) (a : TypedExpression) (x : MemberMeaning) (n : Notes) → IsPart l a → IfSome (field_in at a x n).0 Made
-  field_by at a q.Nothing n h = ruled Made _ n (field_gives l at a None h)
+  field_by : (at : ℕ) (a : TypedExpression) (x : MemberMeaning) (n : Notes) → IsPart l a → IfSome (field_in at a x n).0 IsOneHigher
+  field_by at a q.Nothing n h = ruled_fits IsOneHigher _ n (field_gives l at a None h)
   field_by at a q.Faulty n h = tt
-  field_by at a (q.Member found) n h = ruled Made _ n (field_gives l at a (Some found) h)
+  field_by at a (q.Member found) n h = ruled_fits IsOneHigher _ n (field_gives l at a (Some found) h)
 
-  pub field_found : (at : ℕ) (name : List ℕ) (a : TypedExpression) (n : Notes) → IsPart l a → IfSome (field_named at name a n).0 Made
+  pub field_found : (at : ℕ) (name : List ℕ) (a : TypedExpression) (n : Notes) → IsPart l a → IfSome (field_named at name a n).0 IsOneHigher
   field_found at name a n h = field_by at a (member_of n (struct_number (type_view a.ty)) name) n h
 
-  arrow_by : (at : ℕ) (a : TypedExpression) (x : MemberMeaning) (n : Notes) → StandsWithin 1 l a → IfSome (arrow_in at a x n).0 Made
-  arrow_by at a q.Nothing n h = ruled Made _ n (arrow_made l n.structs at a None h)
+  arrow_by : (at : ℕ) (a : TypedExpression) (x : MemberMeaning) (n : Notes) → StandsWithin 1 l a → IfSome (arrow_in at a x n).0 IsOneHigher
+  arrow_by at a q.Nothing n h = ruled_fits IsOneHigher _ n (arrow_made l n.structs at a None h)
   arrow_by at a q.Faulty n h = tt
-  arrow_by at a (q.Member found) n h = ruled Made _ n (arrow_made l n.structs at a (Some found) h)
+  arrow_by at a (q.Member found) n h = ruled_fits IsOneHigher _ n (arrow_made l n.structs at a (Some found) h)
 
-  pub arrow_found : (at : ℕ) (name : List ℕ) (a : TypedExpression) (n : Notes) → IsPart l a → IfSome (arrow_named at name a n).0 Made
+  pub arrow_found : (at : ℕ) (name : List ℕ) (a : TypedExpression) (n : Notes) → IsPart l a → IfSome (arrow_named at name a n).0 IsOneHigher
   arrow_found at name a n h = arrow_by at (decay a) (member_of n (target_number (type_view (decay a).ty)) name) n (decay_within 1 l a h)

@@ -103,8 +103,8 @@ module _ (n : ℕ) where
   abbrev Gives : Ruling TypedExpression → Type 0
   Gives r = GivesWithin 2 (suc n) r
 
-  abbrev Made : TypedExpression → Type 0
-  Made a = StandsWithin 2 (suc n) a
+  abbrev IsOneHigher : TypedExpression → Type 0
+  IsOneHigher a = StandsWithin 2 (suc n) a
 
   -- an operand that is a value, with room for a conversion
   abbrev pub IsOperand : TypedExpression → Type 0
@@ -113,7 +113,7 @@ module _ (n : ℕ) where
   tree_of : (a : TypedExpression) → IsOperand a → IsWithin 0 n a.tree
   tree_of a h = roomy 0 n a.tree h
 
-  both_in : (at : ℕ) (ty : CType) (op : BinaryOp) (to : CType) (x y : TypedExpression) → IsOperand x → IsOperand y → Made (binary_in at ty op to x y)
+  both_in : (at : ℕ) (ty : CType) (op : BinaryOp) (to : CType) (x y : TypedExpression) → IsOperand x → IsOperand y → IsOneHigher (binary_in at ty op to x y)
   both_in at ty op to x y h g = binary_within n ty op (convert_tree to x) (convert_tree to y) (converted_within 0 n to x h) (converted_within 0 n to y g)
 
   as_they_are : (ty : CType) (op : BinaryOp) (x y : TypedExpression) → IsOperand x → IsOperand y → IsWithin 2 (suc n) (e.Binary ty op x.tree y.tree)
@@ -137,28 +137,28 @@ module _ (n : ℕ) where
 
   sum_made : (ds : List StructDef) (at : ℕ) (x y : TypedExpression) → IsOperand x → IsOperand y → Gives (addition ds at x y)
   sum_made ds at x y h g =
-      either_made Made (points_to_object ds (type_view x.ty)) _ _
-      (only Made (is_integer (type_view y.ty)) _ _ (as_they_are x.ty b.Add x y h g))
-      (either_made Made (points_to_object ds (type_view y.ty)) _ _
-      (only Made (is_integer (type_view x.ty)) _ _ (as_they_are y.ty b.Add x y h g))
+      either_made IsOneHigher (points_to_object ds (type_view x.ty)) _ _
+      (only IsOneHigher (is_integer (type_view y.ty)) _ _ (as_they_are x.ty b.Add x y h g))
+      (either_made IsOneHigher (points_to_object ds (type_view y.ty)) _ _
+      (only IsOneHigher (is_integer (type_view x.ty)) _ _ (as_they_are y.ty b.Add x y h g))
       (arithmetic_made at b.Add x y (integer x) (integer y) h g))
 
   difference_made : (ds : List StructDef) (at : ℕ) (x y : TypedExpression) → IsOperand x → IsOperand y → Gives (subtraction ds at x y)
   difference_made ds at x y h g =
-      either_made Made (points_to_object ds (type_view x.ty)) _ _
-      (either_made Made (is_integer (type_view y.ty)) _ _ (as_they_are x.ty b.Subtract x y h g)
-      (only Made (is_same x.ty y.ty) _ _ (as_they_are long b.Subtract x y h g)))
+      either_made IsOneHigher (points_to_object ds (type_view x.ty)) _ _
+      (either_made IsOneHigher (is_integer (type_view y.ty)) _ _ (as_they_are x.ty b.Subtract x y h g)
+      (only IsOneHigher (is_same x.ty y.ty) _ _ (as_they_are long b.Subtract x y h g)))
       (arithmetic_made at b.Subtract x y (integer x) (integer y) h g)
 
   negation_made : (at : ℕ) (x : TypedExpression) → IsOperand x → Gives (not_operation at x)
-  negation_made at x h = only Made (is_scalar (type_view x.ty)) _ _ (unary_within n int u.Not x.tree (tree_of x h))
+  negation_made at x h = only IsOneHigher (is_scalar (type_view x.ty)) _ _ (unary_within n int u.Not x.tree (tree_of x h))
 
   logical_made : (at : ℕ) (op : BinaryOp) (x y : TypedExpression) → IsOperand x → IsOperand y → Gives (logical at op x y)
   logical_made at op x y h g =
-      only Made (is_scalar (type_view x.ty)) _ _ (only Made (is_scalar (type_view y.ty)) _ _ (as_they_are int op x y h g))
+      only IsOneHigher (is_scalar (type_view x.ty)) _ _ (only IsOneHigher (is_scalar (type_view y.ty)) _ _ (as_they_are int op x y h g))
 
   ordered_made : (at : ℕ) (op : BinaryOp) (x y : TypedExpression) → IsOperand x → IsOperand y → Gives (ordered_pointers at op x y)
-  ordered_made at op x y h g = only Made (are_pointers_of_one_type x y) _ _ (as_they_are int op x y h g)
+  ordered_made at op x y h g = only IsOneHigher (are_pointers_of_one_type x y) _ _ (as_they_are int op x y h g)
 
   comparison_made : (at : ℕ) (op : BinaryOp) (x y : TypedExpression) (i j : Option IntegerType) → IsOperand x → IsOperand y → Gives (comparison_of at op x y i j)
   comparison_made at op x y None j h g = ordered_made at op x y h g
@@ -196,7 +196,7 @@ module _ (n : ℕ) where
 
   -- ---- `?:`, of values
 
-  choice_in_made : (at : ℕ) (c : TExpr) (ty : CType) (x y : TypedExpression) → IsWithin 0 n c → IsOperand x → IsOperand y → Made (choice_in at c ty x y)
+  choice_in_made : (at : ℕ) (c : TExpr) (ty : CType) (x y : TypedExpression) → IsWithin 0 n c → IsOperand x → IsOperand y → IsOneHigher (choice_in at c ty x y)
   choice_in_made at c ty x y k h g = conditional_within n ty c (convert_tree ty x) (convert_tree ty y) k (converted_within 0 n ty x h) (converted_within 0 n ty y g)
 
   choice_met_made : (at : ℕ) (c : TExpr) (x y : TypedExpression) (met : Option CType) → IsWithin 0 n c → IsOperand x → IsOperand y → Gives (choice_met at c x y met)
@@ -205,7 +205,7 @@ module _ (n : ℕ) where
 
   choice_apart_made : (at : ℕ) (c : TExpr) (x y : TypedExpression) (p q : Bool) → IsWithin 0 n c → IsOperand x → IsOperand y → Gives (choice_apart at c x y p q)
   choice_apart_made at c x y p q k h g =
-      either_made Made (is_same x.ty y.ty) _ _ (choice_in_made at c x.ty x y k h g) (choice_met_made at c x y (meet x.ty y.ty p q) k h g)
+      either_made IsOneHigher (is_same x.ty y.ty) _ _ (choice_in_made at c x.ty x y k h g) (choice_met_made at c x y (meet x.ty y.ty p q) k h g)
 
   choice_made : (at : ℕ) (c : TExpr) (x y : TypedExpression) (p q : Bool) (i j : Option IntegerType) → IsWithin 0 n c → IsOperand x → IsOperand y → Gives (choice_of at c x y p q i j)
   choice_made at c x y p q None j k h g = choice_apart_made at c x y p q k h g
@@ -220,38 +220,38 @@ module _ (n : ℕ) where
 
   element_made : (at : ℕ) (x y : TypedExpression) (is_index : Bool) (to : Option CType) → IsOperand x → IsOperand y → Gives (element_by_index at x y is_index to)
   element_made at x y is_index None h g = tt
-  element_made at x y is_index (Some ty) h g = only Made is_index _ _ (index_within n ty x.tree y.tree (tree_of x h) (tree_of y g))
+  element_made at x y is_index (Some ty) h g = only IsOneHigher is_index _ _ (index_within n ty x.tree y.tree (tree_of x h) (tree_of y g))
 
   indexed : (ds : List StructDef) (at : ℕ) (x y : TypedExpression) → IsOperand x → IsOperand y → Gives (index ds at x y)
   indexed ds at x y h g =
-      either_made Made (points_to_object ds (type_view x.ty)) _ _ (element_made at x y (is_integer (type_view y.ty)) (object_of ds x.ty) h g)
+      either_made IsOneHigher (points_to_object ds (type_view x.ty)) _ _ (element_made at x y (is_integer (type_view y.ty)) (object_of ds x.ty) h g)
       (element_made at x y (is_integer (type_view x.ty)) (object_of ds y.ty) h g)
 
   address_made : (at : ℕ) (x : TypedExpression) → IsOperand x → Gives (address at x)
-  address_made at x h = only Made (is_somewhere x.place) _ _ (unary_within n (t.Pointer x.ty) u.Address x.tree (tree_of x h))
+  address_made at x h = only IsOneHigher (is_somewhere x.place) _ _ (unary_within n (t.Pointer x.ty) u.Address x.tree (tree_of x h))
 
   before_made : (ds : List StructDef) (at : ℕ) (op : UnaryOp) (x : TypedExpression) → IsOperand x → Gives (step_before ds at op x)
-  before_made ds at op x h = only Made (is_assignable x) _ _ (only Made (is_steppable ds x) _ _ (unary_within n x.ty op x.tree (tree_of x h)))
+  before_made ds at op x h = only IsOneHigher (is_assignable x) _ _ (only IsOneHigher (is_steppable ds x) _ _ (unary_within n x.ty op x.tree (tree_of x h)))
 
   pub behind_made : (ds : List StructDef) (at : ℕ) (op : StepOp) (x : TypedExpression) → IsOperand x → Gives (step_behind ds at op x)
-  behind_made ds at op x h = only Made (is_assignable x) _ _ (only Made (is_steppable ds x) _ _ (postfix_within n x.ty op x.tree (tree_of x h)))
+  behind_made ds at op x h = only IsOneHigher (is_assignable x) _ _ (only IsOneHigher (is_steppable ds x) _ _ (postfix_within n x.ty op x.tree (tree_of x h)))
 
   field_found_made : (at : ℕ) (x : TypedExpression) (found : Option FoundMember) → IsOperand x → Gives (field_found at x found)
   field_found_made at x None h = tt
   field_found_made at x (Some m) h = field_within n m.ty x.tree m.number (tree_of x h)
 
   pub field_made : (at : ℕ) (x : TypedExpression) (found : Option FoundMember) → IsOperand x → Gives (field at x found)
-  field_made at x found h = only Made (is_struct_place x) _ _ (field_found_made at x found h)
+  field_made at x found h = only IsOneHigher (is_struct_place x) _ _ (field_found_made at x found h)
 
   arrow_found_made : (at : ℕ) (x : TypedExpression) (found : Option FoundMember) → IsOperand x → Gives (arrow_found at x found)
   arrow_found_made at x None h = tt
   arrow_found_made at x (Some m) h = arrow_within n m.ty x.tree m.number (tree_of x h)
 
   pub arrow_made : (ds : List StructDef) (at : ℕ) (x : TypedExpression) (found : Option FoundMember) → IsOperand x → Gives (arrow ds at x found)
-  arrow_made ds at x found h = only Made (points_to_struct ds (type_view x.ty)) _ _ (arrow_found_made at x found h)
+  arrow_made ds at x found h = only IsOneHigher (points_to_struct ds (type_view x.ty)) _ _ (arrow_found_made at x found h)
 
   pub size_made : (ds : List StructDef) (at : ℕ) (ty : CType) → Gives (size ds at ty)
-  size_made ds at ty = only Made (is_object ds (type_view ty)) _ _ (number_within n _ (size_of ds (type_view ty)))
+  size_made ds at ty = only IsOneHigher (is_object ds (type_view ty)) _ _ (number_within n _ (size_of ds (type_view ty)))
 
   -- ---- assignments
 
@@ -260,11 +260,11 @@ module _ (n : ℕ) where
   set_to_made at x (Err f) h g = tt
 
   set_made : (at : ℕ) (x y : TypedExpression) (null : Bool) → IsOperand x → IsOperand y → Gives (set at x y null)
-  set_made at x y null h g = only Made (is_assignable x) _ _ (set_to_made at x (value_for_type x.ty y null) h (value_within 0 n x.ty y null g))
+  set_made at x y null h g = only IsOneHigher (is_assignable x) _ _ (set_to_made at x (value_for_type x.ty y null) h (value_within 0 n x.ty y null g))
 
   moved_made : (ds : List StructDef) (at : ℕ) (op : AssignOp) (x y : TypedExpression) → IsOperand x → IsOperand y → Gives (moved_place ds at op x y)
   moved_made ds at op x y h g =
-      only Made (moves op) _ _ (only Made (points_to_object ds (type_view x.ty)) _ _ (assign_within n x.ty op x.tree y.tree (tree_of x h) (tree_of y g)))
+      only IsOneHigher (moves op) _ _ (only IsOneHigher (points_to_object ds (type_view x.ty)) _ _ (assign_within n x.ty op x.tree y.tree (tree_of x h) (tree_of y g)))
 
   compound_of_made : (ds : List StructDef) (at : ℕ) (op : AssignOp) (x y : TypedExpression) (i j : Option IntegerType) → IsOperand x → IsOperand y → Gives (compound_of ds at op x y i j)
   compound_of_made ds at op x y i None h g = tt
@@ -273,7 +273,7 @@ module _ (n : ℕ) where
       assign_within n x.ty op x.tree (convert_tree (right_type op i j) y) (tree_of x h) (converted_within 0 n (right_type op i j) y g)
 
   compound_made : (ds : List StructDef) (at : ℕ) (op : AssignOp) (x y : TypedExpression) → IsOperand x → IsOperand y → Gives (compound ds at op x y)
-  compound_made ds at op x y h g = only Made (is_assignable x) _ _ (compound_of_made ds at op x y (integer x) (integer y) h g)
+  compound_made ds at op x y h g = only IsOneHigher (is_assignable x) _ _ (compound_of_made ds at op x y (integer x) (integer y) h g)
 
   value_made : (ds : List StructDef) (at : ℕ) (op : AssignOp) (x y : TypedExpression) → IsOperand x → IsOperand y → Gives (assigned.assign_rvalue ds at op x y)
   value_made ds at o.Set x y h g = set_made at x y (is_null_for x.ty y) h g
@@ -329,7 +329,7 @@ module _ (n : ℕ) where
 
   pub cast_gives : (at : ℕ) (to : DeclaredType) (x : TypedExpression) → IsPart x → Gives (cast_to at to x)
   cast_gives at (d.Value ty) x h =
-      only Made (is_castable ty (decay x) (is_null_for ty (decay x))) _ _ (cast_within n ty (decay x).tree (tree_of (decay x) (value_of x h)))
+      only IsOneHigher (is_castable ty (decay x) (is_null_for ty (decay x))) _ _ (cast_within n ty (decay x).tree (tree_of (decay x) (value_of x h)))
   cast_gives at (d.Unsized element) x h = tt
   cast_gives at (d.Function result parameters) x h = tt
 
@@ -368,5 +368,5 @@ module _ (n : ℕ) where
   gathered [] g h k = k
   gathered (x ∷ xs) g h k = gathered xs (with_operand (decay x) g) h.1 (trees_more n g.trees (decay x).tree k (tree_of (decay x) (value_of x h.0)))
 
-  pub comma_gives : (at : ℕ) (xs : List TypedExpression) → ArePart xs → Made (comma_value at xs)
+  pub comma_gives : (at : ℕ) (xs : List TypedExpression) → ArePart xs → IsOneHigher (comma_value at xs)
   comma_gives at xs h = comma_within n (comma_operands no_operands xs).last (comma_operands no_operands xs).trees (gathered xs no_operands h (no_trees n))

@@ -32,7 +32,7 @@ use Rattle.c_expression_laws.specs.Types.{AreTypes, IsTypeIn, HasTypedefs}
 use Rattle.c_expression_laws.specs.Walks.{Walks}
 use Rattle.c_expression_laws.proofs.Types.{IsFoundType, leaf_found, pointer_found, array_found, function_found, name_found}
 use Rattle.c_expression_laws.proofs.Walks.{judged_stays, later_of, walk_within, walk_one, walk_two, walk_choice, walk_any}
-use Rattle.c_expression_laws.proofs.Parts.{part_becomes, extends_same, extends_then, left, Declares, IsParameter, AreParameters, parameter_more, one_declared, walk_after, given_found, comma_walk, size_walk, call_walk}
+use Rattle.c_expression_laws.proofs.Parts.{part_becomes, extends_same, extends_then, left_scope, Declares, IsParameter, AreParameters, parameter_more, one_declared, walk_after, given_found, comma_walk, size_walk, call_walk}
 
 -- a length, of which nothing is asked
 abbrev IsLength : Type 0 → Option ℕ → Type 0
@@ -158,7 +158,7 @@ module _ (c : Context) (lawful : IsLawfulContext c) where
         let row = judge_parameter_row list (Some []) (enter s.0, s.1) in
         let declares = parameter_row_walks names list (Some []) (enter s.0, s.1) d (λ v k. tt) in
         let outer : JudgementState = (leave s.0.outside row.1.0, row.1.1) in
-        let one : Walks c names (AreParameters c) s (row.0, outer) = record { env = left s.0 row.1.0 declares.env; notes = declares.notes } in
+        let one : Walks c names (AreParameters c) s (row.0, outer) = record { env = left_scope s.0 row.1.0 declares.env; notes = declares.notes } in
         let r = derive at x of outer in
         let two = derive_walks names at x of outer (typedefs_after names (AreParameters c) s (row.0, outer) one d) (λ v k. f v (declares.notes.knows k)) in
         walk_two c names (AreParameters c) (IsFoundType c) (IsFoundType c) s row.0 outer r.0 r.1 (function at) (λ taken later a back l. l) one two (λ a b l m. function_found c names at a b r.1.1 l m)

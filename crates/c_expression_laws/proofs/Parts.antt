@@ -69,8 +69,8 @@ oldest_of more names = dropped more names (length (more ++ names) - length names
     counted : (a b n : ℕ) → n ≡ a + b → n - b ≡ a
     counted a b n h = omega arith
 
-pub left : (env later : Env) → Extends (enter env) later → leave env.outside later ≡ env
-left env later h =
+pub left_scope : (env later : Env) → Extends (enter env) later → leave env.outside later ≡ env
+left_scope env later h =
     ap (λ ns. record { names = ns; outside = env.outside })
     (ap (λ o. oldest o later.names) h.outside ∙ (ap (oldest (length env.names)) h.names ∙ oldest_of h.more env.names))
 

@@ -7,7 +7,7 @@ use Rattle.c_lexer.specs.declared.token.Punct.TheVariants as p
 use Rattle.c_tree.specs.declared.expressions.Expr.{Expr}
 use Rattle.c_grammar.specs.declared.shapes.Shape.TheVariants as h
 use Rattle.c_grammar.specs.declared.shapes.Declarator.{Declarator}
-use Rattle.c_grammar.specs.declared.shapes.Naming.{Naming}
+use Rattle.c_grammar.specs.declared.shapes.NameRequirement.{NameRequirement}
 use Rattle.c_grammar.specs.Classes.{infix_of}
 use Rattle.c_grammar.specs.Levels.{binding_level, operand_level, result_level}
 use Rattle.c_grammar.specs.Types.{with_shape, without_void}
@@ -28,14 +28,14 @@ pub list_end : {A : Type 0} (item : Parser A) (n at : ℕ) (found : List A) (ts 
 unfolding list_from
 list_end item n at found ts = end (λ m. list_from item m found ts) n at
 
-pub climb_turn : (s : TypeNames) (e : ℕ → Parser Expr) (d : Naming → Parser Declarator) (place least n at level : ℕ) (left : Expr) (ts : List Lexeme) → at < n
+pub climb_turn : (s : TypeNames) (e : ℕ → Parser Expr) (d : NameRequirement → Parser Declarator) (place least n at level : ℕ) (left : Expr) (ts : List Lexeme) → at < n
     → climb s e d place least (n - at) level left ts ≡ (if nat_lt (binding_level (infix_of (kind_at ts))) least then Ok (left, ts)
     else if nat_lt level (operand_level (infix_of (kind_at ts))) then Err ts
     else and_then (step_by s e d (infix_of (kind_at ts)) place left (token_tail ts)) (climb s e d place least (n - (at + 1)) (result_level (infix_of (kind_at ts)))))
 unfolding climb
 climb_turn s e d place least n at level left ts = turn (λ m. climb s e d place least m level left ts) n at
 
-pub climb_end : (s : TypeNames) (e : ℕ → Parser Expr) (d : Naming → Parser Declarator) (place least n at level : ℕ) (left : Expr) (ts : List Lexeme) → n ≤ at
+pub climb_end : (s : TypeNames) (e : ℕ → Parser Expr) (d : NameRequirement → Parser Declarator) (place least n at level : ℕ) (left : Expr) (ts : List Lexeme) → n ≤ at
     → climb s e d place least (n - at) level left ts ≡ Ok (left, ts)
 unfolding climb
 climb_end s e d place least n at level left ts = end (λ m. climb s e d place least m level left ts) n at
@@ -48,7 +48,7 @@ then_then (Ok p) f g = refl
 then_then (Err r) f g = refl
 
 -- the length of an array is read, and then the shape is put behind the others
-length_by : (s : TypeNames) (e : ℕ → Parser Expr) (d : Naming → Parser Declarator) (found : Declarator) (ts : List Lexeme)
+length_by : (s : TypeNames) (e : ℕ → Parser Expr) (d : NameRequirement → Parser Declarator) (found : Declarator) (ts : List Lexeme)
     → length_behind s e d found ts ≡ and_then (array_length e ts) (λ x. pure (with_shape found (h.Array x)))
 unfolding length_behind array_length
 length_by s e d found ts = by_test (is_mark p.RightBracket (kind_at ts))
@@ -63,7 +63,7 @@ length_by s e d found ts = by_test (is_mark p.RightBracket (kind_at ts))
     by_test true = refl
     by_test false = over (e levels.conditional ts)
 
-suffixes_more : (s : TypeNames) (e : ℕ → Parser Expr) (d : Naming → Parser Declarator) (n : ℕ) (found : Declarator) (ts : List Lexeme)
+suffixes_more : (s : TypeNames) (e : ℕ → Parser Expr) (d : NameRequirement → Parser Declarator) (n : ℕ) (found : Declarator) (ts : List Lexeme)
     → suffixes s e d (suc n) found ts ≡ (if is_mark p.LeftBracket (kind_at ts) then and_then (array_length e (token_tail ts)) (λ x. suffixes s e d n (with_shape found (h.Array x)))
     else if is_mark p.LeftParen (kind_at ts) then and_then (parameters_behind s e d (token_tail ts)) (λ xs. suffixes s e d n (with_shape found (h.Takes (without_void xs))))
     else Ok (found, ts))
@@ -71,13 +71,13 @@ unfolding suffixes
 suffixes_more s e d n found ts = ap (λ o. if is_mark p.LeftBracket (kind_at ts) then o else if is_mark p.LeftParen (kind_at ts) then and_then (parameters_behind s e d (token_tail ts)) (λ xs. suffixes s e d n (with_shape found (h.Takes (without_void xs)))) else Ok (found, ts))
     (ap (λ o. and_then o (suffixes s e d n)) (length_by s e d found (token_tail ts)) ∙ sym (then_then (array_length e (token_tail ts)) (λ x. pure (with_shape found (h.Array x))) (suffixes s e d n)))
 
-pub suffixes_turn : (s : TypeNames) (e : ℕ → Parser Expr) (d : Naming → Parser Declarator) (n at : ℕ) (found : Declarator) (ts : List Lexeme) → at < n
+pub suffixes_turn : (s : TypeNames) (e : ℕ → Parser Expr) (d : NameRequirement → Parser Declarator) (n at : ℕ) (found : Declarator) (ts : List Lexeme) → at < n
     → suffixes s e d (n - at) found ts ≡ (if is_mark p.LeftBracket (kind_at ts) then and_then (array_length e (token_tail ts)) (λ x. suffixes s e d (n - (at + 1)) (with_shape found (h.Array x)))
     else if is_mark p.LeftParen (kind_at ts) then and_then (parameters_behind s e d (token_tail ts)) (λ xs. suffixes s e d (n - (at + 1)) (with_shape found (h.Takes (without_void xs))))
     else Ok (found, ts))
 suffixes_turn s e d n at found ts below = turn (λ m. suffixes s e d m found ts) n at below ∙ suffixes_more s e d (n - (at + 1)) found ts
 
-pub suffixes_end : (s : TypeNames) (e : ℕ → Parser Expr) (d : Naming → Parser Declarator) (n at : ℕ) (found : Declarator) (ts : List Lexeme) → n ≤ at
+pub suffixes_end : (s : TypeNames) (e : ℕ → Parser Expr) (d : NameRequirement → Parser Declarator) (n at : ℕ) (found : Declarator) (ts : List Lexeme) → n ≤ at
     → suffixes s e d (n - at) found ts ≡ Ok (found, ts)
 unfolding suffixes
 suffixes_end s e d n at found ts = end (λ m. suffixes s e d m found ts) n at

@@ -11,7 +11,7 @@ ghost use Rattle.c_token_cursor.specs.Answers.{Answers};
 ghost use Rattle.c_expression_parser.specs.model.Suffixes as suffixes;
 
 use c_grammar::levels::{self, binding_level, level_of, operand_level, result_level};
-use c_grammar::{Declarator, Infix, Naming, Prefix, Shape, infix_of, prefix_of};
+use c_grammar::{Declarator, Infix, NameRequirement, Prefix, Shape, infix_of, prefix_of};
 use c_lexer::Punct;
 use c_parser_types::{
     comma_of, may_be_nameless, parameter_of, with_shape, with_shapes, without_void,
@@ -35,7 +35,7 @@ fn assignments(
         tokens.old) result tokens.new }
 {
     let mut found = Seq::new(alloc);
-    for _turn in 0..tokens.left() {
+    for _turn in 0..tokens.count_left() {
         found.push(expr(alloc, scope, tokens, depth, levels::ASSIGNMENT)?)?;
         if !tokens.sees(Punct::Comma) {
             return Ok(found);
@@ -81,7 +81,7 @@ fn type_name(
 {
     let at = tokens.place();
     let base = Box::new(alloc, plain(alloc, scope, tokens)?)?;
-    let found = declarator(alloc, scope, tokens, depth, Naming::Refused)?;
+    let found = declarator(alloc, scope, tokens, depth, NameRequirement::Refused)?;
     let ty = with_shapes(alloc, found.shapes, Box::into_inner(base).into_type())?;
     Ok(TypeName { at, ty })
 }
@@ -100,7 +100,7 @@ fn parameter(
 {
     let at = tokens.place();
     let base = Box::new(alloc, plain(alloc, scope, tokens)?)?;
-    let found = declarator(alloc, scope, tokens, depth, Naming::Optional)?;
+    let found = declarator(alloc, scope, tokens, depth, NameRequirement::Optional)?;
     let ty = Box::into_inner(base).into_type();
     Ok(parameter_of(alloc, at, ty, found)?)
 }
@@ -118,7 +118,7 @@ fn parameter_list(
         (model.declarator scope.now depth)) (length tokens.old) [] tokens.old) result tokens.new }
 {
     let mut found = Seq::new(alloc);
-    for _turn in 0..tokens.left() {
+    for _turn in 0..tokens.count_left() {
         found.push(parameter(alloc, scope, tokens, depth)?)?;
         if !tokens.sees(Punct::Comma) {
             return Ok(found);
@@ -552,12 +552,13 @@ fn climb(
         at least (length tokens.old) first.1 first.0 tokens.old) result tokens.new }
 {
     let (mut left, mut level) = first;
-    for _turn in 0..tokens.left() {
+    for _turn in 0..tokens.count_left() {
         let kind = infix_of(tokens.peek());
         if binding_level(kind) < least {
             return Ok(left);
         }
         if level < operand_level(kind) {
+            // So the drops of its parts are proved apart.
             drop(left);
             return Err(ParseStop::Refused);
         }
@@ -627,7 +628,7 @@ fn suffixes(
     ensures { Answers (model.suffixes scope.now (model.expr scope.now depth)
         (model.declarator scope.now depth) (length tokens.old) found tokens.old) result tokens.new }
 {
-    for _turn in 0..tokens.left() {
+    for _turn in 0..tokens.count_left() {
         if tokens.sees(Punct::LeftBracket) {
             tokens.take();
             let length = array_length(alloc, scope, tokens, depth)?;
@@ -651,7 +652,7 @@ fn group_behind(
     scope: &TypedefScope,
     tokens: &mut Tokens<'_>,
     depth: usize,
-    naming: Naming,
+    naming: NameRequirement,
 ) -> Result<Declarator, ParseStop>
     ensures { Answers (model.group_behind scope.now (model.expr scope.now depth)
         (model.declarator scope.now depth) naming tokens.old) result tokens.new }
@@ -668,7 +669,7 @@ fn core(
     scope: &TypedefScope,
     tokens: &mut Tokens<'_>,
     depth: usize,
-    naming: Naming,
+    naming: NameRequirement,
 ) -> Result<Declarator, ParseStop>
     ensures { Answers (model.core scope.now (model.expr scope.now depth) (model.declarator scope.now depth)
         naming tokens.old) result tokens.new }
@@ -698,7 +699,7 @@ fn pointer_declarator(
     scope: &TypedefScope,
     tokens: &mut Tokens<'_>,
     depth: usize,
-    naming: Naming,
+    naming: NameRequirement,
 ) -> Result<Declarator, ParseStop>
     ensures { Answers (model.pointer_declarator scope.now (model.expr scope.now depth)
         (model.declarator scope.now depth) naming tokens.old) result tokens.new }
@@ -721,7 +722,7 @@ pub fn declarator(
     scope: &TypedefScope,
     tokens: &mut Tokens<'_>,
     depth: usize,
-    naming: Naming,
+    naming: NameRequirement,
 ) -> Result<Declarator, ParseStop>
     ensures { Answers (model.declarator scope.now depth naming tokens.old) result tokens.new }
 {

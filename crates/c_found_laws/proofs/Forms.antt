@@ -123,9 +123,9 @@ tells_both s u v f h g = tells_as s v (λ p. f p.0 p.1) (tells_then s u v h g)
 pub tells_never : {X : Type 0} (s u : JudgementState) → Tells (IsTrue false) s u → Tells X s u
 tells_never s u h = tells_as s u no_true h
 
-pub ruled : {A : Type 0} (env : Env) (r : Ruling A) (n : Notes) → Tells (IsFound (note_fault r n).0) (env, n) (env, (note_fault r n).1)
-ruled env (Ok a) n = tells_none (env, n) refl
-ruled env (Err f) n = tells_fault env f.at f.kind n
+pub ruled_tells : {A : Type 0} (env : Env) (r : Ruling A) (n : Notes) → Tells (IsFound (note_fault r n).0) (env, n) (env, (note_fault r n).1)
+ruled_tells env (Ok a) n = tells_none (env, n) refl
+ruled_tells env (Err f) n = tells_fault env f.at f.kind n
 
 module _ (env : Env) (s : JudgementState) where
   pub each_tells : {A B : Type 0} (o : Option A) (f : A → Notes → Option B × Notes) (n : Notes) → Tells (IsFound o) s (env, n) → ((a : A) → Tells (IsFound (f a n).0) (env, n) (env, (f a n).1))
@@ -181,13 +181,13 @@ module _ (env : Env) where
 
   pub prefix_tells : (at : ℕ) (op : UnaryOp) (a : TypedExpression) (n : Notes) → Tells (IsFound (apply_prefix at op a n).0) (env, n) (env, (apply_prefix at op a n).1)
   prefix_tells at op a n =
-      tells_both (env, n) (env, taken_by op a.place n) (env, (apply_prefix at op a n).1) (λ x y. y) (taken_tells op a.place n) (ruled env (unary_ruling n.structs at op a) (taken_by op a.place n))
+      tells_both (env, n) (env, taken_by op a.place n) (env, (apply_prefix at op a n).1) (λ x y. y) (taken_tells op a.place n) (ruled_tells env (unary_ruling n.structs at op a) (taken_by op a.place n))
 
   pub choice_tells : (s : JudgementState) (at : ℕ) (c a b : Option TypedExpression) (n : Notes) → Tells ((IsFound c × IsFound a) × IsFound b) s (env, n) → Tells (IsFound (choice_of_parts at c a b n).0) s (env, (choice_of_parts at c a b n).1)
   choice_tells s at None a b n h = tells_as s (env, n) (λ x. no_true x.0.0) h
   choice_tells s at (Some c) None b n h = tells_as s (env, n) (λ x. no_true x.0.1) h
   choice_tells s at (Some c) (Some a) None n h = tells_as s (env, n) (λ x. no_true x.1) h
-  choice_tells s at (Some c) (Some a) (Some b) n h = tells_both s (env, n) (env, (choice_check at c a b n).1) (λ x y. y) h (ruled env _ n)
+  choice_tells s at (Some c) (Some a) (Some b) n h = tells_both s (env, n) (env, (choice_check at c a b n).1) (λ x y. y) h (ruled_tells env _ n)
 
   between_tells : (at : ℕ) (l : List TypedExpression) (n : Notes) → Tells (IsFound (commas_between at l n).0) (env, n) (env, (commas_between at l n).1)
   between_tells at l n = choose (are_two_or_more l)
@@ -218,15 +218,15 @@ pub meaning_sound : (env : Env) (name : List ℕ) → IsTrue (are_sound_names en
 meaning_sound env name h = found_sound is_sound name env.names h
 
 -- where a name has no fault, if the scope is sound
-abbrev Told : {A : Type 0} → Env → Option NameMeaning → Notes → Option A × Notes → Type 0
-Told env o n r = (IsTrue (are_sound_names env.names) → IsTrue (holds is_sound o)) → Tells (IsFound r.0) (env, n) (env, r.1)
+abbrev TellsIfFound : {A : Type 0} → Env → Option NameMeaning → Notes → Option A × Notes → Type 0
+TellsIfFound env o n r = (IsTrue (are_sound_names env.names) → IsTrue (holds is_sound o)) → Tells (IsFound r.0) (env, n) (env, r.1)
 
 -- a name whose declaration has a fault
 faulty_tells : {X : Type 0} (env : Env) (n : Notes) → (IsTrue (are_sound_names env.names) → IsTrue false) → Tells X (env, n) (env, n)
 faulty_tells env n h = record { before = λ t. t; stays = λ t g. g; found = λ t g. no_true (h g.0) }
 
 module _ (env : Env) where
-  name_by : (at : ℕ) (o : Option NameMeaning) (n : Notes) → Told env o n (name_of at o n)
+  name_by : (at : ℕ) (o : Option NameMeaning) (n : Notes) → TellsIfFound env o n (name_of at o n)
   name_by at None n h = tells_fault env at UnknownName n
   name_by at (Some m.Faulty) n h = faulty_tells env n h
   name_by at (Some (m.Undefined number)) n h = tells_use env number at n
@@ -262,7 +262,7 @@ module _ (env : Env) where
   arguments_tell s (ty ∷ tys) [] found n h = h
   arguments_tell s (ty ∷ tys) (a ∷ args) found n h =
       let r = argument ty a n in
-      arguments_tell s tys args (append_part found r.0) r.1 (tells_both s (env, n) (env, r.1) (append_found found r.0) h (ruled env (take_value ty a) n))
+      arguments_tell s tys args (append_part found r.0) r.1 (tells_both s (env, n) (env, r.1) (append_found found r.0) h (ruled_tells env (take_value ty a) n))
 
   call_of_tells : (at : ℕ) (callee : Callee) (ty : CType) (tys : List CType) (args : List TypedExpression) (n : Notes) → Tells (IsFound (call_of at callee ty tys args n).0) (env, n) (env, (call_of at callee ty tys args n).1)
   call_of_tells at callee ty tys args n = of (count_arguments at tys args)
@@ -325,24 +325,24 @@ faulty_member_tells env n h = record { before = λ t. t; stays = λ t g. g; foun
 
 module _ (env : Env) where
   field_by : (at : ℕ) (a : TypedExpression) (x : MemberMeaning) (n : Notes) → (IsTrue (list_all are_sound_members n.members) → IsTrue (is_sound_member x)) → Tells (IsFound (field_in at a x n).0) (env, n) (env, (field_in at a x n).1)
-  field_by at a q.Nothing n h = ruled env _ n
+  field_by at a q.Nothing n h = ruled_tells env _ n
   field_by at a q.Faulty n h = faulty_member_tells env n h
-  field_by at a (q.Member found) n h = ruled env _ n
+  field_by at a (q.Member found) n h = ruled_tells env _ n
 
   pub field_tells : (at : ℕ) (name : List ℕ) (a : TypedExpression) (n : Notes) → Tells (IsFound (field_named at name a n).0) (env, n) (env, (field_named at name a n).1)
   field_tells at name a n = field_by at a (member_of n (struct_number (type_view a.ty)) name) n (member_sound n (struct_number (type_view a.ty)) name)
 
   arrow_by : (at : ℕ) (a : TypedExpression) (x : MemberMeaning) (n : Notes) → (IsTrue (list_all are_sound_members n.members) → IsTrue (is_sound_member x)) → Tells (IsFound (arrow_in at a x n).0) (env, n) (env, (arrow_in at a x n).1)
-  arrow_by at a q.Nothing n h = ruled env _ n
+  arrow_by at a q.Nothing n h = ruled_tells env _ n
   arrow_by at a q.Faulty n h = faulty_member_tells env n h
-  arrow_by at a (q.Member found) n h = ruled env _ n
+  arrow_by at a (q.Member found) n h = ruled_tells env _ n
 
   pub arrow_tells : (at : ℕ) (name : List ℕ) (a : TypedExpression) (n : Notes) → Tells (IsFound (arrow_named at name a n).0) (env, n) (env, (arrow_named at name a n).1)
   arrow_tells at name a n = arrow_by at (decay a) (member_of n (target_number (type_view (decay a).ty)) name) n (member_sound n (target_number (type_view (decay a).ty)) name)
 
   -- ---- specifiers
 
-  named_by : (at : ℕ) (o : Option NameMeaning) (n : Notes) → Told env o n (typedef_type at o n)
+  named_by : (at : ℕ) (o : Option NameMeaning) (n : Notes) → TellsIfFound env o n (typedef_type at o n)
   named_by at None n h = tells_fault env at UnknownName n
   named_by at (Some m.Faulty) n h = faulty_tells env n h
   named_by at (Some (m.Undefined number)) n h = tells_fault env at BadType n

@@ -20,7 +20,7 @@ use Rattle.c_judgements.specs.Members.{field_named, arrow_named}
 use Rattle.c_judgements.specs.Types.{JudgementState, in_env, pointer, given_length, array, function, type_named, parameter_declared}
 use Rattle.c_expressions.specs.Expressions.{judge, judge_row, derive, judge_length_held, judge_parameter_row}
 use Rattle.c_found_laws.specs.Laws.{Tells, IsFound, YieldsFound}
-use Rattle.c_found_laws.proofs.Forms.{tells_none, tells_as, tells_then, tells_both, tells_kept, ruled, each_tells, both_tells, each_under, both_under, append_found, prefix_tells, choice_tells, commas_tells, name_tells, string_tells, call_tells, field_tells, arrow_tells, leaf_tells, there_tells, type_named_tells, parameter_tells, left_tells}
+use Rattle.c_found_laws.proofs.Forms.{tells_none, tells_as, tells_then, tells_both, tells_kept, ruled_tells, each_tells, both_tells, each_under, both_under, append_found, prefix_tells, choice_tells, commas_tells, name_tells, string_tells, call_tells, field_tells, arrow_tells, leaf_tells, there_tells, type_named_tells, parameter_tells, left_tells}
 
 -- a form of one part, and of two
 pub one_part : {A B : Type 0} (s : JudgementState) (r : Option A × JudgementState) (f : A → Notes → Option B × Notes) → YieldsFound s r → ((env : Env) (a : A) (n : Notes) → Tells (IsFound (f a n).0) (env, n) (env, (f a n).1)) → YieldsFound s (in_env r.1.0 (each r.0 f r.1.1))
@@ -34,7 +34,7 @@ given_found None h = h
 given_found (Some x) h = refl
 
 length_tells : (env : Env) (a : TypedExpression) (n : Notes) → Tells (IsFound (given_length a n).0) (env, n) (env, (given_length a n).1)
-length_tells env a n = tells_as (env, n) (env, (given_length a n).1) (given_found (note_fault (length_value a) n).0) (ruled env (length_value a) n)
+length_tells env a n = tells_as (env, n) (env, (given_length a n).1) (given_found (note_fault (length_value a) n).0) (ruled_tells env (length_value a) n)
 
 -- the type of a type name
 abbrev named_type_of : ℕ → t.TypeNode → JudgementState → Option DeclaredType × JudgementState
@@ -51,8 +51,8 @@ mutual
 
   pub judge_tells : (x : e.Expr) (s : JudgementState) → YieldsFound s (judge x s)
   judge_tells (e.Name at name) s = name_tells s.0 at name s.1
-  judge_tells (e.Number at spelling) s = ruled s.0 (integer_constant at spelling) s.1
-  judge_tells (e.Character at spelling) s = ruled s.0 (character_constant at spelling) s.1
+  judge_tells (e.Number at spelling) s = ruled_tells s.0 (integer_constant at spelling) s.1
+  judge_tells (e.Character at spelling) s = ruled_tells s.0 (character_constant at spelling) s.1
   judge_tells (e.Text at spellings) s = string_tells s.0 at spellings s.1
   judge_tells (e.Call' at name _ arguments) s =
       let u = judge_row arguments (Some []) s in
@@ -60,31 +60,31 @@ mutual
   judge_tells (e.Unary' at op _ (k.more_of-Expr x k.end_of-Expr)) s = one_part s (judge x s) (apply_prefix at op) (judge_tells x s) (λ env a n. prefix_tells env at op a n)
   judge_tells (e.Binary' at op _ (k.more_of-Expr x k.end_of-Expr) _ (k.more_of-Expr y k.end_of-Expr)) s =
       let u = judge x s in
-      two_parts s u.1 u.0 (judge y u.1) (binary_check at op) (judge_tells x s) (judge_tells y u.1) (λ env a b n. ruled env _ n)
+      two_parts s u.1 u.0 (judge y u.1) (binary_check at op) (judge_tells x s) (judge_tells y u.1) (λ env a b n. ruled_tells env _ n)
   judge_tells (e.Assign' at op _ (k.more_of-Expr x k.end_of-Expr) _ (k.more_of-Expr y k.end_of-Expr)) s =
       let u = judge x s in
-      two_parts s u.1 u.0 (judge y u.1) (assignment_check at op) (judge_tells x s) (judge_tells y u.1) (λ env a b n. ruled env _ n)
+      two_parts s u.1 u.0 (judge y u.1) (assignment_check at op) (judge_tells x s) (judge_tells y u.1) (λ env a b n. ruled_tells env _ n)
   judge_tells (e.Conditional' at _ (k.more_of-Expr x k.end_of-Expr) _ (k.more_of-Expr y k.end_of-Expr) _ (k.more_of-Expr z k.end_of-Expr)) s =
       let u = judge x s in let v = judge y u.1 in let w = judge z v.1 in
       choice_tells w.1.0 s at u.0 v.0 w.0 w.1.1 (tells_then s v.1 w.1 (tells_then s u.1 v.1 (judge_tells x s) (judge_tells y u.1)) (judge_tells z v.1))
   judge_tells (e.Cast' at _ (k.more_of-TypeName place ty k.end_of-TypeName) _ (k.more_of-Expr x k.end_of-Expr)) s =
       let l = leaf s.0 place ty s.1 in let r = derive place ty l.0 (s.0, l.1) in let to = in_env r.1.0 (each r.0 (type_named place) r.1.1) in
       two_parts s to.1 to.0 (judge x to.1) (cast_check at) (type_tells place ty s (derive_tells place ty l.0 (s.0, l.1)))
-      (judge_tells x to.1) (λ env a b n. ruled env _ n)
+      (judge_tells x to.1) (λ env a b n. ruled_tells env _ n)
   judge_tells (e.SizeOfValue' at _ (k.more_of-Expr x k.end_of-Expr)) s =
       let a = judge x (s.0, nothing_taken s.1) in let back : JudgementState = (a.1.0, rejoin s.1.addressed s.1.texts a.1.1) in
       one_part s (a.0, back) (size_of_value at)
       (tells_both s a.1 back (λ x y. x) (tells_both s (s.0, nothing_taken s.1) a.1 (λ x y. y) (tells_kept {X = Unit {0}} s (s.0, nothing_taken s.1) refl refl refl refl tt) (judge_tells x (s.0, nothing_taken s.1))) (tells_kept {X = Unit {0}} a.1 back refl refl refl refl tt))
-      (λ env a n. ruled env _ n)
+      (λ env a n. ruled_tells env _ n)
   judge_tells (e.SizeOfType' at _ (k.more_of-TypeName place ty k.end_of-TypeName)) s =
       let l = leaf s.0 place ty s.1 in let r = derive place ty l.0 (s.0, l.1) in let to = in_env r.1.0 (each r.0 (type_named place) r.1.1) in
-      one_part s to (size_of_name at) (type_tells place ty s (derive_tells place ty l.0 (s.0, l.1))) (λ env a n. ruled env _ n)
+      one_part s to (size_of_name at) (type_tells place ty s (derive_tells place ty l.0 (s.0, l.1))) (λ env a n. ruled_tells env _ n)
   judge_tells (e.Index' at _ (k.more_of-Expr x k.end_of-Expr) _ (k.more_of-Expr y k.end_of-Expr)) s =
       let u = judge x s in
-      two_parts s u.1 u.0 (judge y u.1) (subscript_check at) (judge_tells x s) (judge_tells y u.1) (λ env a b n. ruled env _ n)
+      two_parts s u.1 u.0 (judge y u.1) (subscript_check at) (judge_tells x s) (judge_tells y u.1) (λ env a b n. ruled_tells env _ n)
   judge_tells (e.Field' at _ (k.more_of-Expr x k.end_of-Expr) name) s = one_part s (judge x s) (field_named at name) (judge_tells x s) (λ env a n. field_tells env at name a n)
   judge_tells (e.Arrow' at _ (k.more_of-Expr x k.end_of-Expr) name) s = one_part s (judge x s) (arrow_named at name) (judge_tells x s) (λ env a n. arrow_tells env at name a n)
-  judge_tells (e.Postfix' at op _ (k.more_of-Expr x k.end_of-Expr)) s = one_part s (judge x s) (postfix_check at op) (judge_tells x s) (λ env a n. ruled env _ n)
+  judge_tells (e.Postfix' at op _ (k.more_of-Expr x k.end_of-Expr)) s = one_part s (judge x s) (postfix_check at op) (judge_tells x s) (λ env a n. ruled_tells env _ n)
   judge_tells (e.Comma' at _ operands) s =
       let u = judge_row operands (Some []) s in
       commas_tells u.1.0 s at u.0 u.1.1 (row_tells operands (Some []) s s (tells_none s refl))

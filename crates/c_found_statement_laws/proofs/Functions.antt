@@ -39,11 +39,11 @@ typed_parameters_tell (p ∷ ps) (ty ∷ tys) sound v w h =
     (tells_both v w.1 r.1.1 (λ x y. also sound (is_some r.0) x y) h (parameter_named_tells p.at p.name (Some ty) w.1 w (tells_none w.1 refl)))
 
 -- what is known of the parameters of a declarator
-abbrev Declared : Option FunctionType → List Parameter → Bool → Type 0
-Declared None ps sound = Unit {0}
-Declared (Some of) ps sound = IsTrue (are_as_many ps of.parameters) → IsTrue sound
+abbrev HaveAllDeclared : Option FunctionType → List Parameter → Bool → Type 0
+HaveAllDeclared None ps sound = Unit {0}
+HaveAllDeclared (Some of) ps sound = IsTrue (are_as_many ps of.parameters) → IsTrue sound
 
-declared_tells : (of : Option FunctionType) (ps : List Parameter) (w : BodyState) → Tells (Declared of ps (declared_parameters of ps w).0) w.1 (declared_parameters of ps w).1.1
+declared_tells : (of : Option FunctionType) (ps : List Parameter) (w : BodyState) → Tells (HaveAllDeclared of ps (declared_parameters of ps w).0) w.1 (declared_parameters of ps w).1.1
 declared_tells None ps w = parameters_tell ps true w.1 w (tells_none w.1 tt)
 declared_tells (Some of) ps w = typed_parameters_tell ps of.parameters true w.1 w (tells_none w.1 refl)
 
@@ -59,7 +59,7 @@ module _ (of : Option CType) where
 
 -- ---- functions
 
-made_found : (d : Declaration) (of : Option FunctionType) (sound : Bool) (params : ℕ) (ls : List Local) (found : Option (List TStmt)) → Declared of (parameters_of d.ty) sound → (IsFound (result_of of) → IsFound found) → IsTrue (type_fits of d)
+made_found : (d : Declaration) (of : Option FunctionType) (sound : Bool) (params : ℕ) (ls : List Local) (found : Option (List TStmt)) → HaveAllDeclared of (parameters_of d.ty) sound → (IsFound (result_of of) → IsFound found) → IsTrue (type_fits of d)
     → IsFound (typed_function d.name (result_of of) sound params ls found)
 made_found d None sound params ls found h g k = no_true k
 made_found d (Some of) false params ls found h g k = no_true (h k)
@@ -71,7 +71,7 @@ function_tells d of list s =
     let start : BodyState = ([], (enter s.0, s.1)) in
     let p = declared_parameters of (parameters_of d.ty) start in
     let f = walk (statement (result_of of) no_jumps) list (Some []) p.1 in
-    let inside : Tells (Declared of (parameters_of d.ty) p.0 × (IsFound (result_of of) → IsFound f.0)) start.1 f.1.1 =
+    let inside : Tells (HaveAllDeclared of (parameters_of d.ty) p.0 × (IsFound (result_of of) → IsFound f.0)) start.1 f.1.1 =
     tells_then start.1 p.1.1 f.1.1 (declared_tells of (parameters_of d.ty) start) (list_tells (result_of of) list (Some []) p.1.1 p.1 (tells_none p.1.1 (λ k. refl))) in
     let outside = left_tells s f.1.1 inside in
     record {

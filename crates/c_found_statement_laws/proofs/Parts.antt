@@ -45,7 +45,7 @@ use Rattle.c_statement_rules.specs.Labels.{has_word, with_words, with_default, L
 use Rattle.c_local_rules.specs.Locals.{BodyState, with_notes, local_of_type, local_named, nameless_local, parameter_named, parameter_declared, no_initialiser, initialiser, with_initialiser, local_with_value, without_initialiser}
 use Rattle.c_statement_parts.specs.Parts.{condition_of, full_value, operand_of, optional_condition, optional_value, return_statement, judge_type, initialiser_of, local_of, first_of, label_of}
 use Rattle.c_found_laws.specs.Laws.{Tells, IsFound, YieldsFound}
-use Rattle.c_found_laws.proofs.Forms.{no_true, tells_none, tells_fault, tells_as, tells_then, tells_both, tells_never, tells_named, ruled, map_found, each_tells, both_tells, each_under, append_found, parameter_type_tells, leaf_tells}
+use Rattle.c_found_laws.proofs.Forms.{no_true, tells_none, tells_fault, tells_as, tells_then, tells_both, tells_never, tells_named, ruled_tells, map_found, each_tells, both_tells, each_under, append_found, parameter_type_tells, leaf_tells}
 use Rattle.c_found_laws.proofs.Walks.{one_part, judge_tells, derive_tells}
 
 -- a list of parts
@@ -57,13 +57,13 @@ module _ {A B S : Type 0} (f : A → S → Option B × S) (state : S → Judgeme
 -- ---- expressions
 
 pub condition_tells : (x : Expr) (s : JudgementState) → YieldsFound s (condition_of x s)
-condition_tells x s = one_part s (judge x s) condition_check (judge_tells x s) (λ env a n. ruled env _ n)
+condition_tells x s = one_part s (judge x s) condition_check (judge_tells x s) (λ env a n. ruled_tells env _ n)
 
 pub value_tells : (x : Expr) (s : JudgementState) → YieldsFound s (full_value x s)
 value_tells x s = tells_as s (judge x s).1 (map_found full_expression (judge x s).0) (judge_tells x s)
 
 pub operand_tells : (x : Expr) (s : JudgementState) → YieldsFound s (operand_of x s)
-operand_tells x s = one_part s (judge x s) switch_check (judge_tells x s) (λ env a n. ruled env _ n)
+operand_tells x s = one_part s (judge x s) switch_check (judge_tells x s) (λ env a n. ruled_tells env _ n)
 
 pub optional_condition_tells : (x : Option Expr) (s : JudgementState) → YieldsFound s (optional_condition x s)
 optional_condition_tells None s = tells_none s refl
@@ -93,7 +93,7 @@ returned_tells env at ty a n = choose (is_void (type_view ty))
 
     choose : (b : Bool) → Tells (IsFound (either b).0) (env, n) (env, (either b).1)
     choose true = tells_fault env at BadReturn n
-    choose false = tells_as (env, n) (env, (note_fault (take_value ty a) n).1) (map_found (λ e. s.Return (Some e)) (note_fault (take_value ty a) n).0) (ruled env (take_value ty a) n)
+    choose false = tells_as (env, n) (env, (note_fault (take_value ty a) n).1) (map_found (λ e. s.Return (Some e)) (note_fault (take_value ty a) n).0) (ruled_tells env (take_value ty a) n)
 
 pub return_tells : (of : Option CType) (at : ℕ) (x : Option Expr) (s : JudgementState) → Tells (IsFound of → IsFound (return_statement of at x s).0) s (return_statement of at x s).1
 return_tells of at None s = each_under s.0 s (IsFound of) of (return_nothing at) s.1 (tells_none s (λ h. h)) (λ ty. nothing_tells s.0 at ty s.1)
@@ -147,7 +147,7 @@ initialiser_tells env ty a n = choose (is_array (type_view ty))
 
     choose : (b : Bool) → Tells (IsFound (either b).0) (env, n) (env, (either b).1)
     choose true = tells_fault env a.at BadInit n
-    choose false = ruled env (take_value ty a) n
+    choose false = ruled_tells env (take_value ty a) n
 
 initialised_tells : (new : Option NewLocal) (x : Option Expr) (s : JudgementState) (w : BodyState) → Tells (IsFound new) s w.1 → FindsIn s (initialiser_of new x w)
 initialised_tells new None s w h = tells_as s w.1 (map_found without_initialiser new) h

@@ -29,24 +29,24 @@ use Rattle.c_tag_bodies.specs.Members.{no_members, is_member_type, no_member, me
 use Rattle.c_tag_bodies.specs.Structs.{DefinedTags, with_body, tagged_body, enum_begun, struct_number_of, no_body, number_for_tag, struct_begun, struct_where, with_struct, with_untagged, too_large, with_members, finish_struct, tag_name, struct_ended}
 use Rattle.c_tag_bodies.specs.Bodies.{TagScope, enum_entered, struct_entered, struct_left, type_behind, member_entered, bodies, judge_constants_held, judge_members_held, judge_member_row, declared_type}
 use Rattle.c_found_laws.specs.Laws.{are_sound_members, NamesAreSound, Tells, IsFound, YieldsFound}
-use Rattle.c_found_laws.proofs.Forms.{no_true, front, back, also, holds, tells_none, tells_kept, tells_fault, tells_as, tells_then, tells_both, tells_never, tells_named, ruled, each_tells, enum_tells, struct_tells, leaf_tells}
+use Rattle.c_found_laws.proofs.Forms.{no_true, front, back, also, holds, tells_none, tells_kept, tells_fault, tells_as, tells_then, tells_both, tells_never, tells_named, ruled_tells, each_tells, enum_tells, struct_tells, leaf_tells}
 use Rattle.c_found_laws.proofs.Walks.{one_part, judge_tells, derive_tells}
 
 -- nothing is said
-abbrev Told : JudgementState → JudgementState → Type 0
-Told s later = Tells (Unit {0}) s later
+abbrev TellsNothing : JudgementState → JudgementState → Type 0
+TellsNothing s later = Tells (Unit {0}) s later
 
 -- ---- enums
 
 value_tells : (env : Env) (s : JudgementState) (at : ℕ) (before : Option (Option ℕ)) (n : Notes) → Tells (IsTrue (holds is_some before)) s (env, n) → Tells (IsFound (value_behind at before n).0) s (env, (value_behind at before n).1)
 value_tells env s at None n h = tells_as s (env, n) (λ x. refl) h
-value_tells env s at (Some last) n h = each_tells env s last (one_above at) n h (λ x. ruled env (next_value at x) n)
+value_tells env s at (Some last) n h = each_tells env s last (one_above at) n h (λ x. ruled_tells env (next_value at x) n)
 
 value_held_tells : (at : ℕ) (value : k.Held-Constant-value) (before : Option (Option ℕ)) (s u : JudgementState) → Tells (IsTrue (holds is_some before)) s u → YieldsFound s (judge_value_held at value before u)
 value_held_tells at k.Constant-value-None' before s u h = value_tells u.0 s at before u.1 h
 value_held_tells at (k.Constant-value-Some' x) before s u h =
     let r = judge x u in
-    each_tells r.1.0 s r.0 explicit_value r.1.1 (tells_both s u r.1 (λ x y. y) h (judge_tells x u)) (λ a. ruled r.1.0 (given_value a) r.1.1)
+    each_tells r.1.0 s r.0 explicit_value r.1.1 (tells_both s u r.1 (λ x y. y) h (judge_tells x u)) (λ a. ruled_tells r.1.0 (given_value a) r.1.1)
 
 constant_named : (name : List ℕ) (value : Option ℕ) (s u : JudgementState) → Tells (IsFound value) s u → Tells (IsFound value) s (with_meaning name (constant_meaning value) u.0, u.1)
 constant_named name None s u h = record { before = h.before; stays = λ t g. no_true (h.found t g); found = h.found }
@@ -62,7 +62,7 @@ constant_tells at name value s u h = choose (stands_here u.0 (find name u.0.name
     choose true = tells_both s u (u.0, with_fault at Redeclared u.1) (λ x y. x) h (tells_fault {X = Unit {0}} u.0 at Redeclared u.1)
     choose false = constant_named name value s u h
 
-constants_tell : {m : _} (xs : k.Row_of-Constant m) (before : Option (Option ℕ)) (s u : JudgementState) → Tells (IsTrue (holds is_some before)) s u → Told s (judge_constant_row xs before u)
+constants_tell : {m : _} (xs : k.Row_of-Constant m) (before : Option (Option ℕ)) (s u : JudgementState) → Tells (IsTrue (holds is_some before)) s u → TellsNothing s (judge_constant_row xs before u)
 unfolding judge_constant_row
 constants_tell k.end_of-Constant before s u h = tells_as s u (λ x. tt) h
 constants_tell (k.more_of-Constant at name value rest) before s u h =
@@ -114,18 +114,18 @@ member_tells at name m ty s env n h =
 
 -- where a body begins
 
-enum_begun_tells : (env : Env) (ts : DefinedTags) (at : ℕ) (tag : Option (List ℕ)) (n : Notes) → Told (env, n) (env, enum_begun ts at tag n)
+enum_begun_tells : (env : Env) (ts : DefinedTags) (at : ℕ) (tag : Option (List ℕ)) (n : Notes) → TellsNothing (env, n) (env, enum_begun ts at tag n)
 enum_begun_tells env ts at None n = tells_none (env, n) tt
 enum_begun_tells env ts at (Some name) n = choose (is_some (find name ts))
   where
     either : Bool → Notes
     either b = if b then with_fault at Redeclared n else (tagged_enum at name n).1
 
-    choose : (b : Bool) → Told (env, n) (env, either b)
+    choose : (b : Bool) → TellsNothing (env, n) (env, either b)
     choose true = tells_fault env at Redeclared n
     choose false = tells_as (env, n) (env, (tagged_enum at name n).1) (λ x. tt) (enum_tells env at (Some name) n)
 
-struct_begun_tells : (env : Env) (ts : DefinedTags) (at : ℕ) (tag : Option (List ℕ)) (n : Notes) → Told (env, n) (env, (struct_begun ts at tag n).1)
+struct_begun_tells : (env : Env) (ts : DefinedTags) (at : ℕ) (tag : Option (List ℕ)) (n : Notes) → TellsNothing (env, n) (env, (struct_begun ts at tag n).1)
 struct_begun_tells env ts at None n = record {
   before = λ t. t;
   stays = λ t h. (h.0, all_with n.members h.1);
@@ -140,7 +140,7 @@ struct_begun_tells env ts at (Some name) n = choose (is_some (find name ts))
     either : Bool → Option ℕ × Notes
     either b = if b then no_body at n else number_for_tag at name n
 
-    choose : (b : Bool) → Told (env, n) (env, (either b).1)
+    choose : (b : Bool) → TellsNothing (env, n) (env, (either b).1)
     choose true = tells_fault env at Redeclared n
     choose false = tells_as (env, n) (env, (tagged_struct at name n).1) (λ x. tt) (struct_tells env at (Some name) n)
 
@@ -152,33 +152,33 @@ set_sound (x ∷ xs) zero names h g = also (are_sound_members names) (list_all a
 set_sound (x ∷ xs) (suc number) names h g = also (are_sound_members x) (list_all are_sound_members (slice_set xs number names)) (front (are_sound_members x) (list_all are_sound_members xs) h) (set_sound xs number names (back (are_sound_members x) (list_all are_sound_members xs) h) g)
 
 module _ (env : Env) (s : JudgementState) (at : ℕ) (number : ℕ) (m : Members) where
-  untagged_tells : (tag : Option (List ℕ)) (n : Notes) → Told s (env, n) → Told s (env, with_untagged at tag number n)
+  untagged_tells : (tag : Option (List ℕ)) (n : Notes) → TellsNothing s (env, n) → TellsNothing s (env, with_untagged at tag number n)
   untagged_tells None n h = tells_both s (env, n) (env, with_untagged at None number n) (λ x y. y) h (tells_kept (env, n) (env, with_untagged at None number n) refl refl refl refl tt)
   untagged_tells (Some name) n h = h
 
-  large_tells : (b : Bool) (n : Notes) → Tells (AreSound m) s (env, n) → Told s (env, too_large at b n)
+  large_tells : (b : Bool) (n : Notes) → Tells (AreSound m) s (env, n) → TellsNothing s (env, too_large at b n)
   large_tells true n h = tells_as s (env, n) (λ x. tt) h
   large_tells false n h = tells_both s (env, n) (env, with_fault at BadType n) (λ x y. y) h (tells_fault env at BadType n)
 
-  struct_tells_set : (structure : StructDef) (n : Notes) → Tells (AreSound m) s (env, n) → Told s (env, with_struct number structure m.names n)
+  struct_tells_set : (structure : StructDef) (n : Notes) → Tells (AreSound m) s (env, n) → TellsNothing s (env, with_struct number structure m.names n)
   struct_tells_set structure n h = record {
     before = h.before;
     stays = λ t g. ((h.stays t g).0, set_sound n.members number m.names (h.stays t g).1 (h.found t g));
     found = λ t g. tt;
   }
 
-  complete_tells : (o : Option StructDef) (n : Notes) → Tells (AreSound m) s (env, n) → Told s (env, finish_struct at number m o n)
+  complete_tells : (o : Option StructDef) (n : Notes) → Tells (AreSound m) s (env, n) → TellsNothing s (env, finish_struct at number m o n)
   complete_tells None n h = large_tells m.faulty n h
   complete_tells (Some structure) n h = choose (is_complete (slice_get n.structs number))
     where
       either : Bool → Notes
       either b = if b then n else with_struct number structure m.names n
 
-      choose : (b : Bool) → Told s (env, either b)
+      choose : (b : Bool) → TellsNothing s (env, either b)
       choose true = tells_as s (env, n) (λ x. tt) h
       choose false = struct_tells_set structure n h
 
-ended_tells : (env : Env) (s : JudgementState) (at : ℕ) (tag : Option (List ℕ)) (number : Option ℕ) (m : Members) (n : Notes) → Tells (AreSound m) s (env, n) → Told s (env, struct_ended at tag number m n)
+ended_tells : (env : Env) (s : JudgementState) (at : ℕ) (tag : Option (List ℕ)) (number : Option ℕ) (m : Members) (n : Notes) → Tells (AreSound m) s (env, n) → TellsNothing s (env, struct_ended at tag number m n)
 ended_tells env s at tag None m n h = tells_as s (env, n) (λ x. tt) h
 ended_tells env s at tag (Some number) m n h =
     let o = struct_where n.structs (tag_name tag) m.fields in
@@ -194,7 +194,7 @@ behind_tells at ty s =
 mutual
   unfolding bodies
 
-  pub bodies_tell : (x : t.TypeNode) (s : TagScope) → Told s.1 (bodies x s).1
+  pub bodies_tell : (x : t.TypeNode) (s : TagScope) → TellsNothing s.1 (bodies x s).1
   bodies_tell (t.Basic words) s = tells_none s.1 tt
   bodies_tell (t.Named name) s = tells_none s.1 tt
   bodies_tell (t.Enum' at tag constants) s = constants_held_tell at tag constants s
@@ -203,12 +203,12 @@ mutual
   bodies_tell (t.Array' _ (k.more_of-TypeNode x k.end_of-TypeNode) length) s = bodies_tell x s
   bodies_tell (t.Takes' _ (k.more_of-TypeNode x k.end_of-TypeNode) _ parameters) s = bodies_tell x s
 
-  constants_held_tell : (at : ℕ) (tag : Option (List ℕ)) (x : k.Held-TypeNode-Enum-2) (s : TagScope) → Told s.1 (judge_constants_held at tag x s).1
+  constants_held_tell : (at : ℕ) (tag : Option (List ℕ)) (x : k.Held-TypeNode-Enum-2) (s : TagScope) → TellsNothing s.1 (judge_constants_held at tag x s).1
   constants_held_tell at tag k.TypeNode-Enum-2-None' s = tells_none s.1 tt
   constants_held_tell at tag (k.TypeNode-Enum-2-Some' _ constants) s =
       constants_tell constants None s.1 (enum_entered at tag s) (tells_as s.1 (enum_entered at tag s) (λ x. refl) (enum_begun_tells s.1.0 s.0 at tag s.1.1))
 
-  members_held_tell : (at : ℕ) (tag : Option (List ℕ)) (x : k.Held-TypeNode-Struct-2) (s : TagScope) → Told s.1 (judge_members_held at tag x s).1
+  members_held_tell : (at : ℕ) (tag : Option (List ℕ)) (x : k.Held-TypeNode-Struct-2) (s : TagScope) → TellsNothing s.1 (judge_members_held at tag x s).1
   members_held_tell at tag k.TypeNode-Struct-2-None' s = tells_none s.1 tt
   members_held_tell at tag (k.TypeNode-Struct-2-Some' _ members) s =
       let u = struct_entered at tag s in

@@ -54,7 +54,8 @@ use Rattle.c_type_laws.proofs.Truth.{three, either_left}
 use Rattle.c_found_laws.proofs.Forms.{no_true, also, front, back, tells_none, tells_fault, tells_as, tells_then, tells_both, each_tells, type_named_tells}
 use Rattle.c_found_statement_laws.specs.Laws.{are_as_many, type_fits}
 use Rattle.c_found_statement_laws.proofs.Functions.{function_tells}
-use Rattle.c_found_unit_laws.specs.Steps.{DeclaresName, First, Again, declared_as, UnitSteps, Stays, Follows, AddsConstant, SeesMain, DeclaresType, DeclaresFunction, DefinesFunction, DeclaresObject, KeepsCells, is_function_type, is_body, is_body_in, has_body}
+use Rattle.c_found_unit_laws.specs.Steps.{DeclaresName, First, Again, declared_as, UnitSteps, Stays, Follows, AddsConstant, SeesMain, DeclaresType, DeclaresFunction, DefinesFunction, DeclaresObject, KeepsCells}
+use Rattle.c_found_unit_laws.specs.model.Bodies.{is_function_type, is_body, is_body_in, has_body}
 use Rattle.c_found_unit_laws.proofs.Names.{function_env}
 use Rattle.c_found_unit_laws.proofs.Bodies.{declared_tells}
 use Rattle.c_found_unit_laws.proofs.Constants.{Enters, Same, More, declared_enters}

@@ -28,10 +28,10 @@ use Rattle.c_expressions.specs.Expressions.{judge}
 use Rattle.c_initialisers.specs.declared.lists.InitialiserItems.{InitialiserItems}
 use Rattle.c_initialisers.specs.declared.lists.InitialiserItems.TheVariants as t
 use Rattle.c_initialisers.specs.Unfit.{place_in_text, judge_value, list_place, is_whole_with, judge_init, judge_items, no_place, faulty_init}
-use Rattle.c_initialisers.specs.Values.{Filling, FillingState, cells_beside, with_env, constant_value, is_taken, put_scalar, with_notes, scalar_value, fill_value, expression_value, text_in, text_value, value_or_text, single_value}
+use Rattle.c_initialisers.specs.Values.{CellsAndNotes, FillingState, cells_beside, with_env, constant_value, is_taken, put_scalar, with_notes, scalar_value, fill_value, expression_value, text_in, text_value, value_or_text, single_value}
 use Rattle.c_initialisers.specs.Initialisers.{with_item, with_surplus, counted_by, if_part, list_of, scalar_list, list_in, initialise, item_row, cells_where, object_cells}
 use Rattle.c_found_laws.specs.Laws.{Tells, IsFound, YieldsFound}
-use Rattle.c_found_laws.proofs.Forms.{no_true, tells_none, tells_fault, tells_as, tells_then, tells_both, tells_never, ruled, map_found, each_tells}
+use Rattle.c_found_laws.proofs.Forms.{no_true, tells_none, tells_fault, tells_as, tells_then, tells_both, tells_never, ruled_tells, map_found, each_tells}
 use Rattle.c_found_laws.proofs.Walks.{judge_tells}
 use Rattle.c_found_unit_laws.proofs.Names.{judge_leaves}
 
@@ -87,36 +87,36 @@ value_put_found ty place at (Some v) false cells h g = no_true g
 value_put_found ty place at (Some v) true cells h g = refl
 
 module _ (env : Env) where
-  abbrev Gives : {A : Type 0} → Filling → Option A × Filling → Type 0
+  abbrev Gives : {A : Type 0} → CellsAndNotes → Option A × CellsAndNotes → Type 0
   Gives f r = Tells (IsFound r.0) (env, f.1) (env, r.1.1)
 
-  scalar_tells : (ty : CType) (place : ℕ) (a : TypedExpression) (f : Filling) → Gives f (scalar_value ty place a f)
+  scalar_tells : (ty : CType) (place : ℕ) (a : TypedExpression) (f : CellsAndNotes) → Gives f (scalar_value ty place a f)
   scalar_tells ty place a f =
       let v = constant_value a f.1 in
       let taken = is_taken ty a v.1 in
-      tells_both (env, f.1) (env, v.1) (env, taken.1) (value_put_found ty place a.at v.0 taken.0 f.0) (ruled env (initial_value f.1.structs a) f.1) (ruled env (take_value ty a) v.1)
+      tells_both (env, f.1) (env, v.1) (env, taken.1) (value_put_found ty place a.at v.0 taken.0 f.0) (ruled_tells env (initial_value f.1.structs a) f.1) (ruled_tells env (take_value ty a) v.1)
 
-  value_tells : (ty : CType) (place : ℕ) (a : TypedExpression) (f : Filling) → Gives f (fill_value ty place a f)
+  value_tells : (ty : CType) (place : ℕ) (a : TypedExpression) (f : CellsAndNotes) → Gives f (fill_value ty place a f)
   value_tells ty place a f = choose (is_aggregate ty)
     where
-      either : Bool → Option ℕ × Filling
+      either : Bool → Option ℕ × CellsAndNotes
       either b = if b then cells_beside f.0 (no_place BadInit a.at f.1) else scalar_value ty place (decay a) f
 
       choose : (b : Bool) → Gives f (either b)
       choose true = tells_fault env a.at BadInit f.1
       choose false = scalar_tells ty place (decay a) f
 
-  text_tells : (place room at : ℕ) (bytes : List ℕ) (f : Filling) → Gives f (text_value place room at bytes f)
+  text_tells : (place room at : ℕ) (bytes : List ℕ) (f : CellsAndNotes) → Gives f (text_value place room at bytes f)
   text_tells place room at bytes f = choose (is_room_for room bytes)
     where
-      either : Bool → Option ℕ × Filling
+      either : Bool → Option ℕ × CellsAndNotes
       either b = if b then (Some at, (place_piece place (text_cells room bytes) f.0, f.1)) else cells_beside f.0 (no_place BadInit at f.1)
 
       choose : (b : Bool) → Gives f (either b)
       choose true = tells_none (env, f.1) refl
       choose false = tells_fault env at BadInit f.1
 
-filled_tells : (ty : CType) (place : ℕ) (s : JudgementState) (env : Env) (o : Option TypedExpression) (f : Filling) → Tells (IsFound o) s (env, f.1) → Tells (IsFound (each o (fill_value ty place) f).0) s (env, (each o (fill_value ty place) f).1.1)
+filled_tells : (ty : CType) (place : ℕ) (s : JudgementState) (env : Env) (o : Option TypedExpression) (f : CellsAndNotes) → Tells (IsFound o) s (env, f.1) → Tells (IsFound (each o (fill_value ty place) f).0) s (env, (each o (fill_value ty place) f).1.1)
 filled_tells ty place s env None f h = tells_never s (env, f.1) h
 filled_tells ty place s env (Some a) f h = tells_both s (env, f.1) (env, (fill_value ty place a f).1.1) (λ x y. y) h (value_tells env ty place a f)
 
@@ -177,11 +177,11 @@ list_tells s env ty brace items n h = choose (is_aggregate ty)
 -- ---- whole initialisers
 
 -- an item, which initialises a part or is one too many
-abbrev Counted : InitialiserItems → FillingState → InitialiserItems × FillingState → Type 0
-Counted items s r = Tells (IsTrue (is_whole items) → IsTrue (is_whole r.0)) s.1 r.1.1
+abbrev TellsOfWhole : InitialiserItems → FillingState → InitialiserItems × FillingState → Type 0
+TellsOfWhole items s r = Tells (IsTrue (is_whole items) → IsTrue (is_whole r.0)) s.1 r.1.1
 
 part_tells : (o : Option ObjectPart) (place : ℕ) (found : InitialiserItems) (x : i.Init) (s : FillingState) → ((p : ObjectPart) → Fills s (initialise x p.ty (place + p.place) s))
-    → Counted found s (if_part o (counted_by with_surplus found (cells_beside s.0 (judge_init x s.1))) (λ p. counted_by with_item found (initialise x p.ty (place + p.place) s)))
+    → TellsOfWhole found s (if_part o (counted_by with_surplus found (cells_beside s.0 (judge_init x s.1))) (λ p. counted_by with_item found (initialise x p.ty (place + p.place) s)))
 part_tells None place found x s f = tells_as s.1 (judge_init x s.1).1 (λ g y. surplus_whole found (judge_init x s.1).0 y g) (judge_init_tells x s.1)
 part_tells (Some p) place found x s f =
     let r = initialise x p.ty (place + p.place) s in

@@ -34,7 +34,8 @@ use Rattle.c_units.specs.Builtins.{no_names, builtin_declared, builtins}
 use Rattle.c_units.specs.Units.{unit_start}
 use Rattle.c_type_laws.proofs.Truth.{no_true, front, back, also, either_left, either_right}
 use Rattle.c_found_unit_laws.specs.Laws.{is_tree_kept}
-use Rattle.c_found_unit_laws.specs.Steps.{DeclaresName, First, Again, declared_as, UnitSteps, Stays, Follows, AddsConstant, SeesMain, DeclaresType, DeclaresFunction, DefinesFunction, DeclaresObject, KeepsCells, is_function_type, is_body, is_body_in, has_body}
+use Rattle.c_found_unit_laws.specs.Steps.{DeclaresName, First, Again, declared_as, UnitSteps, Stays, Follows, AddsConstant, SeesMain, DeclaresType, DeclaresFunction, DefinesFunction, DeclaresObject, KeepsCells}
+use Rattle.c_found_unit_laws.specs.model.Bodies.{is_function_type, is_body, is_body_in, has_body}
 use Rattle.c_found_unit_laws.proofs.Externals.{same_function, same_kind, added_body, filled_names}
 
 -- ---- what is said of names
@@ -81,7 +82,7 @@ has_tree fs (Some (m.Function callee of tys)) = is_callee_kept fs callee
 has_tree fs (Some (m.Typedef ty)) = false
 
 -- a name that means the function with a number
-record Named (ds : Definitions) (env : Env) (k : ℕ) : Type 0 where
+record NamedFunction (ds : Definitions) (env : Env) (k : ℕ) : Type 0 where
   q : List ℕ
   of : CType
   tys : List CType
@@ -91,7 +92,7 @@ record Named (ds : Definitions) (env : Env) (k : ℕ) : Type 0 where
 pub record HasFunctions (ds : Definitions) (u : UnitSoFar) (env : Env) : Type 0 where
   kinds : (q : List ℕ) → IsTrue (declares_function q u.names) → IsTrue (is_defined ds q) → IsTrue (means_function (meaning_of env q))
   trees : (q : List ℕ) → IsTrue (has_body q u.names) → IsTrue (is_defined ds q) → IsTrue (has_tree u.functions (meaning_of env q))
-  numbers : (k : ℕ) → k < u.names.functions → Named ds env k
+  numbers : (k : ℕ) → k < u.names.functions → NamedFunction ds env k
 
 -- ---- names that are added
 
@@ -107,7 +108,7 @@ module _ (test : Option NameMeaning → Bool) (nothing : IsTrue (test None) → 
       choose true e = no_true (nothing (subst (λ o. IsTrue (test o)) (ap (meaning_of env) ((bytes_eq-Decides q name).0 e) ∙ free) h))
       choose false e = h
 
-still_named : (ds : Definitions) (name : List ℕ) (x : NameMeaning) (env : Env) (k : ℕ) → meaning_of env name ≡ None → Named ds env k → Named ds (with_meaning name x env) k
+still_named : (ds : Definitions) (name : List ℕ) (x : NameMeaning) (env : Env) (k : ℕ) → meaning_of env name ≡ None → NamedFunction ds env k → NamedFunction ds (with_meaning name x env) k
 still_named ds name x env k free n = record {
   q = n.q;
   of = n.of;
@@ -264,7 +265,7 @@ below (suc k) (suc n) h f g = below k n (less_before k n h) (λ l. f (less_after
 
 module _ (ds : Definitions) (name : List ℕ) (new : NameDeclaration) where
   abbrev Numbers : UnitNames → Env → Type 0
-  Numbers u env = (k : ℕ) → k < u.functions → Named ds env k
+  Numbers u env = (k : ℕ) → k < u.functions → NamedFunction ds env k
 
   -- what a first declaration makes of the numbers
   abbrev NumbersWell : Type 0
@@ -288,16 +289,16 @@ typedef_numbers ds name ty u env free numbers k h = still_named ds name (m.Typed
 object_numbers : (ds : Definitions) (name : List ℕ) (ty : CType) (has_value : Bool) → NumbersWell ds name (object_declared ty has_value)
 object_numbers ds name ty has_value u env free numbers k = choose (is_some (find name ds.objects))
   where
-    choose : (b : Bool) → k < (object_name b ty u).1.functions → Named ds (with_meaning name (object_name b ty u).0 env) k
+    choose : (b : Bool) → k < (object_name b ty u).1.functions → NamedFunction ds (with_meaning name (object_name b ty u).0 env) k
     choose true h = still_named ds name (object_name true ty u).0 env k free (numbers k h)
     choose false h = still_named ds name (object_name false ty u).0 env k free (numbers k h)
 
 function_numbers : (ds : Definitions) (name : List ℕ) (has_body : Bool) (of : FunctionType) → NumbersWell ds name (function_declared has_body (declared_as of))
 function_numbers ds name has_body of u env free numbers k = choose (is_some (find name ds.functions)) refl
   where
-    choose : (b : Bool) → is_some (find name ds.functions) ≡ b → k < (function_name b of.result of.parameters u).1.functions → Named ds (with_meaning name (function_name b of.result of.parameters u).0 env) k
+    choose : (b : Bool) → is_some (find name ds.functions) ≡ b → k < (function_name b of.result of.parameters u).1.functions → NamedFunction ds (with_meaning name (function_name b of.result of.parameters u).0 env) k
     choose true e h = below k u.functions h (λ less. still_named ds name (m.Function (c.Function u.functions) of.result of.parameters) env k free (numbers k less))
-        (λ same. subst (λ n. Named ds (with_meaning name (m.Function (c.Function u.functions) of.result of.parameters) env) n) same (record {
+        (λ same. subst (λ n. NamedFunction ds (with_meaning name (m.Function (c.Function u.functions) of.result of.parameters) env) n) same (record {
           q = name;
           of = of.result;
           tys = of.parameters;
@@ -412,7 +413,7 @@ module _ (ds : Definitions) (name : List ℕ) (made : TypedFn) (v : UnitSoFar) (
 
   defined_functions : ((q : List ℕ) → IsTrue (declares_function q v.names) → IsTrue (is_defined ds q) → IsTrue (means_function (meaning_of later q)))
       → ((q : List ℕ) → bytes_eq q name ≡ false → IsTrue (has_body q v.names) → IsTrue (is_defined ds q) → IsTrue (has_tree v.functions (meaning_of later q)))
-      → ((k : ℕ) → k < v.names.functions → Named ds later k) → IsTrue (declares_function name v.names) → HasFunctions ds (keep_function later name (Some made) v) later
+      → ((k : ℕ) → k < v.names.functions → NamedFunction ds later k) → IsTrue (declares_function name v.names) → HasFunctions ds (keep_function later name (Some made) v) later
   defined_functions kinds others numbers function = record {
     kinds = λ q a b. kinds q (subst (λ n. IsTrue (declares_function q n)) (kept_same (function_at later name)) a) b;
     trees = λ q a b. tree q (subst (λ n. IsTrue (has_body q n)) (kept_same (function_at later name)) a) b;

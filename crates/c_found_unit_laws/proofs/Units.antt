@@ -32,7 +32,8 @@ use Rattle.c_units.specs.Units.{unit_start, main_missed, end_notes, whole_unit, 
 use Rattle.c_type_laws.proofs.Truth.{no_true, front, back, also}
 use Rattle.c_found_laws.specs.Laws.{IsClean}
 use Rattle.c_found_unit_laws.specs.Laws.{is_tree_kept}
-use Rattle.c_found_unit_laws.specs.Steps.{UnitSteps, has_body}
+use Rattle.c_found_unit_laws.specs.Steps.{UnitSteps}
+use Rattle.c_found_unit_laws.specs.model.Bodies.{has_body}
 use Rattle.c_found_unit_laws.proofs.Externals.{Holds, AllHold, externals_tell}
 use Rattle.c_found_unit_laws.proofs.Numbers.{HasFunctions, steps_keep_functions, all_kept, start_functions}
 
@@ -105,13 +106,13 @@ main_before size false n e = more_is_not n.faults (record { at = size; kind = Mi
 
 -- ---- the end of a unit
 
-abbrev Ended : TranslationUnit → UnitSoFar × TagScope
-Ended unit = externals (definitions unit.externals) unit.externals (unit_start (definitions unit.externals))
+abbrev LastOfUnit : TranslationUnit → UnitSoFar × TagScope
+LastOfUnit unit = externals (definitions unit.externals) unit.externals (unit_start (definitions unit.externals))
 
-pub clean_unit : (unit : TranslationUnit) → (whole_unit unit).1.1.1.faults ≡ [] → IsClean (Ended unit).1.1.1
-clean_unit unit e = clean_before (Ended unit).1.1.1 (main_before unit.length (Ended unit).0.has_main (undefined_noted (Ended unit).1.1.1) e)
+pub clean_unit : (unit : TranslationUnit) → (whole_unit unit).1.1.1.faults ≡ [] → IsClean (LastOfUnit unit).1.1.1
+clean_unit unit e = clean_before (LastOfUnit unit).1.1.1 (main_before unit.length (LastOfUnit unit).0.has_main (undefined_noted (LastOfUnit unit).1.1.1) e)
 
-pub unit_steps : (unit : TranslationUnit) → (whole_unit unit).1.1.1.faults ≡ [] → (let ds = definitions unit.externals in let s = unit_start ds in let v = Ended unit in UnitSteps ds s.0 s.1.1.0 v.0 v.1.1.0 × AllHold unit.externals v.0.names)
+pub unit_steps : (unit : TranslationUnit) → (whole_unit unit).1.1.1.faults ≡ [] → (let ds = definitions unit.externals in let s = unit_start ds in let v = LastOfUnit unit in UnitSteps ds s.0 s.1.1.0 v.0 v.1.1.0 × AllHold unit.externals v.0.names)
 unit_steps unit e =
     let ds = definitions unit.externals in
     (externals_tell ds unit.externals (unit_start ds)).found (clean_unit unit e) (refl, refl) refl
@@ -121,4 +122,4 @@ pub functions_kept : (unit : TranslationUnit) → (whole_unit unit).1.1.1.faults
 functions_kept unit e =
     let ds = definitions unit.externals in
     let r = unit_steps unit e in
-    all_kept ds (Ended unit).0 (Ended unit).1.1.0 (steps_keep_functions ds r.0 (start_functions ds)) (all_bodies unit.externals nothing_defined (Ended unit).0.names r.1 (λ q h. no_true h))
+    all_kept ds (LastOfUnit unit).0 (LastOfUnit unit).1.1.0 (steps_keep_functions ds r.0 (start_functions ds)) (all_bodies unit.externals nothing_defined (LastOfUnit unit).0.names r.1 (λ q h. no_true h))

@@ -1,5 +1,5 @@
 -- What declarations at file scope without a fault change of the unit and of the names in scope.
-use Rattle.std.specs.Prelude.{◌≡◌, ℕ, Bool, true, false, not, ◌&&◌, ◌||◌, IsTrue, List, Option, Some, None}
+use Rattle.std.specs.Prelude.{◌≡◌, ℕ, Bool, true, false, ◌||◌, IsTrue, List, Some, None}
 use Rattle.c_arithmetic.specs.declared.integer_type.IntegerType.TheVariants.{Int}
 use Rattle.c_arithmetic.specs.Words.{is_word}
 use Rattle.c_tree.specs.declared.types.Declaration.{Declaration}
@@ -63,21 +63,3 @@ pub data UnitSteps (ds : Definitions) : UnitSoFar → Env → UnitSoFar → Env 
       UnitSteps ds u env (add_object later name ty (with_names names u)) later
   KeepsCells : {u : UnitSoFar} {env : Env} (name : List ℕ) (cells : List DataCell) →
       UnitSteps ds u env (keep_cells env name (Some cells) u) env
-
--- ---- names that have a body
-
-abbrev pub is_function_type : DeclaredType → Bool
-is_function_type (d.Value ty) = false
-is_function_type (d.Unsized ty) = false
-is_function_type (d.Function of parameters) = true
-
-abbrev pub is_body : NameDeclaration → Bool
-is_body a = not a.is_typedef && a.has_value && is_function_type a.ty
-
-abbrev pub is_body_in : Option (ℕ × NameDeclaration) → Bool
-is_body_in None = false
-is_body_in (Some r) = is_body r.1
-
--- a function whose body was judged
-abbrev pub has_body : List ℕ → UnitNames → Bool
-has_body name u = is_body_in (find name u.declared)

@@ -19,9 +19,10 @@ use Rattle.c_typed_tree.specs.Lawful.{IsStruct, IsLawfulStruct}
 use Rattle.c_globals.specs.declared.objects.UnitObject.{UnitObject}
 use Rattle.c_globals.specs.Globals.{global_after, text_at, globals}
 use Rattle.c_layout_laws.proofs.Truth.{no_true, back, all_at}
-use Rattle.c_initial_value_laws.specs.Cells.{IsCellIn, AreBytes}
+use Rattle.mem_model.specs.Bytes.{AreBytes}
+use Rattle.c_initial_value_laws.specs.Cells.{IsCellIn}
 use Rattle.c_global_laws.specs.Laws.{IsLawfulIn, AreLawfulIn, AreNotedTexts}
-use Rattle.c_global_laws.proofs.Places.{after, laid_texts, laid, all_laid, all_lie}
+use Rattle.c_global_laws.proofs.Places.{after, laid_texts, laid_objects, all_laid, all_lie}
 
 -- ---- sizes
 
@@ -97,10 +98,10 @@ texts_lawful all [] end h = All-nil (IsLawfulObject all)
 texts_lawful all (text ∷ texts) end h =
     All-cons (IsLawfulObject all) (text_at end text) (laid_texts (after (text_at end text)) texts) (text_lawful all end text h.0.bytes h.0.small) (texts_lawful all texts (after (text_at end text)) h.1)
 
-objects_lawful : (ds : List StructDef) (all : List DataObject) (os : List UnitObject) (texts : List (List ℕ)) (end : ℕ) → All (IsLawfulStruct ds) ds → AreLawfulIn ds all os → AreNotedTexts texts → All (IsLawfulObject all) (laid ds end os texts)
+objects_lawful : (ds : List StructDef) (all : List DataObject) (os : List UnitObject) (texts : List (List ℕ)) (end : ℕ) → All (IsLawfulStruct ds) ds → AreLawfulIn ds all os → AreNotedTexts texts → All (IsLawfulObject all) (laid_objects ds end os texts)
 objects_lawful ds all [] texts end lawful h g = texts_lawful all texts end g
 objects_lawful ds all (o ∷ os) texts end lawful h g =
-    All-cons (IsLawfulObject all) (global_after ds end o) (laid ds (after (global_after ds end o)) os texts) (object_lawful ds all end o lawful h.0) (objects_lawful ds all os texts (after (global_after ds end o)) lawful h.1 g)
+    All-cons (IsLawfulObject all) (global_after ds end o) (laid_objects ds (after (global_after ds end o)) os texts) (object_lawful ds all end o lawful h.0) (objects_lawful ds all os texts (after (global_after ds end o)) lawful h.1 g)
 
 pub all_lawful : (ds : List StructDef) (os : List UnitObject) (texts : List (List ℕ)) → All (IsLawfulStruct ds) ds → (let all = globals ds os texts in AreLawfulIn ds all os → AreNotedTexts texts → length all < 2 ^ 32 → AreLawful all)
 all_lawful ds os texts lawful h g count = record {

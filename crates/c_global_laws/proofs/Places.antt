@@ -17,9 +17,9 @@ abbrev pub laid_texts : (end : ℕ) → List (List ℕ) → List DataObject
 laid_texts end [] = []
 laid_texts end (text ∷ texts) = text_at end text ∷ laid_texts (after (text_at end text)) texts
 
-abbrev pub laid : List StructDef → (end : ℕ) → List UnitObject → List (List ℕ) → List DataObject
-laid ds end [] texts = laid_texts end texts
-laid ds end (o ∷ os) texts = global_after ds end o ∷ laid ds (after (global_after ds end o)) os texts
+abbrev pub laid_objects : List StructDef → (end : ℕ) → List UnitObject → List (List ℕ) → List DataObject
+laid_objects ds end [] texts = laid_texts end texts
+laid_objects ds end (o ∷ os) texts = global_after ds end o ∷ laid_objects ds (after (global_after ds end o)) os texts
 
 append_none : {A : Type 0} (xs : List A) → xs ++ [] ≡ xs
 append_none [] = refl
@@ -31,13 +31,13 @@ texts_laid (text ∷ texts) g =
     let o = text_at g.end text in
     texts_laid texts (with_global o g) ∙ append_assoc g.globals (o ∷ []) (laid_texts (after o) texts)
 
-objects_laid : (ds : List StructDef) (os : List UnitObject) (texts : List (List ℕ)) (g : GlobalsSoFar) → (with_texts texts (with_objects ds os g)).globals ≡ g.globals ++ laid ds g.end os texts
+objects_laid : (ds : List StructDef) (os : List UnitObject) (texts : List (List ℕ)) (g : GlobalsSoFar) → (with_texts texts (with_objects ds os g)).globals ≡ g.globals ++ laid_objects ds g.end os texts
 objects_laid ds [] texts g = texts_laid texts g
 objects_laid ds (o ∷ os) texts g =
     let x = global_after ds g.end o in
-    objects_laid ds os texts (with_global x g) ∙ append_assoc g.globals (x ∷ []) (laid ds (after x) os texts)
+    objects_laid ds os texts (with_global x g) ∙ append_assoc g.globals (x ∷ []) (laid_objects ds (after x) os texts)
 
-pub all_laid : (ds : List StructDef) (os : List UnitObject) (texts : List (List ℕ)) → globals ds os texts ≡ laid ds 0 os texts
+pub all_laid : (ds : List StructDef) (os : List UnitObject) (texts : List (List ℕ)) → globals ds os texts ≡ laid_objects ds 0 os texts
 all_laid ds os texts = objects_laid ds os texts no_globals
 
 -- ---- where each stands
@@ -55,21 +55,21 @@ text_there (t ∷ texts) end (suc k) text e =
     let rest = text_there texts (after (text_at end t)) k text e in
     record { end = rest.end; there = rest.there }
 
-object_there : (ds : List StructDef) (os : List UnitObject) (texts : List (List ℕ)) (end k : ℕ) (o : UnitObject) → slice_get os k ≡ Some o → HasObject ds (laid ds end os texts) k o
+object_there : (ds : List StructDef) (os : List UnitObject) (texts : List (List ℕ)) (end k : ℕ) (o : UnitObject) → slice_get os k ≡ Some o → HasObject ds (laid_objects ds end os texts) k o
 object_there ds [] texts end k o e = none_some e
 object_there ds (x ∷ os) texts end zero o e = record { end = end; there = ap (λ y. Some (global_after ds end y)) (same e) }
 object_there ds (x ∷ os) texts end (suc k) o e =
     let rest = object_there ds os texts (after (global_after ds end x)) k o e in
     record { end = rest.end; there = rest.there }
 
-string_there : (ds : List StructDef) (os : List UnitObject) (texts : List (List ℕ)) (end k : ℕ) (text : List ℕ) → slice_get texts k ≡ Some text → HasTextObject (laid ds end os texts) (length os + k) text
+string_there : (ds : List StructDef) (os : List UnitObject) (texts : List (List ℕ)) (end k : ℕ) (text : List ℕ) → slice_get texts k ≡ Some text → HasTextObject (laid_objects ds end os texts) (length os + k) text
 string_there ds [] texts end k text e = subst (λ n. HasTextObject (laid_texts end texts) n text) (none_more k) (text_there texts end k text e)
   where
     none_more : (k : ℕ) → k ≡ 0 + k
     none_more k = omega arith
 string_there ds (x ∷ os) texts end k text e =
     let rest = string_there ds os texts (after (global_after ds end x)) k text e in
-    subst (λ n. HasTextObject (laid ds end (x ∷ os) texts) n text) (one_more (length os) k) (record { end = rest.end; there = rest.there })
+    subst (λ n. HasTextObject (laid_objects ds end (x ∷ os) texts) n text) (one_more (length os) k) (record { end = rest.end; there = rest.there })
   where
     one_more : (n k : ℕ) → suc (n + k) ≡ suc n + k
     one_more n k = omega arith
@@ -86,6 +86,6 @@ texts_lie : (texts : List (List ℕ)) (end : ℕ) → ObjectsLieFrom end (laid_t
 texts_lie [] end = tt
 texts_lie (text ∷ texts) end = (refl, texts_lie texts (after (text_at end text)))
 
-pub all_lie : (ds : List StructDef) (os : List UnitObject) (texts : List (List ℕ)) (end : ℕ) → ObjectsLieFrom end (laid ds end os texts)
+pub all_lie : (ds : List StructDef) (os : List UnitObject) (texts : List (List ℕ)) (end : ℕ) → ObjectsLieFrom end (laid_objects ds end os texts)
 all_lie ds [] texts end = texts_lie texts end
 all_lie ds (o ∷ os) texts end = (refl, all_lie ds os texts (after (global_after ds end o)))

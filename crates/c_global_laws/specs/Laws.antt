@@ -10,7 +10,8 @@ use Rattle.c_typed_tree.specs.View.{type_view}
 use Rattle.c_typed_tree.specs.Lawful.{IsLawfulStruct}
 use Rattle.c_globals.specs.declared.objects.UnitObject.{UnitObject}
 use Rattle.c_globals.specs.Globals.{global_after, text_at, globals}
-use Rattle.c_initial_value_laws.specs.Cells.{AreInitialCells, AreBytes}
+use Rattle.mem_model.specs.Bytes.{AreBytes}
+use Rattle.c_initial_value_laws.specs.Cells.{AreInitialCells}
 
 -- an object with a name stands at its number, and a text behind all of them, each somewhere
 pub record HasObject (structs : List StructDef) (all : List DataObject) (k : ℕ) (o : UnitObject) : Type 0 where

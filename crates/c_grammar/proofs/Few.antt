@@ -14,7 +14,7 @@ use Rattle.c_tree.proofs.Counts.{expr_count, type_count, list_count}
 use Rattle.c_grammar.specs.declared.shapes.Shape.{Shape}
 use Rattle.c_grammar.specs.declared.shapes.Shape.TheVariants as sh
 use Rattle.c_grammar.specs.declared.shapes.DeclaredName.{DeclaredName}
-use Rattle.c_grammar.specs.declared.shapes.Naming.{Naming}
+use Rattle.c_grammar.specs.declared.shapes.NameRequirement.{NameRequirement}
 use Rattle.c_grammar.specs.declared.shapes.Declarator.{Declarator}
 use Rattle.c_grammar.specs.Tokens.{TypeNames, token_place}
 use Rattle.c_grammar.specs.Types.{with_shapes, with_one_shape, parameter_by, lone_void, without_void, comma_of}
@@ -121,7 +121,7 @@ module _ (s : TypeNames) where
     pub type_few : {a : List Lexeme} {ty : TypeName} → IsTypeName s a ty → type_count ty.ty ≤ 2 * length a
     type_few (IsTypeName.type_name a b ty d h g) = let i = declarator_few g in let c = shapes_round_count d.shapes ty in let o = plain_count s h in let f = (plain_begins s h).0 in omega (arith, length-append a b)
 
-    pub declarator_few : {naming : Naming} {m : ℕ} {a : List Lexeme} {d : Declarator} → IsDeclarator s naming m a d → shapes_count d.shapes + name_count d.name ≤ 2 * length a
+    pub declarator_few : {naming : NameRequirement} {m : ℕ} {a : List Lexeme} {d : Declarator} → IsDeclarator s naming m a d → shapes_count d.shapes + name_count d.name ≤ 2 * length a
     declarator_few (IsDeclarator.star t a b d low kind c h) = let i = declarator_few h in let o = shapes_more d.shapes sh.Pointer in omega (arith, length-append a b)
     declarator_few (IsDeclarator.own_name t kind takes) = omega arith
     declarator_few (IsDeclarator.no_name may) = omega arith

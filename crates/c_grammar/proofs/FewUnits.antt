@@ -19,7 +19,7 @@ use Rattle.c_tree.specs.Nodes.{node_count, nodes_count, nodes_of, stmt_node, loc
 use Rattle.c_tree.specs.model.Parts.{member_node, constant_node, section_node}
 use Rattle.c_tree.proofs.Counts as n
 use Rattle.c_tree.proofs.Counts.{expr_count, type_count, stmt_count, init_count, list_count, nodes_count-append_nodes, list_count-append}
-use Rattle.c_grammar.specs.declared.shapes.Naming.{Naming}
+use Rattle.c_grammar.specs.declared.shapes.NameRequirement.{NameRequirement}
 use Rattle.c_grammar.specs.Tokens.{TypeNames}
 use Rattle.c_grammar.specs.Types.{without_body, declaration_of}
 use Rattle.c_grammar.specs.Grammar.{IsPlain}
@@ -53,7 +53,7 @@ spec_lone s (IsSpecifier.plain a ty h) = plain_lone s h
 spec_lone s (IsSpecifier.struct a t b l e r d at name ds h kind g lk o rk v) = n.count-Struct-None at name
 spec_lone s (IsSpecifier.enum a t b l e r d at name xs h kind g lk o rk v) = n.count-Enum-None at name
 
-declared_few : (s : TypeNames) {naming : Naming} {ty : TypeNode} {a : List Lexeme} {d : Declaration} → IsDeclared s naming ty a d → type_count d.ty + 2 ≤ 2 * length a + type_count ty
+declared_few : (s : TypeNames) {naming : NameRequirement} {ty : TypeNode} {a : List Lexeme} {d : Declaration} → IsDeclared s naming ty a d → type_count d.ty + 2 ≤ 2 * length a + type_count ty
 declared_few s {ty = ty} (IsDeclared.of a v shapes h) = let c = declarator_few s h in let o = shapes_round_count shapes ty in omega arith
 
 members_few : (s : TypeNames) {ty : TypeNode} {a : List Lexeme} {ds : List Declaration} → Lone ty → AreDeclared s ty a ds → list_count member_node ds ≤ 2 * length a + type_count ty

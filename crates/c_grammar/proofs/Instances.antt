@@ -6,8 +6,8 @@ use Rattle.c_lexer.specs.declared.token.TokenKind.TheVariants as k
 use Rattle.c_lexer.specs.Pieces.{Lexeme}
 use Rattle.c_tree.specs.declared.expressions.Expr.{Expr}
 use Rattle.c_tree.specs.declared.expressions.Expr as e
-use Rattle.c_grammar.specs.declared.shapes.Naming.{Naming}
-use Rattle.c_grammar.specs.declared.shapes.Naming.TheVariants as nm
+use Rattle.c_grammar.specs.declared.shapes.NameRequirement.{NameRequirement}
+use Rattle.c_grammar.specs.declared.shapes.NameRequirement.TheVariants as nm
 use Rattle.c_grammar.specs.declared.shapes.Declarator.{Declarator}
 use Rattle.c_grammar.specs.Tokens.{TypeNames, is_type_name, is_type}
 use Rattle.c_grammar.specs.Types.{may_be_nameless, nameless}
@@ -56,14 +56,14 @@ some_number s m low = IsExpr.number number low refl
 pub whole_number : (s : TypeNames) → IsWhole s (number ∷ []) (e.Number 0 [])
 whole_number s = IsWhole.commas (number ∷ []) (e.Number 0 [] ∷ []) (AreAssignments.one (number ∷ []) (e.Number 0 []) (some_number s 2 (omega arith)))
 
-pub some_declarator : (s : TypeNames) (naming : Naming) (m : ℕ) → Instance (λ a d. IsDeclarator s naming m a d)
+pub some_declarator : (s : TypeNames) (naming : NameRequirement) (m : ℕ) → Instance (λ a d. IsDeclarator s naming m a d)
 some_declarator s nm.Required m = (a_name s ∷ [], record { name = Some (record { at = (a_name s).at; name = (a_name s).spelling }); shapes = [] }, IsDeclarator.own_name (a_name s) (a_name_is s) (ap not (no_type_name s)))
 some_declarator s nm.Member m = (a_name s ∷ [], record { name = Some (record { at = (a_name s).at; name = (a_name s).spelling }); shapes = [] }, IsDeclarator.own_name (a_name s) (a_name_is s) refl)
 some_declarator s nm.Optional m = ([], nameless, IsDeclarator.no_name refl)
 some_declarator s nm.Refused m = ([], nameless, IsDeclarator.no_name refl)
 
 -- a declarator has a name, unless it may do without
-pub nameless_may : (s : TypeNames) {naming : Naming} {m : ℕ} {a : List Lexeme} {d : Declarator} → IsDeclarator s naming m a d → d.name ≡ None → may_be_nameless naming ≡ true
+pub nameless_may : (s : TypeNames) {naming : NameRequirement} {m : ℕ} {a : List Lexeme} {d : Declarator} → IsDeclarator s naming m a d → d.name ≡ None → may_be_nameless naming ≡ true
 nameless_may s (IsDeclarator.star t a b d low kind c h) e = nameless_may s h e
 nameless_may s (IsDeclarator.own_name t kind takes) e = no_some (sym e)
 nameless_may s (IsDeclarator.no_name may) e = may

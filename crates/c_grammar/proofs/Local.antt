@@ -23,8 +23,8 @@ use Rattle.c_grammar.specs.declared.shapes.Shape.{Shape}
 use Rattle.c_grammar.specs.declared.shapes.Shape.TheVariants as sh
 use Rattle.c_grammar.specs.declared.shapes.Declarator.{Declarator}
 use Rattle.c_grammar.specs.declared.shapes.DeclaredName.{DeclaredName}
-use Rattle.c_grammar.specs.declared.shapes.Naming.{Naming}
-use Rattle.c_grammar.specs.declared.shapes.Naming.TheVariants as nm
+use Rattle.c_grammar.specs.declared.shapes.NameRequirement.{NameRequirement}
+use Rattle.c_grammar.specs.declared.shapes.NameRequirement.TheVariants as nm
 use Rattle.c_grammar.specs.declared.shapes.SpecifierStart.{SpecifierStart}
 use Rattle.c_grammar.specs.declared.shapes.SpecifierStart.TheVariants as ss
 use Rattle.c_grammar.specs.Classes.{infix_of, prefix_of, specifier_of}
@@ -33,7 +33,7 @@ use Rattle.c_grammar.specs.WordSets.{no_words, basic_of}
 use Rattle.c_grammar.specs.Tokens.{TypeNames, is_mark, is_keyword, is_name_token, is_text, kind_at, spelling_at, token_place, token_tail, is_type_name, begins_type}
 use Rattle.c_grammar.specs.Types.{without_body, takes_name, may_be_nameless, nameless, with_shape, with_shapes, parameter_of, without_void, comma_of}
 use Rattle.c_grammar.specs.Parser.{ParseOutcome, Parser, and_then, pure, expect, expect_word, consts}
-use Rattle.c_grammar.specs.ParseExpr.{extend, start_of, word_or_end, words_from, named_type, tag_type, tag, specifier_behind, specifier_from, plain, texts_from, list_from, member_name, no_name, core_name, whole, type_name, parameter, arguments_behind, parameters_behind, behind_name, cast_behind, brackets_behind, bracket_operand, sizeof_type_name, sizeof_unary, sizeof_behind, operand_by, operand, step_by, climb, tight, length_behind, suffixes, pointer_declarator, group_behind, core_bracket, core, shaping, expr, declarator}
+use Rattle.c_grammar.specs.ParseExpr.{extend, start_of, word_or_end, words_from, named_type, tag_type, tag, specifier_behind, specifier_from, plain, texts_from, list_from, member_name, no_name, core_name, whole, type_name, parameter, arguments_behind, parameters_behind, behind_name, cast_behind, brackets_behind, bracket_operand, sizeof_type_name, sizeof_unary, sizeof_behind, operand_by, operand, step_by, climb, tight, length_behind, suffixes, pointer_declarator, group_behind, core_bracket, core, shaped_declarator, expr, declarator}
 use Rattle.c_grammar.specs.Specifiers.{IsSpecifier}
 use Rattle.c_grammar.specs.ParseSpecifiers as specifiers
 use Rattle.c_grammar.specs.ParseSpecifiers.{named_by, declaration, braced_list_from, enumerator_value, enumerator, declarators_from, struct_declarations_from, braces, behind_tag, tag_or_body, specifier}
@@ -311,7 +311,7 @@ module _ (t : Lexeme) (left right : List Lexeme) where
   unfolding member_name
   member_local n m k b c u v h bn cm = test_local (ap is_name_token (same_kind h)) (taken_local (spelling_at u) (spelling_at v) h (same_spelling h)) (err_local h)
 
-  module _ (s : TypeNames) (n m : ℕ) (rec rec' : ℕ → Parser Expr) (dec dec' : Naming → Parser Declarator) (rec_local : (least : ℕ) → Alike n m (rec least) (rec' least)) (dec_local : (naming : Naming) → Alike n m (dec naming) (dec' naming))
+  module _ (s : TypeNames) (n m : ℕ) (rec rec' : ℕ → Parser Expr) (dec dec' : NameRequirement → Parser Declarator) (rec_local : (least : ℕ) → Alike n m (rec least) (rec' least)) (dec_local : (naming : NameRequirement) → Alike n m (dec naming) (dec' naming))
       (takes : (l : Lexeme) (u : List Lexeme) → l.kind ≡ kd.Mark p.LeftParen → length (l ∷ u) ≤ n → length u ≤ length left → Agrees Mode.past (length u) 0 (rec 17 (l ∷ u)) (rec 17 (l ∷ u))) where
     pub whole_local : Alike n m (whole s rec dec) (whole s rec' dec')
     unfolding whole
@@ -418,7 +418,7 @@ module _ (t : Lexeme) (left right : List Lexeme) where
     step_local ix.Tight at x k b c u v h bn cm = err_local h
     step_local ix.Nothing at x k b c u v h bn cm = err_local h
 
-    abbrev climbing : (ℕ → Parser Expr) → (Naming → Parser Declarator) → ℕ → ℕ → ℕ → ℕ × Expr → Parser Expr
+    abbrev climbing : (ℕ → Parser Expr) → (NameRequirement → Parser Declarator) → ℕ → ℕ → ℕ → ℕ × Expr → Parser Expr
     climbing rec dec at least j q = climb s rec dec at least j q.0 q.1
 
     climb_loop : (at least j i : ℕ) (q : ℕ × Expr) → Loop (suc n) (suc m) (climbing rec dec at least) (climbing rec' dec' at least) j i q
@@ -466,18 +466,18 @@ module _ (t : Lexeme) (left right : List Lexeme) where
     suffixes_local : (d : Declarator) → Alike (suc n) (suc m) (λ ts. suffixes s rec dec (length ts) d ts) (λ ts. suffixes s rec' dec' (length ts) d ts)
     suffixes_local d = turns_local (suc n) (suc m) (suffixes s rec dec) (suffixes s rec' dec') suffixes_loop d
 
-    pointer_local : (naming : Naming) → Alike n m (pointer_declarator s rec dec naming) (pointer_declarator s rec' dec' naming)
+    pointer_local : (naming : NameRequirement) → Alike n m (pointer_declarator s rec dec naming) (pointer_declarator s rec' dec' naming)
     unfolding pointer_declarator
     pointer_local naming k b c u v h bn cm = bind_local _ _ _ _ (consts_local n m k b c u v h bn cm) (λ x k u v g. bind_local _ _ _ _ (dec_local naming k b c u v g bn cm) (λ d k u v g. ok_local _ _ g refl))
 
-    group_local : (naming : Naming) → Alike n m (group_behind s rec dec naming) (group_behind s rec' dec' naming)
+    group_local : (naming : NameRequirement) → Alike n m (group_behind s rec dec naming) (group_behind s rec' dec' naming)
     unfolding group_behind
     group_local naming k b c u v h bn cm = bind_local _ _ _ _ (pointer_local naming k b c u v h bn cm) (λ d k u v g. end_local p.RightParen d d g refl)
 
-    no_name_local : (naming : Naming) (n m : ℕ) → Alike n m (no_name naming) (no_name naming)
+    no_name_local : (naming : NameRequirement) (n m : ℕ) → Alike n m (no_name naming) (no_name naming)
     no_name_local naming n m k b c u v h bn cm = test_local refl (ok_local nameless nameless h refl) (err_local h)
 
-    core_name_local : (naming : Naming) (n m : ℕ) → Alike n m (core_name s naming) (core_name s naming)
+    core_name_local : (naming : NameRequirement) (n m : ℕ) → Alike n m (core_name s naming) (core_name s naming)
     core_name_local naming n m k b c u v h bn cm =
         let made : ℕ → List ℕ → Declarator = λ at name. record { name = Some (record { at = at; name = name }); shapes = [] } in
         test_local (ap (λ name. takes_name naming (is_type_name s name)) (same_spelling h)) (taken_local (made (token_place u) (spelling_at u)) (made (token_place v) (spelling_at v)) h (ap (λ at. made at (spelling_at u)) (same_place h) ∙ ap (made (token_place v)) (same_spelling h))) (no_name_local naming n m k b c u v h bn cm)
@@ -486,21 +486,21 @@ module _ (t : Lexeme) (left right : List Lexeme) where
     behind_past [] = omega arith
     behind_past (x ∷ u) = omega arith
 
-    abbrev with_suffixes : (ℕ → Parser Expr) → (Naming → Parser Declarator) → Declarator → Parser Declarator
+    abbrev with_suffixes : (ℕ → Parser Expr) → (NameRequirement → Parser Declarator) → Declarator → Parser Declarator
     with_suffixes rec dec d ts = suffixes s rec dec (length ts) d ts
 
     -- at a bracket, with the same token behind it
-    core_bracket_local : (naming : Naming) {k : Mode} {b c : ℕ} {u v : List Lexeme} → State k b c u v → State k b c (token_tail u) (token_tail v) → b ≤ suc n → c ≤ suc m → Agrees k b c (core_bracket s rec dec naming u) (core_bracket s rec' dec' naming v)
+    core_bracket_local : (naming : NameRequirement) {k : Mode} {b c : ℕ} {u v : List Lexeme} → State k b c u v → State k b c (token_tail u) (token_tail v) → b ≤ suc n → c ≤ suc m → Agrees k b c (core_bracket s rec dec naming u) (core_bracket s rec' dec' naming v)
     core_bracket_local naming h g bn cm = test_local (ap (is_mark p.Star) (same_kind g)) (behind_local (group_behind s rec dec naming) (group_behind s rec' dec' naming) (group_local naming) g bn cm)
         (test_local refl (ok_local nameless nameless h refl) (err_local g))
 
-    core_local : (naming : Naming) {k : Mode} {b c : ℕ} {u v : List Lexeme} → State k b c u v → State k b c (token_tail u) (token_tail v) → b ≤ suc n → c ≤ suc m → Agrees k b c (core s rec dec naming u) (core s rec' dec' naming v)
+    core_local : (naming : NameRequirement) {k : Mode} {b c : ℕ} {u v : List Lexeme} → State k b c u v → State k b c (token_tail u) (token_tail v) → b ≤ suc n → c ≤ suc m → Agrees k b c (core s rec dec naming u) (core s rec' dec' naming v)
     unfolding core
     core_local naming {k} {b} {c} {u} {v} h g bn cm = test_local (ap is_name_token (same_kind h)) (core_name_local naming (suc n) (suc m) k b c u v h bn cm)
         (test_local (ap (is_mark p.LeftParen) (same_kind h)) (core_bracket_local naming h g bn cm) (no_name_local naming (suc n) (suc m) k b c u v h bn cm))
 
     -- at the bracket that is the last of the same tokens, what is read takes it
-    bracket_lost : (naming : Naming) (x y : Bool) → t.kind ≡ kd.Mark p.LeftParen → length left ≤ n
+    bracket_lost : (naming : NameRequirement) (x y : Bool) → t.kind ≡ kd.Mark p.LeftParen → length left ≤ n
         → Agrees Mode.past (length left) 0 (and_then (cond x (group_behind s rec dec naming (token_tail left)) (cond y (Ok (nameless, t ∷ left)) (Err left))) (with_suffixes rec dec))
         (and_then (cond x (group_behind s rec' dec' naming (token_tail left)) (cond y (Ok (nameless, t ∷ left)) (Err left))) (with_suffixes rec' dec'))
     unfolding suffixes
@@ -515,14 +515,14 @@ module _ (t : Lexeme) (left right : List Lexeme) where
         (λ xs k u v g. suffixes_loop (length left) (length left) (with_shape nameless (sh.Takes (without_void xs))) k (length left) 0 u v g (omega arith) (omega arith) (omega arith) (omega arith)))
     bracket_lost naming false false kind len = err_local (State.past (omega arith) (omega arith))
 
-    shape_here : (naming : Naming) (b c : ℕ) (x y : Bool) → is_mark p.LeftParen t.kind ≡ y → State Mode.near b c (t ∷ left) (t ∷ right) → b ≤ suc n → c ≤ suc m
+    shape_here : (naming : NameRequirement) (b c : ℕ) (x y : Bool) → is_mark p.LeftParen t.kind ≡ y → State Mode.near b c (t ∷ left) (t ∷ right) → b ≤ suc n → c ≤ suc m
         → Agrees Mode.near b c (and_then (cond x (core_name s naming (t ∷ left)) (cond y (core_bracket s rec dec naming (t ∷ left)) (no_name naming (t ∷ left)))) (with_suffixes rec dec))
         (and_then (cond x (core_name s naming (t ∷ right)) (cond y (core_bracket s rec' dec' naming (t ∷ right)) (no_name naming (t ∷ right)))) (with_suffixes rec' dec'))
     shape_here naming b c true y e h bn cm = bind_local _ _ _ _ (core_name_local naming (suc n) (suc m) Mode.near b c (t ∷ left) (t ∷ right) h bn cm) (λ d k u v g. suffixes_local d k b c u v g bn cm)
     shape_here naming b c false true e (State.near h lb lc) bn cm = forget (omega arith) (bracket_lost naming (is_mark p.Star (kind_at left)) (may_be_nameless naming) (mark_is p.LeftParen t.kind e) (omega arith))
     shape_here naming b c false false e h bn cm = bind_local _ _ _ _ (no_name_local naming (suc n) (suc m) Mode.near b c (t ∷ left) (t ∷ right) h bn cm) (λ d k u v g. suffixes_local d k b c u v g bn cm)
 
-    shape_local : (naming : Naming) → Alike (suc n) (suc m) (λ ts. and_then (core s rec dec naming ts) (with_suffixes rec dec)) (λ ts. and_then (core s rec' dec' naming ts) (with_suffixes rec' dec'))
+    shape_local : (naming : NameRequirement) → Alike (suc n) (suc m) (λ ts. and_then (core s rec dec naming ts) (with_suffixes rec dec)) (λ ts. and_then (core s rec' dec' naming ts) (with_suffixes rec' dec'))
     unfolding core
     shape_local naming k b c u v (State.near Same.here lb lc) bn cm = shape_here naming b c (is_name_token t.kind) (is_mark p.LeftParen t.kind) refl (State.near Same.here lb lc) bn cm
     shape_local naming k b c u v (State.near (Same.there x {u = u2} {v = v2} h) lb lc) bn cm =
@@ -531,7 +531,7 @@ module _ (t : Lexeme) (left right : List Lexeme) where
         let less = behind_past u in
         bind_local _ _ _ _ (core_local naming {u = u} {v = u} (State.past l lb) (State.past (omega arith) (omega arith)) bn cm) (λ d k u v g. suffixes_local d k b c u v g bn cm)
 
-    pub shaping_local : (naming : Naming) → Alike (suc n) (suc m) (shaping s rec dec naming) (shaping s rec' dec' naming)
+    pub shaping_local : (naming : NameRequirement) → Alike (suc n) (suc m) (shaped_declarator s rec dec naming) (shaped_declarator s rec' dec' naming)
     shaping_local naming k b c u v h bn cm = test_local (ap (is_mark p.Star) (same_kind h)) (behind_local (pointer_declarator s rec dec naming) (pointer_declarator s rec' dec' naming) (pointer_local naming) h bn cm)
         (shape_local naming k b c u v h bn cm)
 
@@ -546,7 +546,7 @@ module _ (t : Lexeme) (left right : List Lexeme) where
         (tight_local s n zero (expr s n) (expr s zero) (declarator s n) (declarator s zero) (expr_local s n zero) (declarator_local s n zero) (expr_takes s n) least Mode.past b 0 u u (State.past l lb) bn (omega arith))
     expr_local s (suc n) (suc m) least k b c u v h bn cm = tight_local s n m (expr s n) (expr s m) (declarator s n) (declarator s m) (expr_local s n m) (declarator_local s n m) (expr_takes s n) least k b c u v h bn cm
 
-    pub declarator_local : (s : TypeNames) (n m : ℕ) (naming : Naming) → Alike n m (declarator s n naming) (declarator s m naming)
+    pub declarator_local : (s : TypeNames) (n m : ℕ) (naming : NameRequirement) → Alike n m (declarator s n naming) (declarator s m naming)
     declarator_local s zero m naming k b c u v (State.near h lb lc) bn cm = let o = some_left h in absurd (omega arith)
     declarator_local s zero m naming k b c u v (State.past l lb) bn cm = forget {b = b} {c = c} {o' = Err u} (omega arith) (err_local (State.past l lb))
     declarator_local s (suc n) zero naming k b c u v (State.near h lb lc) bn cm = let o = some_right h in absurd (omega arith)
@@ -607,7 +607,7 @@ module _ (t : Lexeme) (left right : List Lexeme) where
   named_local ty None shapes h = err_local h
 
   module _ (s : TypeNames) (n m : ℕ) where
-    pub declaration_local : (naming : Naming) (ty : TypeNode) → Alike n m (declaration s n naming ty) (declaration s m naming ty)
+    pub declaration_local : (naming : NameRequirement) (ty : TypeNode) → Alike n m (declaration s n naming ty) (declaration s m naming ty)
     unfolding declaration
     declaration_local naming ty k b c u v h bn cm = bind_local _ _ _ _ (declarator_local s n m naming k b c u v h bn cm) (λ d k u v g. named_local ty d.name d.shapes g)
 

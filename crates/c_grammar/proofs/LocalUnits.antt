@@ -18,13 +18,13 @@ use Rattle.c_tree.specs.declared.declarations.External.{External}
 use Rattle.c_tree.specs.declared.declarations.External.TheVariants as ex
 use Rattle.c_grammar.specs.declared.classes.Head.{Head}
 use Rattle.c_grammar.specs.declared.classes.Head.TheVariants as hd
-use Rattle.c_grammar.specs.declared.classes.Opening.{Opening}
-use Rattle.c_grammar.specs.declared.classes.Opening.TheVariants as op
+use Rattle.c_grammar.specs.declared.classes.StorageClass.{StorageClass}
+use Rattle.c_grammar.specs.declared.classes.StorageClass.TheVariants as op
 use Rattle.c_grammar.specs.declared.shapes.Shape.{Shape}
 use Rattle.c_grammar.specs.declared.shapes.Declarator.{Declarator}
 use Rattle.c_grammar.specs.declared.shapes.DeclaredName.{DeclaredName}
-use Rattle.c_grammar.specs.declared.shapes.Naming.TheVariants as nm
-use Rattle.c_grammar.specs.Classes.{head_of, opening_of}
+use Rattle.c_grammar.specs.declared.shapes.NameRequirement.TheVariants as nm
+use Rattle.c_grammar.specs.Classes.{head_of, storage_class_of}
 use Rattle.c_grammar.specs.Tokens.{TypeNames, is_mark, is_keyword, kind_at, token_place}
 use Rattle.c_grammar.specs.Types.{without_body, declaration_of}
 use Rattle.c_grammar.specs.Statements.{locals_of}
@@ -274,7 +274,7 @@ module _ (t : Lexeme) (left right : List Lexeme) where
       unfolding behind_storage
       behind_storage_local k b c u v h bn cm = bind_local t left right _ _ _ _ (specifier_of_local t left right s n m k b c u v h bn cm) (λ ty k u v g. bind_local t left right _ _ _ _ (behind_type_local ty k b c u v g bn cm) (λ vs k u v g. ok_local t left right _ _ g refl))
 
-    external_at_local : (opening : Opening) → Alike t left right n m (external_at s n opening) (external_at s m opening)
+    external_at_local : (opening : StorageClass) → Alike t left right n m (external_at s n opening) (external_at s m opening)
     external_at_local op.Typedef k b c u v h bn cm = behind_local t left right (typedefs s n) (typedefs s m) typedefs_local h (omega arith) (omega arith)
     external_at_local op.Static k b c u v h bn cm = behind_local t left right (behind_storage s n (Some sg.Static)) (behind_storage s m (Some sg.Static)) (behind_storage_local (Some sg.Static)) h (omega arith) (omega arith)
     external_at_local op.Extern k b c u v h bn cm = behind_local t left right (behind_storage s n (Some sg.Extern)) (behind_storage s m (Some sg.Extern)) (behind_storage_local (Some sg.Extern)) h (omega arith) (omega arith)
@@ -282,4 +282,4 @@ module _ (t : Lexeme) (left right : List Lexeme) where
 
     pub external_local : Alike t left right n m (external s n) (external s m)
     unfolding external
-    external_local k b c u v h bn cm = rw (same_kind t left right h) (external_at_local (opening_of (kind_at v)) k b c u v h bn cm)
+    external_local k b c u v h bn cm = rw (same_kind t left right h) (external_at_local (storage_class_of (kind_at v)) k b c u v h bn cm)

@@ -5,7 +5,7 @@ use Rattle.c_lexer.specs.Pieces.{Lexeme}
 use Rattle.c_tree.specs.declared.expressions.Expr.{Expr}
 use Rattle.c_grammar.specs.declared.classes.Infix.{Infix}
 use Rattle.c_grammar.specs.declared.shapes.Declarator.{Declarator}
-use Rattle.c_grammar.specs.declared.shapes.Naming.{Naming}
+use Rattle.c_grammar.specs.declared.shapes.NameRequirement.{NameRequirement}
 use Rattle.c_grammar.specs.Classes.{infix_of}
 use Rattle.c_grammar.specs.Levels.{binding_level, operand_level, result_level}
 use Rattle.c_grammar.specs.Tokens.{TypeNames, token_place, kind_at, token_tail}
@@ -25,7 +25,7 @@ pub place-append : (a b : List Lexeme) → 0 < length a → token_place (a ++ b)
 place-append [] b some = absurd (omega arith)
 place-append (t ∷ a) b some = refl
 
-module _ (s : TypeNames) (rec : ℕ → Parser Expr) (dec : Naming → Parser Declarator) where
+module _ (s : TypeNames) (rec : ℕ → Parser Expr) (dec : NameRequirement → Parser Declarator) where
   climb_done : (at least j level : ℕ) (x : Expr) (ts : List Lexeme) → binding_level (infix_at ts) < least → climb s rec dec at least j level x ts ≡ Ok (x, ts)
   unfolding climb
   climb_done at least zero level x ts b = refl
@@ -44,7 +44,7 @@ module _ (s : TypeNames) (rec : ℕ → Parser Expr) (dec : Naming → Parser De
   turn_at at least level (suc j) t b r v x len l d g =
       (j, omega (arith, length-append b r), climb_turn at least j level v x (t ∷ b ++ r) r l d g)
 
-pub record Reached (s : TypeNames) (n least m at : ℕ) (ts r : List Lexeme) (x : Expr) : Type 0 where
+pub record ReachedClimb (s : TypeNames) (n least m at : ℕ) (ts r : List Lexeme) (x : Expr) : Type 0 where
   pub level : ℕ
   pub turns : ℕ
   pub loose : m ≤ level
@@ -52,7 +52,7 @@ pub record Reached (s : TypeNames) (n least m at : ℕ) (ts r : List Lexeme) (x 
   pub gives : expr s (suc n) least ts ≡ climb s (expr s n) (declarator s n) at least turns level x r
 
 abbrev pub Reaches : TypeNames → ℕ → List Lexeme → Expr → Type 0
-Reaches s m a x = (n least : ℕ) (r : List Lexeme) → length (a ++ r) ≤ suc n → 1 ≤ least → least ≤ m → binding_level (infix_at r) ≤ m → Reached s n least m (token_place a) (a ++ r) r x
+Reaches s m a x = (n least : ℕ) (r : List Lexeme) → length (a ++ r) ≤ suc n → 1 ≤ least → least ≤ m → binding_level (infix_at r) ≤ m → ReachedClimb s n least m (token_place a) (a ++ r) r x
 
 abbrev pub Reads : TypeNames → ℕ → List Lexeme → Expr → Type 0
 Reads s m a x = (n : ℕ) (r : List Lexeme) → length (a ++ r) ≤ n → binding_level (infix_at r) < m → expr s n m (a ++ r) ≡ Ok (x, r)
@@ -73,7 +73,7 @@ advance s m q t a b v x low under_it high demand some reach step n least r len o
     let sizes = length-append a (t ∷ b ++ r) in
     let h = reach n least (t ∷ b ++ r) all one (omega arith) high in
     let u = turn_at s (expr s n) (declarator s n) (token_place a) least h.level h.turns t b r v x h.enough (omega arith) (omega (arith, h.loose)) (step n r (omega arith) next) in
-    let P : ℕ → Type 0 = λ at. Reached s n least m at ((a ++ t ∷ b) ++ r) r x in
+    let P : ℕ → Type 0 = λ at. ReachedClimb s n least m at ((a ++ t ∷ b) ++ r) r x in
     let f : P (token_place a) = record { level = result_level (infix_of t.kind); turns = u.0; loose = low; enough = u.1; gives = ap (expr s (suc n) least) e ∙ h.gives ∙ u.2 } in
     subst P (sym (place-append a (t ∷ b) some)) f
 
@@ -98,6 +98,6 @@ pub start : (s : TypeNames) (m level : ℕ) (a : List Lexeme) (x : Expr) → m �
     → Reaches s m a x
 unfolding expr
 start s m level a x low some begin n least r len one under next =
-    let P : ℕ → Type 0 = λ at. Reached s n least m at (a ++ r) r x in
+    let P : ℕ → Type 0 = λ at. ReachedClimb s n least m at (a ++ r) r x in
     let f : P (token_place (a ++ r)) = record { level = level; turns = length r; loose = low; enough = omega arith; gives = rw (begin n least r len under next) refl } in
     subst P (place-append a r some) f

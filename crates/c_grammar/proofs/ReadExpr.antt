@@ -9,7 +9,7 @@ use Rattle.c_tree.specs.declared.expressions.Expr as e
 use Rattle.c_tree.specs.declared.types.TypeName.{TypeName}
 use Rattle.c_tree.specs.declared.types.Parameter.{Parameter}
 use Rattle.c_grammar.specs.declared.shapes.Declarator.{Declarator}
-use Rattle.c_grammar.specs.declared.shapes.Naming.{Naming}
+use Rattle.c_grammar.specs.declared.shapes.NameRequirement.{NameRequirement}
 use Rattle.c_grammar.specs.Classes.{specifier_of}
 use Rattle.c_grammar.specs.Tokens.{TypeNames, is_type, begins_type}
 use Rattle.c_grammar.specs.Grammar.{IsExpr, IsWhole, AreAssignments, AreArguments, IsTypeName, IsDeclarator, AreParameters, AreSomeParameters, IsParameter}
@@ -29,7 +29,7 @@ mark_stops t r m e = ap (λ kd. ends_by (specifier_of kd)) e
 through : (a b r : List Lexeme) → Stops (a ++ (b ++ r)) → Stops ((a ++ b) ++ r)
 through a b r h = subst Stops (sym (append_assoc a b r)) h
 
-pub declarator_stops : (s : TypeNames) {naming : Naming} {m : ℕ} {b : List Lexeme} {d : Declarator} → IsDeclarator s naming m b d → (r : List Lexeme) → Stops r → Stops (b ++ r)
+pub declarator_stops : (s : TypeNames) {naming : NameRequirement} {m : ℕ} {b : List Lexeme} {d : Declarator} → IsDeclarator s naming m b d → (r : List Lexeme) → Stops r → Stops (b ++ r)
 declarator_stops s (IsDeclarator.star t a b d low kind c h) r stop = mark_stops t ((a ++ b) ++ r) p.Star kind
 declarator_stops s (IsDeclarator.own_name t takes kind) r stop = ap (λ kd. ends_by (specifier_of kd)) takes
 declarator_stops s (IsDeclarator.no_name may) r stop = stop
@@ -91,7 +91,7 @@ module _ (s : TypeNames) where
     pub reach_type : {a : List Lexeme} {ty : TypeName} → IsTypeName s a ty → ReadsType s a ty
     reach_type (IsTypeName.type_name a b ty c h g) = d.type_rule s a b ty c h (declarator_stops s g) (read_declarator g)
 
-    pub read_declarator : {naming : Naming} {m : ℕ} {a : List Lexeme} {d : Declarator} → IsDeclarator s naming m a d → ReadsD s naming a d
+    pub read_declarator : {naming : NameRequirement} {m : ℕ} {a : List Lexeme} {d : Declarator} → IsDeclarator s naming m a d → ReadsD s naming a d
     read_declarator (IsDeclarator.star t a b c low kind o h) = d.star_rule s _ t a b c kind o (declarator_stops s h) (read_declarator h)
     read_declarator (IsDeclarator.own_name t kind takes) = d.reads_d s _ (t ∷ []) _ (d.named_rule s _ t kind takes)
     read_declarator (IsDeclarator.no_name may) = d.reads_d s _ [] _ (d.unnamed_rule s _ may)
@@ -100,7 +100,7 @@ module _ (s : TypeNames) where
     read_declarator (IsDeclarator.array a l b r c v h lk g rk) = d.reads_d s _ (a ++ (l ∷ b ++ r ∷ [])) _ (d.array_rule s _ a l b r c v (reach_declarator h (omega arith)) lk (first s g) (reads_of g (omega arith) (reach g)) rk)
     read_declarator (IsDeclarator.function a l b r c xs h lk g rk) = d.reads_d s _ (a ++ (l ∷ b ++ r ∷ [])) _ (d.takes_rule s _ a l b r c xs (reach_declarator h (omega arith)) lk (reach_parameters g) rk)
 
-    reach_declarator : {naming : Naming} {m : ℕ} {a : List Lexeme} {d : Declarator} → IsDeclarator s naming m a d → 1 ≤ m → ReachesD s naming a d
+    reach_declarator : {naming : NameRequirement} {m : ℕ} {a : List Lexeme} {d : Declarator} → IsDeclarator s naming m a d → 1 ≤ m → ReachesD s naming a d
     reach_declarator (IsDeclarator.star t a b c low kind o h) one = absurd (omega arith)
     reach_declarator (IsDeclarator.own_name t kind takes) one = d.named_rule s _ t kind takes
     reach_declarator (IsDeclarator.no_name may) one = d.unnamed_rule s _ may

@@ -12,7 +12,7 @@ use Rattle.c_tree.specs.declared.types.Constant.{Constant}
 use Rattle.c_grammar.specs.declared.classes.Specifier.{Specifier}
 use Rattle.c_grammar.specs.declared.classes.Specifier.TheVariants as c
 use Rattle.c_grammar.specs.declared.shapes.Declarator.{Declarator}
-use Rattle.c_grammar.specs.declared.shapes.Naming.{Naming}
+use Rattle.c_grammar.specs.declared.shapes.NameRequirement.{NameRequirement}
 use Rattle.c_grammar.specs.Classes.{specifier_of, begins_type_by}
 use Rattle.c_grammar.specs.Levels.{binding_level}
 use Rattle.c_grammar.specs.WordSets.{no_words}
@@ -50,7 +50,7 @@ pub record Fronts (a : List Lexeme) : Type 0 where
 pub wider : (a b : List Lexeme) → Fronts a → Fronts (a ++ b)
 wider a b h = record { some = let o = h.some in omega (arith, length-append a b); follows = λ r. subst Follows (sym (append_assoc a b r)) (h.follows (b ++ r)); no_end = λ r. ap (λ z. is_mark p.Semicolon (kind_at z)) (append_assoc a b r) ∙ h.no_end (b ++ r) }
 
-pub declarator_fronts : (s : TypeNames) {naming : Naming} {m : ℕ} {a : List Lexeme} {d : Declarator} → may_be_nameless naming ≡ false → IsDeclarator s naming m a d → Fronts a
+pub declarator_fronts : (s : TypeNames) {naming : NameRequirement} {m : ℕ} {a : List Lexeme} {d : Declarator} → may_be_nameless naming ≡ false → IsDeclarator s naming m a d → Fronts a
 declarator_fronts s n (IsDeclarator.star t a b d low kind c h) = record { some = omega arith; follows = λ r. mark_follows t ((a ++ b) ++ r) p.Star kind refl; no_end = λ r. ap (is_mark p.Semicolon) kind }
 declarator_fronts s n (IsDeclarator.own_name t kind takes) = record { some = omega arith; follows = λ r. record { stops = ap (λ kd. ends_by (specifier_of kd)) kind; no_brace = ap (is_mark p.LeftBrace) kind }; no_end = λ r. ap (is_mark p.Semicolon) kind }
 declarator_fronts s n (IsDeclarator.no_name may) = no_true (sym n ∙ may)
@@ -59,7 +59,7 @@ declarator_fronts s n (IsDeclarator.open_array a l r d h lk rk) = wider a (l ∷
 declarator_fronts s n (IsDeclarator.array a l b r d x h lk g rk) = wider a (l ∷ b ++ r ∷ []) (declarator_fronts s n h)
 declarator_fronts s n (IsDeclarator.function a l b r d xs h lk g rk) = wider a (l ∷ b ++ r ∷ []) (declarator_fronts s n h)
 
-pub declared_fronts : (s : TypeNames) {naming : Naming} {ty : TypeNode} {a : List Lexeme} {d : Declaration} → may_be_nameless naming ≡ false → IsDeclared s naming ty a d → Fronts a
+pub declared_fronts : (s : TypeNames) {naming : NameRequirement} {ty : TypeNode} {a : List Lexeme} {d : Declaration} → may_be_nameless naming ≡ false → IsDeclared s naming ty a d → Fronts a
 declared_fronts s n (IsDeclared.of a u shapes h) = declarator_fronts s n h
 
 are_declared_fronts : (s : TypeNames) {ty : TypeNode} {a : List Lexeme} {ds : List Declaration} → AreDeclared s ty a ds → Fronts a
@@ -77,7 +77,7 @@ comma_ends kind e = mark_ends kind p.Comma e (record { no_star = refl; no_paren 
 pub semicolon_ends : (kind : TokenKind) → kind ≡ k.Mark p.Semicolon → EndsKind kind
 semicolon_ends kind e = mark_ends kind p.Semicolon e (record { no_star = refl; no_paren = refl; no_bracket = refl; no_name = refl; stops = refl })
 
-pub declared_read : (s : TypeNames) {naming : Naming} {ty : TypeNode} {a : List Lexeme} {d : Declaration} → IsDeclared s naming ty a d → (n : ℕ) (r : List Lexeme) → length (a ++ r) < n → EndsKind (kind_at r) → declaration s n naming ty (a ++ r) ≡ Ok (d, r)
+pub declared_read : (s : TypeNames) {naming : NameRequirement} {ty : TypeNode} {a : List Lexeme} {d : Declaration} → IsDeclared s naming ty a d → (n : ℕ) (r : List Lexeme) → length (a ++ r) < n → EndsKind (kind_at r) → declaration s n naming ty (a ++ r) ≡ Ok (d, r)
 unfolding declaration
 declared_read s (IsDeclared.of a u shapes h) n r len ends = let g = read_declarator s h n r len ends in rw g refl
 

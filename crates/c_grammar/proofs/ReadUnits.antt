@@ -16,11 +16,11 @@ use Rattle.c_tree.specs.declared.declarations.FunctionEnd.TheVariants as f
 use Rattle.c_tree.specs.declared.declarations.External.{External}
 use Rattle.c_tree.specs.declared.declarations.External.TheVariants as x
 use Rattle.c_tree.specs.declared.declarations.TranslationUnit.{TranslationUnit}
-use Rattle.c_grammar.specs.declared.classes.Opening.TheVariants as o
+use Rattle.c_grammar.specs.declared.classes.StorageClass.TheVariants as o
 use Rattle.c_grammar.specs.declared.shapes.Shape.{Shape}
 use Rattle.c_grammar.specs.declared.shapes.DeclaredName.{DeclaredName}
-use Rattle.c_grammar.specs.declared.shapes.Naming.TheVariants as nm
-use Rattle.c_grammar.specs.Classes.{specifier_of, opening_of, begins_type_by}
+use Rattle.c_grammar.specs.declared.shapes.NameRequirement.TheVariants as nm
+use Rattle.c_grammar.specs.Classes.{specifier_of, storage_class_of, begins_type_by}
 use Rattle.c_grammar.specs.Levels.{binding_level}
 use Rattle.c_grammar.specs.Tokens.{TypeNames, is_mark, kind_at, is_type_at, begins_type}
 use Rattle.c_grammar.specs.Grammar.{IsExpr}
@@ -48,14 +48,14 @@ abbrev ReadsInits : TypeNames → List Lexeme → List Init → Type 0
 ReadsInits s a vs = (n j : ℕ) (found : List Init) (r : Lexeme) (u : List Lexeme) → r.kind ≡ k.Mark p.RightBrace → length (a ++ r ∷ u) ≤ n → length (a ++ r ∷ u) ≤ j → braced_list_from (init s n) j found (a ++ r ∷ u) ≡ Ok (found ++ vs, r ∷ u)
 
 -- an initialiser takes a token, and does not begin with the brace that closes
-abbrev Opened : List Lexeme → Type 0
-Opened a = (0 < length a) × ((r : List Lexeme) → is_mark p.RightBrace (kind_at (a ++ r)) ≡ false)
+abbrev OpensNoBrace : List Lexeme → Type 0
+OpensNoBrace a = (0 < length a) × ((r : List Lexeme) → is_mark p.RightBrace (kind_at (a ++ r)) ≡ false)
 
-init_opened : (s : TypeNames) {a : List Lexeme} {v : Init} → IsInit s a v → Opened a
+init_opened : (s : TypeNames) {a : List Lexeme} {v : Init} → IsInit s a v → OpensNoBrace a
 init_opened s (IsInit.value a v h) = let b = first s h in (b.0, λ r. begins_no_mark s (a ++ r) p.RightBrace refl (b.1 r))
 init_opened s (IsInit.list l a r vs lk h rk) = (omega arith, λ u. ap (is_mark p.RightBrace) lk)
 
-inits_opened : (s : TypeNames) {a : List Lexeme} {vs : List Init} → AreInits s a vs → Opened a
+inits_opened : (s : TypeNames) {a : List Lexeme} {vs : List Init} → AreInits s a vs → OpensNoBrace a
 inits_opened s (AreInits.one a v h) = init_opened s h
 inits_opened s (AreInits.last a t v h kind) = let b = init_opened s h in (omega (arith, length-append a (t ∷ []), b.0), λ r. ap (λ z. is_mark p.RightBrace (kind_at z)) (append_assoc a (t ∷ []) r) ∙ b.1 (t ∷ r))
 inits_opened s (AreInits.more a t b v vs h kind g) = let c = init_opened s h in (omega (arith, length-append a (t ∷ b), c.0), λ r. ap (λ z. is_mark p.RightBrace (kind_at z)) (append_assoc a (t ∷ b) r) ∙ c.1 (t ∷ b ++ r))
@@ -80,17 +80,17 @@ module _ (s : TypeNames) where
       let d = expect_at r u p.RightBrace rk in
       rw (lb, q, e, d) refl
 
-  one_init : (a : List Lexeme) (v : Init) → Opened a → ReadsInit s a v → ReadsInits s a (v ∷ [])
+  one_init : (a : List Lexeme) (v : Init) → OpensNoBrace a → ReadsInit s a v → ReadsInits s a (v ∷ [])
   one_init a v b h n j found r u rk len le = let o = b.0 in braced_last (init s n) j found (a ++ r ∷ u) (r ∷ u) v (omega (arith, length-append a (r ∷ u))) (h n (r ∷ u) len (weak r u p.RightBrace 2 rk (omega arith))) (ap (is_mark p.Comma) rk)
 
-  last_init : (a : List Lexeme) (t : Lexeme) (v : Init) → Opened a → ReadsInit s a v → t.kind ≡ k.Mark p.Comma → ReadsInits s (a ++ t ∷ []) (v ∷ [])
+  last_init : (a : List Lexeme) (t : Lexeme) (v : Init) → OpensNoBrace a → ReadsInit s a v → t.kind ≡ k.Mark p.Comma → ReadsInits s (a ++ t ∷ []) (v ∷ [])
   last_init a t v b h kind n j found r u rk len le =
       let q = append_assoc a (t ∷ []) (r ∷ u) in
       let all : length (a ++ (t ∷ r ∷ u)) ≤ n = subst (λ z. length z ≤ n) q len in
       let e = h n (t ∷ r ∷ u) all (weak t (r ∷ u) p.Comma 2 kind (omega arith)) in
       ap (braced_list_from (init s n) j found) q ∙ braced_comma (init s n) j found (a ++ (t ∷ r ∷ u)) t (r ∷ u) v (omega (arith, length-append (a ++ t ∷ []) (r ∷ u))) e kind (is_mark_of p.RightBrace r.kind rk)
 
-  more_inits : (a : List Lexeme) (t : Lexeme) (b : List Lexeme) (v : Init) (vs : List Init) → Opened a → ReadsInit s a v → t.kind ≡ k.Mark p.Comma → Opened b → ReadsInits s b vs → ReadsInits s (a ++ t ∷ b) (v ∷ vs)
+  more_inits : (a : List Lexeme) (t : Lexeme) (b : List Lexeme) (v : Init) (vs : List Init) → OpensNoBrace a → ReadsInit s a v → t.kind ≡ k.Mark p.Comma → OpensNoBrace b → ReadsInits s b vs → ReadsInits s (a ++ t ∷ b) (v ∷ vs)
   more_inits a t b v vs c h kind d g n zero found r u rk len le = absurd (omega (arith, length-append (a ++ t ∷ b) (r ∷ u)))
   more_inits a t b v vs c h kind d g n (suc j) found r u rk len le =
       let q = append_assoc a (t ∷ b) (r ∷ u) in
@@ -254,7 +254,7 @@ module _ (s : TypeNames) (storage : Option Storage) where
 
 -- ---- external declarations
 
-other_opening : (kind : TokenKind) (listed : Bool) → begins_type_by (specifier_of kind) listed ≡ true → opening_of kind ≡ o.Other
+other_opening : (kind : TokenKind) (listed : Bool) → begins_type_by (specifier_of kind) listed ≡ true → storage_class_of kind ≡ o.Other
 other_opening (k.Word w.Typedef) listed e = no_true e
 other_opening (k.Word w.Static) listed e = no_true e
 other_opening (k.Word w.Extern) listed e = no_true e
@@ -268,8 +268,8 @@ ReadsExternal s a vs z = (n : ℕ) (r : List Lexeme) → length (a ++ r) ≤ n �
 storage_read : (s : TypeNames) {a : List Lexeme} {storage : Option Storage} → IsStorage a storage → (n : ℕ) (ts : List Lexeme) → begins_type s ts ≡ true → external s n (a ++ ts) ≡ behind_storage s n storage ts
 unfolding external
 storage_read s IsStorage.none n ts b = ap (λ c. external_at s n c ts) (other_opening (kind_at ts) (is_type_at s ts) b)
-storage_read s (IsStorage.static t kind) n ts b = ap (λ kd. external_at s n (opening_of kd) (t ∷ ts)) kind
-storage_read s (IsStorage.extern t kind) n ts b = ap (λ kd. external_at s n (opening_of kd) (t ∷ ts)) kind
+storage_read s (IsStorage.static t kind) n ts b = ap (λ kd. external_at s n (storage_class_of kd) (t ∷ ts)) kind
+storage_read s (IsStorage.extern t kind) n ts b = ap (λ kd. external_at s n (storage_class_of kd) (t ∷ ts)) kind
 
 external_read : {s : TypeNames} {a : List Lexeme} {vs : List External} {z : TypeNames} → IsExternal s a vs z → ReadsExternal s a vs z
 unfolding external typedefs
@@ -281,7 +281,7 @@ external_read (IsExternal.typedefs {s = s} t a b r ty vs z kind h g rk) n u len 
     let e = read_specifier s h n (b ++ r ∷ u) (omega arith) ((typedefs_fronts g).follows (r ∷ u)) in
     let c = typedefs_read g n (length (b ++ r ∷ u)) [] r u rk (omega arith) (omega arith) in
     let d = expect_at r u p.Semicolon rk in
-    ap (λ kd. external_at s n (opening_of kd) (t ∷ ((a ++ (b ++ r ∷ [])) ++ u))) kind ∙ rw (q, e, c, d) refl
+    ap (λ kd. external_at s n (storage_class_of kd) (t ∷ ((a ++ (b ++ r ∷ [])) ++ u))) kind ∙ rw (q, e, c, d) refl
 external_read (IsExternal.tags {s = s} a b r storage ty h g rk) n u len =
     let q : (a ++ (b ++ r ∷ [])) ++ u ≡ a ++ (b ++ r ∷ u) = append_assoc a (b ++ r ∷ []) u ∙ ap (λ z. a ++ z) (append_assoc b (r ∷ []) u) in
     let all : length (a ++ (b ++ r ∷ u)) ≤ n = subst (λ z. length z ≤ n) q len in

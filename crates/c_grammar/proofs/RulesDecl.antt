@@ -10,8 +10,8 @@ use Rattle.c_tree.specs.declared.types.TypeName.{TypeName}
 use Rattle.c_tree.specs.declared.types.Parameter.{Parameter}
 use Rattle.c_grammar.specs.declared.shapes.Shape.TheVariants as sh
 use Rattle.c_grammar.specs.declared.shapes.Declarator.{Declarator}
-use Rattle.c_grammar.specs.declared.shapes.Naming.{Naming}
-use Rattle.c_grammar.specs.declared.shapes.Naming.TheVariants as nm
+use Rattle.c_grammar.specs.declared.shapes.NameRequirement.{NameRequirement}
+use Rattle.c_grammar.specs.declared.shapes.NameRequirement.TheVariants as nm
 use Rattle.c_grammar.specs.Tokens.{TypeNames, is_type, token_place, is_mark, is_name_token, kind_at, token_tail}
 use Rattle.c_grammar.specs.Types.{takes_name, may_be_nameless, nameless, with_shape, with_shapes, parameter_of, without_void}
 use Rattle.c_grammar.specs.Grammar.{AreConsts, IsPlain}
@@ -30,15 +30,15 @@ pub record Opens (r : List Lexeme) : Type 0 where
   pub no_name : is_name_token (kind_at r) ≡ false
   pub no_group : is_mark p.LeftParen (kind_at r) ≡ true → is_mark p.Star (kind_at (token_tail r)) ≡ false
 
-pub record ReachedD (s : TypeNames) (n : ℕ) (naming : Naming) (ts r : List Lexeme) (d : Declarator) : Type 0 where
+pub record ReachedD (s : TypeNames) (n : ℕ) (naming : NameRequirement) (ts r : List Lexeme) (d : Declarator) : Type 0 where
   pub turns : ℕ
   pub enough : length r ≤ turns
   pub gives : declarator s (suc n) naming ts ≡ suffixes s (expr s n) (declarator s n) turns d r
 
-abbrev pub ReachesD : TypeNames → Naming → List Lexeme → Declarator → Type 0
+abbrev pub ReachesD : TypeNames → NameRequirement → List Lexeme → Declarator → Type 0
 ReachesD s naming a d = (n : ℕ) (r : List Lexeme) → length (a ++ r) ≤ n → Opens r → ReachedD s n naming (a ++ r) r d
 
-abbrev pub ReadsD : TypeNames → Naming → List Lexeme → Declarator → Type 0
+abbrev pub ReadsD : TypeNames → NameRequirement → List Lexeme → Declarator → Type 0
 ReadsD s naming a d = (n : ℕ) (r : List Lexeme) → length (a ++ r) < n → EndsKind (kind_at r) → declarator s n naming (a ++ r) ≡ Ok (d, r)
 
 abbrev pub ReadsP : TypeNames → List Lexeme → Parameter → Type 0
@@ -75,11 +75,11 @@ module _ (s : TypeNames) where
   suffixes_end n zero d r h = refl
   suffixes_end n (suc j) d r h = rw (h.no_bracket, h.no_paren) refl
 
-  pub reads_d : (naming : Naming) (a : List Lexeme) (d : Declarator) → ReachesD s naming a d → ReadsD s naming a d
+  pub reads_d : (naming : NameRequirement) (a : List Lexeme) (d : Declarator) → ReachesD s naming a d → ReadsD s naming a d
   reads_d naming a d h zero r len ends = absurd (omega arith)
   reads_d naming a d h (suc n) r len ends = let g = h n r (omega arith) (ends_open r ends) in g.gives ∙ suffixes_end n g.turns d r ends
 
-  pub star_rule : (naming : Naming) (t : Lexeme) (a b : List Lexeme) (d : Declarator) → t.kind ≡ k.Mark p.Star → AreConsts a → ((r : List Lexeme) → Stops r → Stops (b ++ r)) → ReadsD s naming b d
+  pub star_rule : (naming : NameRequirement) (t : Lexeme) (a b : List Lexeme) (d : Declarator) → t.kind ≡ k.Mark p.Star → AreConsts a → ((r : List Lexeme) → Stops r → Stops (b ++ r)) → ReadsD s naming b d
       → ReadsD s naming (t ∷ a ++ b) (with_shape d sh.Pointer)
   unfolding declarator pointer_declarator
   star_rule naming t a b d kind c stops h zero r len ends = absurd (omega arith)
@@ -91,7 +91,7 @@ module _ (s : TypeNames) where
       let g = h n r (omega (arith, length-append a (b ++ r))) ends in
       rw (star, q, o, g) refl
 
-  pub named_rule : (naming : Naming) (t : Lexeme) → t.kind ≡ k.Name → takes_name naming (is_type s t) ≡ true → ReachesD s naming (t ∷ []) (record { name = Some (record { at = t.at; name = t.spelling }); shapes = [] })
+  pub named_rule : (naming : NameRequirement) (t : Lexeme) → t.kind ≡ k.Name → takes_name naming (is_type s t) ≡ true → ReachesD s naming (t ∷ []) (record { name = Some (record { at = t.at; name = t.spelling }); shapes = [] })
   unfolding declarator core
   named_rule naming t kind takes n r len opens = record {
     turns = length r;
@@ -102,11 +102,11 @@ module _ (s : TypeNames) where
         rw (no, yes, takes) refl;
   }
 
-  nameless_core : (n : ℕ) (naming : Naming) (r : List Lexeme) → may_be_nameless naming ≡ true → Opens r → core s (expr s n) (declarator s n) naming r ≡ Ok (nameless, r)
+  nameless_core : (n : ℕ) (naming : NameRequirement) (r : List Lexeme) → may_be_nameless naming ≡ true → Opens r → core s (expr s n) (declarator s n) naming r ≡ Ok (nameless, r)
   unfolding core
   nameless_core n naming r may opens = rw opens.no_name (both_ways (is_mark p.LeftParen (kind_at r)) _ _ (Ok (nameless, r)) (λ yes. rw (opens.no_group yes, may) refl) (λ no. rw may refl))
 
-  pub unnamed_rule : (naming : Naming) → may_be_nameless naming ≡ true → ReachesD s naming [] nameless
+  pub unnamed_rule : (naming : NameRequirement) → may_be_nameless naming ≡ true → ReachesD s naming [] nameless
   unfolding declarator
   unnamed_rule naming may n r len opens = record {
     turns = length r;
@@ -117,11 +117,11 @@ module _ (s : TypeNames) where
   }
 
   -- what is read behind a star
-  starred_read : (naming : Naming) (n : ℕ) (t : Lexeme) (ts r : List Lexeme) (d : Declarator) → t.kind ≡ k.Mark p.Star → declarator s (suc n) naming (t ∷ ts) ≡ Ok (d, r) → pointer_declarator s (expr s n) (declarator s n) naming ts ≡ Ok (d, r)
+  starred_read : (naming : NameRequirement) (n : ℕ) (t : Lexeme) (ts r : List Lexeme) (d : Declarator) → t.kind ≡ k.Mark p.Star → declarator s (suc n) naming (t ∷ ts) ≡ Ok (d, r) → pointer_declarator s (expr s n) (declarator s n) naming ts ≡ Ok (d, r)
   unfolding declarator
   starred_read naming n t ts r d e g = sym (ap (λ b. cond b (pointer_declarator s (expr s n) (declarator s n) naming ts) (and_then (core s (expr s n) (declarator s n) naming (t ∷ ts)) (λ d r. suffixes s (expr s n) (declarator s n) (length r) d r))) (is_mark_of p.Star t.kind e)) ∙ g
 
-  pub group_rule : (naming : Naming) (l t : Lexeme) (a : List Lexeme) (r : Lexeme) (d : Declarator) → l.kind ≡ k.Mark p.LeftParen → t.kind ≡ k.Mark p.Star → ReadsD s naming (t ∷ a) d → r.kind ≡ k.Mark p.RightParen
+  pub group_rule : (naming : NameRequirement) (l t : Lexeme) (a : List Lexeme) (r : Lexeme) (d : Declarator) → l.kind ≡ k.Mark p.LeftParen → t.kind ≡ k.Mark p.Star → ReadsD s naming (t ∷ a) d → r.kind ≡ k.Mark p.RightParen
       → ReachesD s naming (l ∷ t ∷ a ++ r ∷ []) d
   unfolding declarator core group_behind
   group_rule naming l t a r d lk tk h rk n u len opens = record {
@@ -139,7 +139,7 @@ module _ (s : TypeNames) where
   }
 
   -- one suffix more
-  suffix_rule : (naming : Naming) (a b : List Lexeme) (l : Lexeme) (d v : Declarator) → ReachesD s naming a d → ((r : List Lexeme) → Opens (l ∷ b ++ r))
+  suffix_rule : (naming : NameRequirement) (a b : List Lexeme) (l : Lexeme) (d v : Declarator) → ReachesD s naming a d → ((r : List Lexeme) → Opens (l ∷ b ++ r))
       → ((n j : ℕ) (r : List Lexeme) → length (l ∷ b ++ r) ≤ n → length (l ∷ b ++ r) ≤ suc j → suffixes s (expr s n) (declarator s n) (suc j) d (l ∷ b ++ r) ≡ suffixes s (expr s n) (declarator s n) j v r)
       → ReachesD s naming (a ++ l ∷ b) v
   suffix_rule naming a b l d v h opens turn n r len next =
@@ -148,14 +148,14 @@ module _ (s : TypeNames) where
       let g = h n (l ∷ b ++ r) all (opens r) in
       suffix_step naming a b l d v n r g.turns g.enough (omega (arith, length-append a (l ∷ b ++ r))) (ap (declarator s (suc n) naming) q ∙ g.gives) (turn n)
     where
-      suffix_step : (naming : Naming) (a b : List Lexeme) (l : Lexeme) (d v : Declarator) (n : ℕ) (r : List Lexeme) (turns : ℕ) → length (l ∷ b ++ r) ≤ turns → length (l ∷ b ++ r) ≤ n
+      suffix_step : (naming : NameRequirement) (a b : List Lexeme) (l : Lexeme) (d v : Declarator) (n : ℕ) (r : List Lexeme) (turns : ℕ) → length (l ∷ b ++ r) ≤ turns → length (l ∷ b ++ r) ≤ n
           → declarator s (suc n) naming ((a ++ l ∷ b) ++ r) ≡ suffixes s (expr s n) (declarator s n) turns d (l ∷ b ++ r)
           → ((j : ℕ) (r : List Lexeme) → length (l ∷ b ++ r) ≤ n → length (l ∷ b ++ r) ≤ suc j → suffixes s (expr s n) (declarator s n) (suc j) d (l ∷ b ++ r) ≡ suffixes s (expr s n) (declarator s n) j v r)
           → ReachedD s n naming ((a ++ l ∷ b) ++ r) r v
       suffix_step naming a b l d v n r zero le len e turn = absurd (omega arith)
       suffix_step naming a b l d v n r (suc j) le len e turn = record { turns = j; enough = omega (arith, length-append b r); gives = e ∙ turn j r len le }
 
-  pub open_array_rule : (naming : Naming) (a : List Lexeme) (l r : Lexeme) (d : Declarator) → ReachesD s naming a d → l.kind ≡ k.Mark p.LeftBracket → r.kind ≡ k.Mark p.RightBracket
+  pub open_array_rule : (naming : NameRequirement) (a : List Lexeme) (l r : Lexeme) (d : Declarator) → ReachesD s naming a d → l.kind ≡ k.Mark p.LeftBracket → r.kind ≡ k.Mark p.RightBracket
       → ReachesD s naming (a ++ l ∷ r ∷ []) (with_shape d (sh.Array None))
   unfolding suffixes length_behind
   open_array_rule naming a l r d h lk rk = suffix_rule naming a (r ∷ []) l d (with_shape d (sh.Array None)) h (λ u. bracket_opens l (r ∷ u) lk) (λ n j u len le.
@@ -163,7 +163,7 @@ module _ (s : TypeNames) where
       let rb = is_mark_of p.RightBracket r.kind rk in
       rw (lb, rb) refl)
 
-  pub array_rule : (naming : Naming) (a : List Lexeme) (l : Lexeme) (b : List Lexeme) (r : Lexeme) (d : Declarator) (x : Expr) → ReachesD s naming a d → l.kind ≡ k.Mark p.LeftBracket → Begins s b → Reads s 4 b x → r.kind ≡ k.Mark p.RightBracket
+  pub array_rule : (naming : NameRequirement) (a : List Lexeme) (l : Lexeme) (b : List Lexeme) (r : Lexeme) (d : Declarator) (x : Expr) → ReachesD s naming a d → l.kind ≡ k.Mark p.LeftBracket → Begins s b → Reads s 4 b x → r.kind ≡ k.Mark p.RightBracket
       → ReachesD s naming (a ++ (l ∷ b ++ r ∷ [])) (with_shape d (sh.Array (Some x)))
   unfolding suffixes length_behind
   array_rule naming a l b r d x h lk f g rk = suffix_rule naming a (b ++ r ∷ []) l d (with_shape d (sh.Array (Some x))) h (λ u. bracket_opens l ((b ++ r ∷ []) ++ u) lk) (λ n j u len le.
@@ -175,7 +175,7 @@ module _ (s : TypeNames) where
       let c = expect_at r u p.RightBracket rk in
       rw (lb, q, nb, o, c) refl)
 
-  pub takes_rule : (naming : Naming) (a : List Lexeme) (l : Lexeme) (b : List Lexeme) (r : Lexeme) (d : Declarator) (xs : List Parameter) → ReachesD s naming a d → l.kind ≡ k.Mark p.LeftParen → ReadsParameters s b xs → r.kind ≡ k.Mark p.RightParen
+  pub takes_rule : (naming : NameRequirement) (a : List Lexeme) (l : Lexeme) (b : List Lexeme) (r : Lexeme) (d : Declarator) (xs : List Parameter) → ReachesD s naming a d → l.kind ≡ k.Mark p.LeftParen → ReadsParameters s b xs → r.kind ≡ k.Mark p.RightParen
       → ReachesD s naming (a ++ (l ∷ b ++ r ∷ [])) (with_shape d (sh.Takes (without_void xs)))
   unfolding suffixes
   takes_rule naming a l b r d xs h lk g rk = suffix_rule naming a (b ++ r ∷ []) l d (with_shape d (sh.Takes (without_void xs))) h (λ u. paren_opens l ((b ++ r ∷ []) ++ u) lk (ap (λ z. is_mark p.Star (kind_at z)) (append_assoc b (r ∷ []) u) ∙ g.no_star r u rk)) (λ n j u len le.

@@ -14,15 +14,15 @@ use Rattle.c_grammar.specs.declared.classes.Infix.TheVariants as i
 use Rattle.c_grammar.specs.declared.classes.Prefix.TheVariants as f
 use Rattle.c_grammar.specs.declared.shapes.Shape.TheVariants as sh
 use Rattle.c_grammar.specs.declared.shapes.Declarator.{Declarator}
-use Rattle.c_grammar.specs.declared.shapes.Naming.{Naming}
-use Rattle.c_grammar.specs.declared.shapes.Naming.TheVariants as nm
+use Rattle.c_grammar.specs.declared.shapes.NameRequirement.{NameRequirement}
+use Rattle.c_grammar.specs.declared.shapes.NameRequirement.TheVariants as nm
 use Rattle.c_grammar.specs.Classes.{infix_of, prefix_of}
 use Rattle.c_grammar.specs.Levels.{level_of, binding_level, operand_level, result_level}
 use Rattle.c_grammar.specs.Tokens.{TypeNames, is_type, token_place, is_mark, is_name_token, is_text, begins_type}
 use Rattle.c_grammar.specs.Types.{takes_name, may_be_nameless, nameless, with_shape, with_shapes, parameter_of, without_void, comma_of}
 use Rattle.c_grammar.specs.Grammar.{AreConsts, IsPlain, AreTexts, IsExpr, IsWhole, AreAssignments, AreArguments, IsTypeName, IsDeclarator, AreParameters, AreSomeParameters, IsParameter}
 use Rattle.c_grammar.specs.Parser.{Parser, and_then, pure, consts}
-use Rattle.c_grammar.specs.ParseExpr.{plain, texts_from, list_from, whole, type_name, parameter, arguments_behind, parameters_behind, behind_name, cast_behind, brackets_behind, bracket_operand, sizeof_type_name, sizeof_unary, sizeof_behind, operand_by, operand, member_name, step_by, climb, tight, length_behind, suffixes, group_behind, core_bracket, core, pointer_declarator, shaping, expr, declarator}
+use Rattle.c_grammar.specs.ParseExpr.{plain, texts_from, list_from, whole, type_name, parameter, arguments_behind, parameters_behind, behind_name, cast_behind, brackets_behind, bracket_operand, sizeof_type_name, sizeof_unary, sizeof_behind, operand_by, operand, member_name, step_by, climb, tight, length_behind, suffixes, group_behind, core_bracket, core, pointer_declarator, shaped_declarator, expr, declarator}
 use Rattle.std.specs.Prelude.{◌≢◌}
 use Rattle.std.proofs.lemmas.Bool.{ltb-true, ltb-false}
 use Rattle.c_grammar.proofs.Outcomes.{no_true, mark_is, name_is, text_is}
@@ -35,31 +35,31 @@ use Rattle.c_grammar.proofs.Instances.{number, some_number, whole_number, some_d
 use Rattle.c_grammar.proofs.SoundPlain.{plain_says}
 
 -- the levels that are asked for
-pub record Wanted (m : ℕ) : Type 0 where
+pub record IsWantedLevel (m : ℕ) : Type 0 where
   pub two : 2 ≤ m
   pub cap : m ≤ 17
   pub three : m ≢ 3
   pub five : m ≢ 5
 
 abbrev pub SoundE : TypeNames → (ℕ → Parser Expr) → Type 0
-SoundE s rec = (m : ℕ) (ts : List Lexeme) → Wanted m → Says (rec m ts) ts (λ a x. IsExpr s m a x)
+SoundE s rec = (m : ℕ) (ts : List Lexeme) → IsWantedLevel m → Says (rec m ts) ts (λ a x. IsExpr s m a x)
 
-abbrev pub SoundD : TypeNames → (Naming → Parser Declarator) → Type 0
-SoundD s dec = (naming : Naming) (ts : List Lexeme) → Says (dec naming ts) ts (λ a d. IsDeclarator s naming 0 a d)
+abbrev pub SoundD : TypeNames → (NameRequirement → Parser Declarator) → Type 0
+SoundD s dec = (naming : NameRequirement) (ts : List Lexeme) → Says (dec naming ts) ts (λ a d. IsDeclarator s naming 0 a d)
 
-pub two_wanted : Wanted 2
+pub two_wanted : IsWantedLevel 2
 two_wanted = record { two = omega arith; cap = omega arith; three = omega arith; five = omega arith }
 
-pub four_wanted : Wanted 4
+pub four_wanted : IsWantedLevel 4
 four_wanted = record { two = omega arith; cap = omega arith; three = omega arith; five = omega arith }
 
-sixteen_wanted : Wanted 16
+sixteen_wanted : IsWantedLevel 16
 sixteen_wanted = record { two = omega arith; cap = omega arith; three = omega arith; five = omega arith }
 
-seventeen_wanted : Wanted 17
+seventeen_wanted : IsWantedLevel 17
 seventeen_wanted = record { two = omega arith; cap = omega arith; three = omega arith; five = omega arith }
 
-above_wanted : (op : BinaryOp) → Wanted (suc (level_of op))
+above_wanted : (op : BinaryOp) → IsWantedLevel (suc (level_of op))
 above_wanted op = let l = levels op in record { two = omega arith; cap = omega arith; three = omega arith; five = omega arith }
 
 -- an operand of the level that comes with it
@@ -109,7 +109,7 @@ choose_is (k.Mark p.Question) e = refl
 choose_is (k.Mark _) e = no_true (ap is_choose e)
 choose_is _ e = no_true (ap is_choose e)
 
-makes_above : (class : Infix) (least : ℕ) → Wanted least → least ≤ binding_level class → least ≤ result_level class
+makes_above : (class : Infix) (least : ℕ) → IsWantedLevel least → least ≤ binding_level class → least ≤ result_level class
 makes_above i.Comma least w le = le
 makes_above (i.Assign op) least w le = let a = w.three in omega arith
 makes_above i.Conditional least w le = let a = w.five in omega arith
@@ -187,7 +187,7 @@ module _ (s : TypeNames) where
   level_cap (IsExpr.conditional a t b r c x v z low h tk g rk o) = omega arith
   level_cap (IsExpr.assignment a t b op x z low h kind g) = omega arith
 
-  loosen : {naming : Naming} {m : ℕ} {a : List Lexeme} {d : Declarator} → IsDeclarator s naming m a d → IsDeclarator s naming 0 a d
+  loosen : {naming : NameRequirement} {m : ℕ} {a : List Lexeme} {d : Declarator} → IsDeclarator s naming m a d → IsDeclarator s naming 0 a d
   loosen (IsDeclarator.star t a b d low kind c h) = IsDeclarator.star t a b d (omega arith) kind c h
   loosen (IsDeclarator.own_name t kind takes) = IsDeclarator.own_name t kind takes
   loosen (IsDeclarator.no_name may) = IsDeclarator.no_name may
@@ -196,7 +196,7 @@ module _ (s : TypeNames) where
   loosen (IsDeclarator.array a l b r d x h lk g rk) = IsDeclarator.array a l b r d x h lk g rk
   loosen (IsDeclarator.function a l b r d xs h lk g rk) = IsDeclarator.function a l b r d xs h lk g rk
 
-  module _ (rec : ℕ → Parser Expr) (dec : Naming → Parser Declarator) (sound : SoundE s rec) (sound_d : SoundD s dec) where
+  module _ (rec : ℕ → Parser Expr) (dec : NameRequirement → Parser Declarator) (sound : SoundE s rec) (sound_d : SoundD s dec) where
     list_of : (j : ℕ) (ts : List Lexeme) → Says (list_from (rec 2) j [] ts) ts (λ a xs. AreAssignments s a xs)
     list_of j ts = weaker (list_from (rec 2) j [] ts) ts _ _ (λ a ys q. subst (λ z. AreAssignments s a z) (sym q.1) q.2)
         (list_says (rec 2) (λ a x. IsExpr s 2 a x) (λ a xs. AreAssignments s a xs) (λ ts. sound 2 ts two_wanted) (λ a x h. AreAssignments.one a x h) (λ a t b x xs h kind g. AreAssignments.more a t b x xs h kind g) j [] ts)
@@ -360,7 +360,7 @@ module _ (s : TypeNames) where
     step_says i.Tight t level done x ts kind two le h = absurd (let cap = level_cap h in omega arith)
     step_says i.Nothing t level done x ts kind two le h = absurd (let cap = level_cap h in omega arith)
 
-    climb_says : (least j level : ℕ) (x : Expr) (done ts : List Lexeme) → Wanted least → least ≤ level → IsExpr s level done x → Says (climb s rec dec (token_place done) least j level x ts) ts (λ a z. IsExpr s least (done ++ a) z)
+    climb_says : (least j level : ℕ) (x : Expr) (done ts : List Lexeme) → IsWantedLevel least → least ≤ level → IsExpr s level done x → Says (climb s rec dec (token_place done) least j level x ts) ts (λ a z. IsExpr s least (done ++ a) z)
     unfolding climb
     climb_says least zero level x done ts w' low h = done_says x done ts (λ a z. IsExpr s least a z) (weaken h least low)
     climb_says least (suc j) level x done [] w' low h = if_says (ltb 0 least) _ _ [] _ (λ yes. done_says x done [] (λ a z. IsExpr s least a z) (weaken h least low))
@@ -374,7 +374,7 @@ module _ (s : TypeNames) where
         let P : ℕ → Type 0 = λ at. Says (climb s rec dec at least j (result_level (infix_of t.kind)) z r) r (λ a z. IsExpr s least (done ++ t ∷ (b ++ a)) z) in
         subst P (place-append done (t ∷ b) (first s h).0) (weaker _ r _ _ (λ a z q. subst (λ c. IsExpr s least c z) (append_assoc done (t ∷ b) a) q) o)))))
 
-    tight_says : (m : ℕ) (ts : List Lexeme) → Wanted m → Says (tight s rec dec m ts) ts (λ a x. IsExpr s m a x)
+    tight_says : (m : ℕ) (ts : List Lexeme) → IsWantedLevel m → Says (tight s rec dec m ts) ts (λ a x. IsExpr s m a x)
     unfolding operand
     tight_says m [] w' = let c = w'.cap in refused_says [] _ (number ∷ [], e.Number 0 [], some_number s m (omega arith))
     tight_says m (t ∷ ts) w' = bind_says_at (operand_by s rec dec m (prefix_of t.kind) (t ∷ ts)) _ (t ∷ ts) (IsOperand s m) _ (operand_says t.kind m t ts w'.cap refl) (λ a q r e h.
@@ -384,7 +384,7 @@ module _ (s : TypeNames) where
 
     -- ---- declarators
 
-    length_says : (naming : Naming) (l : Lexeme) (done : List Lexeme) (d : Declarator) (ts : List Lexeme) → l.kind ≡ k.Mark p.LeftBracket → IsDeclarator s naming 1 done d → Says (length_behind s rec dec d ts) ts (λ b z. IsDeclarator s naming 1 (done ++ l ∷ b) z)
+    length_says : (naming : NameRequirement) (l : Lexeme) (done : List Lexeme) (d : Declarator) (ts : List Lexeme) → l.kind ≡ k.Mark p.LeftBracket → IsDeclarator s naming 1 done d → Says (length_behind s rec dec d ts) ts (λ b z. IsDeclarator s naming 1 (done ++ l ∷ b) z)
     unfolding length_behind
     length_says naming l done d [] lk h = bind_says (rec 4 []) _ [] (λ a x. IsExpr s 4 a x) _ (sound 4 [] four_wanted) (λ a x u g. expect_says p.RightBracket _ u _ (λ r v rk.
         ok_says (with_shape d (sh.Array (Some x))) v _ (IsDeclarator.array done l a r d x h lk g rk)))
@@ -393,7 +393,7 @@ module _ (s : TypeNames) where
         (λ other. bind_says (rec 4 (t ∷ ts)) _ (t ∷ ts) (λ a x. IsExpr s 4 a x) _ (sound 4 (t ∷ ts) four_wanted) (λ a x u g. expect_says p.RightBracket _ u _ (λ r v rk.
         ok_says (with_shape d (sh.Array (Some x))) v _ (IsDeclarator.array done l a r d x h lk g rk))))
 
-    suffixes_says : (naming : Naming) (j : ℕ) (done : List Lexeme) (d : Declarator) (ts : List Lexeme) → IsDeclarator s naming 1 done d → Says (suffixes s rec dec j d ts) ts (λ b z. IsDeclarator s naming 1 (done ++ b) z)
+    suffixes_says : (naming : NameRequirement) (j : ℕ) (done : List Lexeme) (d : Declarator) (ts : List Lexeme) → IsDeclarator s naming 1 done d → Says (suffixes s rec dec j d ts) ts (λ b z. IsDeclarator s naming 1 (done ++ b) z)
     unfolding suffixes
     suffixes_says naming zero done d ts h = done_says d done ts (λ a z. IsDeclarator s naming 1 a z) h
     suffixes_says naming (suc j) done d [] h = done_says d done [] (λ a z. IsDeclarator s naming 1 a z) h
@@ -406,37 +406,37 @@ module _ (s : TypeNames) where
         subst P (sym q.2) (weaker _ u _ _ (λ c v o. subst (λ c. IsDeclarator s naming 1 c v) (append_assoc done (t ∷ q.0 ++ q.1 ∷ []) c) o) (suffixes_says naming j (done ++ (t ∷ q.0 ++ q.1 ∷ [])) (with_shape d (sh.Takes (without_void xs))) u (IsDeclarator.function done t q.0 q.1 d xs h (mark_is p.LeftParen t.kind yes) q.3 q.4))))))
         (λ none. done_says d done (t ∷ ts) (λ a z. IsDeclarator s naming 1 a z) h))
 
-    pointer_says : (naming : Naming) (t : Lexeme) (ts : List Lexeme) → t.kind ≡ k.Mark p.Star → Says (pointer_declarator s rec dec naming ts) ts (λ b d. IsDeclarator s naming 0 (t ∷ b) d)
+    pointer_says : (naming : NameRequirement) (t : Lexeme) (ts : List Lexeme) → t.kind ≡ k.Mark p.Star → Says (pointer_declarator s rec dec naming ts) ts (λ b d. IsDeclarator s naming 0 (t ∷ b) d)
     unfolding pointer_declarator
     pointer_says naming t ts kind = bind_says (consts (length ts) ts) _ ts (λ a q. AreConsts a) _ (consts_says (length ts) ts) (λ a q r c.
         bind_says (dec naming r) _ r (λ b d. IsDeclarator s naming 0 b d) _ (sound_d naming r) (λ b d u h.
         done_says (with_shape d sh.Pointer) b u (λ c z. IsDeclarator s naming 0 (t ∷ (a ++ c)) z) (IsDeclarator.star t a b d (omega arith) kind c h)))
 
-    group_says : (naming : Naming) (l t : Lexeme) (ts : List Lexeme) → l.kind ≡ k.Mark p.LeftParen → t.kind ≡ k.Mark p.Star → Says (group_behind s rec dec naming ts) ts (λ b d. IsDeclarator s naming 1 (l ∷ t ∷ b) d)
+    group_says : (naming : NameRequirement) (l t : Lexeme) (ts : List Lexeme) → l.kind ≡ k.Mark p.LeftParen → t.kind ≡ k.Mark p.Star → Says (group_behind s rec dec naming ts) ts (λ b d. IsDeclarator s naming 1 (l ∷ t ∷ b) d)
     unfolding group_behind
     group_says naming l t ts lk tk = bind_says (pointer_declarator s rec dec naming ts) _ ts (λ a d. IsDeclarator s naming 0 (t ∷ a) d) _ (pointer_says naming t ts tk) (λ a d u h. expect_says p.RightParen _ u _ (λ r v rk.
         ok_says d v _ (IsDeclarator.group l t a r d lk tk h rk)))
 
-    nameless_says : (naming : Naming) (r ts : List Lexeme) → Viable r ts (λ a d. IsDeclarator s naming 1 a d) → Says (cond (may_be_nameless naming) (Ok (nameless, ts)) (Err r)) ts (λ a d. IsDeclarator s naming 1 a d)
+    nameless_says : (naming : NameRequirement) (r ts : List Lexeme) → Viable r ts (λ a d. IsDeclarator s naming 1 a d) → Says (cond (may_be_nameless naming) (Ok (nameless, ts)) (Err r)) ts (λ a d. IsDeclarator s naming 1 a d)
     nameless_says naming r ts v = if_says (may_be_nameless naming) (Ok (nameless, ts)) (Err r) ts _ (λ may. ok_says nameless ts _ (IsDeclarator.no_name may)) (λ not. err_says r ts _ v)
 
-    name_wanted : (naming : Naming) (ts : List Lexeme) → Viable ts ts (λ a d. IsDeclarator s naming 1 a d)
+    name_wanted : (naming : NameRequirement) (ts : List Lexeme) → Viable ts ts (λ a d. IsDeclarator s naming 1 a d)
     name_wanted naming ts = let v = some_declarator s naming 1 in ([], refl, v.0, v.1, v.2)
 
-    star_wanted : (naming : Naming) (l : Lexeme) (ts : List Lexeme) → l.kind ≡ k.Mark p.LeftParen → Viable ts (l ∷ ts) (λ a d. IsDeclarator s naming 1 a d)
+    star_wanted : (naming : NameRequirement) (l : Lexeme) (ts : List Lexeme) → l.kind ≡ k.Mark p.LeftParen → Viable ts (l ∷ ts) (λ a d. IsDeclarator s naming 1 a d)
     star_wanted naming l ts lk =
         let v = some_declarator s naming 0 in
         let star = lexeme_of (k.Mark p.Star) in
         let close = lexeme_of (k.Mark p.RightParen) in
         (l ∷ [], refl, star ∷ v.0 ++ close ∷ [], with_shape v.1 sh.Pointer, IsDeclarator.group l star v.0 close (with_shape v.1 sh.Pointer) lk refl (IsDeclarator.star star [] v.0 v.1 (omega arith) refl AreConsts.none v.2) refl)
 
-    bracket_says : (naming : Naming) (l : Lexeme) (ts : List Lexeme) → l.kind ≡ k.Mark p.LeftParen → Says (core_bracket s rec dec naming (l ∷ ts)) (l ∷ ts) (λ a d. IsDeclarator s naming 1 a d)
+    bracket_says : (naming : NameRequirement) (l : Lexeme) (ts : List Lexeme) → l.kind ≡ k.Mark p.LeftParen → Says (core_bracket s rec dec naming (l ∷ ts)) (l ∷ ts) (λ a d. IsDeclarator s naming 1 a d)
     bracket_says naming l [] lk = nameless_says naming [] (l ∷ []) (star_wanted naming l [] lk)
     bracket_says naming l (t ∷ ts) lk = if_says (is_mark p.Star t.kind) _ _ (l ∷ t ∷ ts) _
         (λ yes. token_says _ l (t ∷ ts) _ (token_says _ t ts _ (group_says naming l t ts lk (mark_is p.Star t.kind yes))))
         (λ other. nameless_says naming (t ∷ ts) (l ∷ t ∷ ts) (star_wanted naming l (t ∷ ts) lk))
 
-    core_says : (naming : Naming) (ts : List Lexeme) → Says (core s rec dec naming ts) ts (λ a d. IsDeclarator s naming 1 a d)
+    core_says : (naming : NameRequirement) (ts : List Lexeme) → Says (core s rec dec naming ts) ts (λ a d. IsDeclarator s naming 1 a d)
     unfolding core
     core_says naming [] = nameless_says naming [] [] (name_wanted naming [])
     core_says naming (t ∷ ts) = if_says (is_name_token t.kind) _ _ (t ∷ ts) _
@@ -445,10 +445,10 @@ module _ (s : TypeNames) where
         (λ other. nameless_says naming (t ∷ ts) (t ∷ ts) (name_wanted naming (t ∷ ts))))
         (λ other. if_says (is_mark p.LeftParen t.kind) _ _ (t ∷ ts) _ (λ yes. bracket_says naming t ts (mark_is p.LeftParen t.kind yes)) (λ none. nameless_says naming (t ∷ ts) (t ∷ ts) (name_wanted naming (t ∷ ts))))
 
-    core_suffixes : (naming : Naming) (ts : List Lexeme) → Says (and_then (core s rec dec naming ts) (λ d r. suffixes s rec dec (length r) d r)) ts (λ a d. IsDeclarator s naming 0 a d)
+    core_suffixes : (naming : NameRequirement) (ts : List Lexeme) → Says (and_then (core s rec dec naming ts) (λ d r. suffixes s rec dec (length r) d r)) ts (λ a d. IsDeclarator s naming 0 a d)
     core_suffixes naming ts = bind_says (core s rec dec naming ts) _ ts (λ a d. IsDeclarator s naming 1 a d) _ (core_says naming ts) (λ a d r h. weaker _ r _ _ (λ b z q. loosen q) (suffixes_says naming (length r) a d r h))
 
-    shaping_says : (naming : Naming) (ts : List Lexeme) → Says (shaping s rec dec naming ts) ts (λ a d. IsDeclarator s naming 0 a d)
+    shaping_says : (naming : NameRequirement) (ts : List Lexeme) → Says (shaped_declarator s rec dec naming ts) ts (λ a d. IsDeclarator s naming 0 a d)
     shaping_says naming [] = core_suffixes naming []
     shaping_says naming (t ∷ ts) = if_says (is_mark p.Star t.kind) _ _ (t ∷ ts) _ (λ yes. token_says _ t ts _ (pointer_says naming t ts (mark_is p.Star t.kind yes))) (λ other. core_suffixes naming (t ∷ ts))
 

@@ -12,8 +12,8 @@ use Rattle.c_grammar.specs.declared.classes.Specifier.{Specifier}
 use Rattle.c_grammar.specs.declared.classes.Specifier.TheVariants as c
 use Rattle.c_grammar.specs.declared.shapes.Shape.{Shape}
 use Rattle.c_grammar.specs.declared.shapes.DeclaredName.{DeclaredName}
-use Rattle.c_grammar.specs.declared.shapes.Naming.{Naming}
-use Rattle.c_grammar.specs.declared.shapes.Naming.TheVariants as nm
+use Rattle.c_grammar.specs.declared.shapes.NameRequirement.{NameRequirement}
+use Rattle.c_grammar.specs.declared.shapes.NameRequirement.TheVariants as nm
 use Rattle.c_grammar.specs.WordSets.{no_words}
 use Rattle.c_grammar.specs.Tokens.{TypeNames, is_type, is_mark, is_name_token, kind_at, token_tail}
 use Rattle.c_grammar.specs.Types.{may_be_nameless, declaration_of, without_body}
@@ -30,11 +30,11 @@ use Rattle.c_grammar.proofs.SoundExpr.{four_wanted, sound_expr, sound_declarator
 
 -- ---- declarators with their type
 
-by_name_says : (s : TypeNames) (naming : Naming) (ty : TypeNode) (a : List Lexeme) (o : Option DeclaredName) (shapes : List Shape) (r : List Lexeme) → may_be_nameless naming ≡ false → IsDeclarator s naming 0 a (record { name = o; shapes = shapes }) → Says (named_by ty o shapes r) r (λ b z. IsDeclared s naming ty (a ++ b) z)
+by_name_says : (s : TypeNames) (naming : NameRequirement) (ty : TypeNode) (a : List Lexeme) (o : Option DeclaredName) (shapes : List Shape) (r : List Lexeme) → may_be_nameless naming ≡ false → IsDeclarator s naming 0 a (record { name = o; shapes = shapes }) → Says (named_by ty o shapes r) r (λ b z. IsDeclared s naming ty (a ++ b) z)
 by_name_says s naming ty a (Some u) shapes r must h = done_says (declaration_of ty u shapes) a r (λ a z. IsDeclared s naming ty a z) (IsDeclared.of a u shapes h)
 by_name_says s naming ty a None shapes r must h = no_true (sym must ∙ nameless_may s h refl)
 
-pub declaration_says : (s : TypeNames) (n : ℕ) (naming : Naming) (ty : TypeNode) (ts : List Lexeme) → may_be_nameless naming ≡ false → Says (declaration s n naming ty ts) ts (λ a d. IsDeclared s naming ty a d)
+pub declaration_says : (s : TypeNames) (n : ℕ) (naming : NameRequirement) (ty : TypeNode) (ts : List Lexeme) → may_be_nameless naming ≡ false → Says (declaration s n naming ty ts) ts (λ a d. IsDeclared s naming ty a d)
 unfolding declaration
 declaration_says s n naming ty ts must = bind_says (declarator s n naming ts) _ ts (λ a d. IsDeclarator s naming 0 a d) _ (sound_declarator s n naming ts) (λ a d r h. by_name_says s naming ty a d.name d.shapes r must h)
 

@@ -15,7 +15,7 @@ use Rattle.c_tree.specs.declared.statements.LocalDeclarator.{LocalDeclarator}
 use Rattle.c_tree.specs.declared.statements.Section.{Section}
 use Rattle.c_tree.specs.declared.statements.Label.TheVariants as l
 use Rattle.c_tree.specs.declared.statements.ForFirst.TheVariants as f
-use Rattle.c_grammar.specs.declared.shapes.Naming.TheVariants as nm
+use Rattle.c_grammar.specs.declared.shapes.NameRequirement.TheVariants as nm
 use Rattle.c_grammar.specs.Classes.{head_of}
 use Rattle.c_grammar.specs.Tokens.{TypeNames, token_place, is_mark, is_keyword, kind_at, begins_type}
 use Rattle.c_grammar.specs.Grammar.{IsPlain, IsExpr, IsWhole}
@@ -207,8 +207,8 @@ module _ (s : TypeNames) (n : ℕ) (rec : Parser Stmt) (sound : SoundS s rec) wh
 
   -- ---- one by one
 
-  abbrev Made : List Lexeme → Stmt → List Lexeme → Type 0
-  Made a v r = IsStmt s (else_at r) a v
+  abbrev IsStmtBefore : List Lexeme → Stmt → List Lexeme → Type 0
+  IsStmtBefore a v r = IsStmt s (else_at r) a v
 
   -- the tokens of a condition and a statement
   group_tokens : (t l : Lexeme) (a : List Lexeme) (r : Lexeme) (b : List Lexeme) → t ∷ ((l ∷ a ++ r ∷ []) ++ b) ≡ (t ∷ l ∷ a) ++ (r ∷ b)
@@ -229,51 +229,51 @@ module _ (s : TypeNames) (n : ℕ) (rec : Parser Stmt) (sound : SoundS s rec) wh
   unfolding alternative
   alternative_says t a b v z [] kind h g = done_r (u.If v z None) b [] (λ c q y. IsStmt s (else_at y) (t ∷ (a ++ c)) q) (short_of t a b v z [] kind h g refl)
   alternative_says t a b v z (o ∷ r) kind h g = if_r (is_keyword w.Else o.kind) _ _ (o ∷ r) _
-      (λ yes. token_r _ o r _ (bind_r (rec r) _ r Made _ (sound r) (λ c q y j. done_r (u.If v z (Some q)) c y (λ c q y. IsStmt s (else_at y) (t ∷ (a ++ (b ++ (o ∷ c)))) q)
+      (λ yes. token_r _ o r _ (bind_r (rec r) _ r IsStmtBefore _ (sound r) (λ c q y j. done_r (u.If v z (Some q)) c y (λ c q y. IsStmt s (else_at y) (t ∷ (a ++ (b ++ (o ∷ c)))) q)
       (long_of t a b o c v z q y kind h (subst (λ x. IsStmt s x b z) (ap (λ b. cond b 1 0) yes) g) (word_is w.Else o.kind yes) j))))
       (λ other. done_r (u.If v z None) b (o ∷ r) (λ c q y. IsStmt s (else_at y) (t ∷ (a ++ c)) q) (short_of t a b v z (o ∷ r) kind h g other))
 
-  if_else_says : (t : Lexeme) (ts : List Lexeme) → t.kind ≡ k.Word w.If → SaysR (if_behind s n rec ts) ts (λ a v r. Made (t ∷ a) v r)
+  if_else_says : (t : Lexeme) (ts : List Lexeme) → t.kind ≡ k.Word w.If → SaysR (if_behind s n rec ts) ts (λ a v r. IsStmtBefore (t ∷ a) v r)
   unfolding if_behind
-  if_else_says t ts kind = then_r (controlling_expression s n ts) _ ts (InBrackets s n) _ (condition_says s n ts) (λ a v r h. bind_r (rec r) _ r Made _ (sound r) (λ b z y g. alternative_says t a b v z y kind h g))
+  if_else_says t ts kind = then_r (controlling_expression s n ts) _ ts (InBrackets s n) _ (condition_says s n ts) (λ a v r h. bind_r (rec r) _ r IsStmtBefore _ (sound r) (λ b z y g. alternative_says t a b v z y kind h g))
 
-  while_says : (t : Lexeme) (ts : List Lexeme) → t.kind ≡ k.Word w.While → SaysR (while_behind s n rec ts) ts (λ a v r. Made (t ∷ a) v r)
+  while_says : (t : Lexeme) (ts : List Lexeme) → t.kind ≡ k.Word w.While → SaysR (while_behind s n rec ts) ts (λ a v r. IsStmtBefore (t ∷ a) v r)
   unfolding while_behind
-  while_says t ts kind = then_r (controlling_expression s n ts) _ ts (InBrackets s n) _ (condition_says s n ts) (λ a v r h. bind_r (rec r) _ r Made _ (sound r) (λ b z y g.
-      done_r (u.While v z) b y (λ b q y. Made (t ∷ (a ++ b)) q y) (subst (λ c. IsStmt s (else_at y) c (u.While v z)) (sym (ap (λ c. t ∷ (c ++ b)) h.whole_is ∙ group_tokens t h.left h.inner h.right b)) (IsStmt.while t h.left h.inner h.right b v z kind h.open_is h.is h.close_is g))))
+  while_says t ts kind = then_r (controlling_expression s n ts) _ ts (InBrackets s n) _ (condition_says s n ts) (λ a v r h. bind_r (rec r) _ r IsStmtBefore _ (sound r) (λ b z y g.
+      done_r (u.While v z) b y (λ b q y. IsStmtBefore (t ∷ (a ++ b)) q y) (subst (λ c. IsStmt s (else_at y) c (u.While v z)) (sym (ap (λ c. t ∷ (c ++ b)) h.whole_is ∙ group_tokens t h.left h.inner h.right b)) (IsStmt.while t h.left h.inner h.right b v z kind h.open_is h.is h.close_is g))))
 
-  do_while_says : (t : Lexeme) (ts : List Lexeme) → t.kind ≡ k.Word w.Do → SaysR (do_behind s n rec ts) ts (λ a v r. Made (t ∷ a) v r)
+  do_while_says : (t : Lexeme) (ts : List Lexeme) → t.kind ≡ k.Word w.Do → SaysR (do_behind s n rec ts) ts (λ a v r. IsStmtBefore (t ∷ a) v r)
   unfolding do_behind
   do_while_says t ts kind = then_r (rec ts) _ ts (λ a v. IsStmt s 0 a v) _ (any_says ts) (λ a z r h. expect_word_r w.While _ r _ (λ o y ok. then_r (controlling_expression s n y) _ y (InBrackets s n) _ (condition_says s n y) (λ b v x g. expect_r p.Semicolon _ x _ (λ e i ek.
       ok_r (u.Do z v) i _ (subst (λ c. IsStmt s (else_at i) (t ∷ (a ++ (o ∷ (c ++ e ∷ [])))) (u.Do z v)) (sym g.whole_is) (subst (λ c. IsStmt s (else_at i) (t ∷ (a ++ (o ∷ g.left ∷ c))) (u.Do z v)) (sym (append_assoc g.inner (g.right ∷ []) (e ∷ []))) (IsStmt.do_while t a o g.left g.inner g.right e v z kind h ok g.open_is g.is g.close_is ek)))))))
 
-  for_says : (t : Lexeme) (ts : List Lexeme) → t.kind ≡ k.Word w.For → SaysR (for_behind s n rec ts) ts (λ a v r. Made (t ∷ a) v r)
+  for_says : (t : Lexeme) (ts : List Lexeme) → t.kind ≡ k.Word w.For → SaysR (for_behind s n rec ts) ts (λ a v r. IsStmtBefore (t ∷ a) v r)
   unfolding for_behind
   for_says t ts kind = expect_r p.LeftParen _ ts _ (λ l r1 lk. then_r (first_clause s n r1) _ r1 (λ a v. IsFirst s a v) _ (first_says s n r1) (λ a v r2 h. then_r (optional_expression s n p.Semicolon r2) _ r2 (λ a v. IsOptional s a v) _ (optional_says s n p.Semicolon r2) (λ b y r3 g.
-      expect_r p.Semicolon _ r3 _ (λ e r4 ek. then_r (optional_expression s n p.RightParen r4) _ r4 (λ a v. IsOptional s a v) _ (optional_says s n p.RightParen r4) (λ c z r5 o. expect_r p.RightParen _ r5 _ (λ r r6 rk. bind_r (rec r6) _ r6 Made _ (sound r6) (λ d q r7 j.
-      done_r (u.For v y z q) d r7 (λ d w' i. Made (t ∷ (l ∷ (a ++ (b ++ (e ∷ (c ++ (r ∷ d))))))) w' i) (IsStmt.for t l a b e c r d v y z q kind lk h g ek o rk j))))))))
+      expect_r p.Semicolon _ r3 _ (λ e r4 ek. then_r (optional_expression s n p.RightParen r4) _ r4 (λ a v. IsOptional s a v) _ (optional_says s n p.RightParen r4) (λ c z r5 o. expect_r p.RightParen _ r5 _ (λ r r6 rk. bind_r (rec r6) _ r6 IsStmtBefore _ (sound r6) (λ d q r7 j.
+      done_r (u.For v y z q) d r7 (λ d w' i. IsStmtBefore (t ∷ (l ∷ (a ++ (b ++ (e ∷ (c ++ (r ∷ d))))))) w' i) (IsStmt.for t l a b e c r d v y z q kind lk h g ek o rk j))))))))
 
-  switch_says : (t : Lexeme) (ts : List Lexeme) → t.kind ≡ k.Word w.Switch → SaysR (switch_behind s n rec ts) ts (λ a v r. Made (t ∷ a) v r)
+  switch_says : (t : Lexeme) (ts : List Lexeme) → t.kind ≡ k.Word w.Switch → SaysR (switch_behind s n rec ts) ts (λ a v r. IsStmtBefore (t ∷ a) v r)
   unfolding switch_behind
   switch_says t ts kind = then_r (controlling_expression s n ts) _ ts (InBrackets s n) _ (condition_says s n ts) (λ a v r h. expect_r p.LeftBrace _ r _ (λ o y ok. then_r (sections_from s n rec (length y) [] y) _ y _ _ (sections_says (length y) [] y) (λ b vs i q.
       let c = q.2 in
-      done_r (u.Switch v vs) b i (λ b w' i. Made (t ∷ (a ++ (o ∷ b))) w' i) (subst (λ d. IsStmt s (else_at i) (t ∷ (a ++ (o ∷ b))) (u.Switch v d)) (sym q.1) (subst (λ d. IsStmt s (else_at i) d (u.Switch v q.0)) (sym (ap (λ d. t ∷ (a ++ (o ∷ d))) c.all_is ∙ ap (λ d. t ∷ (d ++ (o ∷ (c.inner ++ c.close ∷ [])))) h.whole_is ∙ group_tokens t h.left h.inner h.right (o ∷ (c.inner ++ c.close ∷ []))))
+      done_r (u.Switch v vs) b i (λ b w' i. IsStmtBefore (t ∷ (a ++ (o ∷ b))) w' i) (subst (λ d. IsStmt s (else_at i) (t ∷ (a ++ (o ∷ b))) (u.Switch v d)) (sym q.1) (subst (λ d. IsStmt s (else_at i) d (u.Switch v q.0)) (sym (ap (λ d. t ∷ (a ++ (o ∷ d))) c.all_is ∙ ap (λ d. t ∷ (d ++ (o ∷ (c.inner ++ c.close ∷ [])))) h.whole_is ∙ group_tokens t h.left h.inner h.right (o ∷ (c.inner ++ c.close ∷ []))))
       (IsStmt.switch t h.left h.inner h.right o c.inner c.close v q.0 kind h.open_is h.is h.close_is ok c.are c.close_is))))))
 
-  return_says : (t : Lexeme) (ts : List Lexeme) → t.kind ≡ k.Word w.Return → SaysR (return_behind s n t.at ts) ts (λ a v r. Made (t ∷ a) v r)
+  return_says : (t : Lexeme) (ts : List Lexeme) → t.kind ≡ k.Word w.Return → SaysR (return_behind s n t.at ts) ts (λ a v r. IsStmtBefore (t ∷ a) v r)
   unfolding return_behind
   return_says t ts kind = then_r (optional_expression s n p.Semicolon ts) _ ts (λ a v. IsOptional s a v) _ (optional_says s n p.Semicolon ts) (λ a v r h. expect_r p.Semicolon _ r _ (λ e i ek. ok_r (u.Return t.at v) i _ (IsStmt.return t a e v kind h ek)))
 
-  value_says : (ts : List Lexeme) → SaysR (value_line s n ts) ts Made
+  value_says : (ts : List Lexeme) → SaysR (value_line s n ts) ts IsStmtBefore
   unfolding value_line
   value_says ts = then_r (expression s n ts) _ ts (λ a v. IsWhole s a v) _ (expression_says s n ts) (λ a v r h. expect_r p.Semicolon _ r _ (λ e i ek. ok_r (u.Expression v) i _ (IsStmt.expression a e v h ek)))
 
-  block_says : (l : Lexeme) (ts : List Lexeme) → l.kind ≡ k.Mark p.LeftBrace → SaysR (and_then (items_from s n rec (length ts) [] ts) (λ vs r. Ok (u.Block vs, r))) ts (λ a v r. Made (l ∷ a) v r)
+  block_says : (l : Lexeme) (ts : List Lexeme) → l.kind ≡ k.Mark p.LeftBrace → SaysR (and_then (items_from s n rec (length ts) [] ts) (λ vs r. Ok (u.Block vs, r))) ts (λ a v r. IsStmtBefore (l ∷ a) v r)
   block_says l ts lk = then_r (items_from s n rec (length ts) [] ts) _ ts _ _ (items_says (length ts) [] ts) (λ b vs i q.
       let c = q.2 in
-      done_r (u.Block vs) b i (λ b w' i. Made (l ∷ b) w' i) (subst (λ d. IsStmt s (else_at i) (l ∷ b) (u.Block d)) (sym q.1) (subst (λ d. IsStmt s (else_at i) (l ∷ d) (u.Block q.0)) (sym c.all_is) (IsStmt.block l c.inner c.close q.0 lk c.are c.close_is))))
+      done_r (u.Block vs) b i (λ b w' i. IsStmtBefore (l ∷ b) w' i) (subst (λ d. IsStmt s (else_at i) (l ∷ b) (u.Block d)) (sym q.1) (subst (λ d. IsStmt s (else_at i) (l ∷ d) (u.Block q.0)) (sym c.all_is) (IsStmt.block l c.inner c.close q.0 lk c.are c.close_is))))
 
-  stmt_says : (kind : TokenKind) (t : Lexeme) (ts : List Lexeme) → t.kind ≡ kind → SaysR (stmt_by s n rec (head_of kind) (t ∷ ts)) (t ∷ ts) Made
+  stmt_says : (kind : TokenKind) (t : Lexeme) (ts : List Lexeme) → t.kind ≡ kind → SaysR (stmt_by s n rec (head_of kind) (t ∷ ts)) (t ∷ ts) IsStmtBefore
   stmt_says (k.Mark p.LeftBrace) t ts kind = token_r _ t ts _ (block_says t ts kind)
   stmt_says (k.Mark p.Semicolon) t ts kind = token_r (Ok (u.Empty, ts)) t ts _ (ok_r u.Empty ts _ (IsStmt.empty t kind))
   stmt_says (k.Word w.If) t ts kind = token_r _ t ts _ (if_else_says t ts kind)

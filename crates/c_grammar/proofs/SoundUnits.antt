@@ -20,8 +20,8 @@ use Rattle.c_tree.specs.declared.declarations.TranslationUnit.{TranslationUnit}
 use Rattle.c_grammar.specs.declared.shapes.Shape.{Shape}
 use Rattle.c_grammar.specs.declared.shapes.DeclaredName.{DeclaredName}
 use Rattle.c_grammar.specs.declared.shapes.Declarator.{Declarator}
-use Rattle.c_grammar.specs.declared.shapes.Naming.TheVariants as nm
-use Rattle.c_grammar.specs.Classes.{opening_of}
+use Rattle.c_grammar.specs.declared.shapes.NameRequirement.TheVariants as nm
+use Rattle.c_grammar.specs.Classes.{storage_class_of}
 use Rattle.c_grammar.specs.Tokens.{TypeNames, is_mark, kind_at, token_tail}
 use Rattle.c_grammar.specs.Types.{declaration_of, without_body}
 use Rattle.c_grammar.specs.Grammar.{IsExpr, IsDeclarator}
@@ -165,7 +165,7 @@ unfolding typedefs
 typedefs_line s n t ts kind = bind_says (specifier s n ts) _ ts (λ a ty. IsSpecifier s a ty) _ (sound_specifier s n ts) (λ a ty r h. bind_says (typedefs_from s n (length r) ty [] r) _ r (Typedefs s ty []) _ (typedefs_says n (length r) s ty [] r) (λ b q z g. expect_says p.Semicolon _ z _ (λ e u ek.
     ok_says q u _ (subst (λ y. IsExternal s (t ∷ (a ++ (b ++ e ∷ []))) y q.1) (sym g.1) (IsExternal.typedefs t a b e ty g.0 q.1 kind h g.2 ek)))))
 
-by_says : (s : TypeNames) (n : ℕ) (kind : TokenKind) (t : Lexeme) (ts : List Lexeme) → t.kind ≡ kind → Says (external_at s n (opening_of kind) (t ∷ ts)) (t ∷ ts) (λ a q. IsExternal s a q.0 q.1)
+by_says : (s : TypeNames) (n : ℕ) (kind : TokenKind) (t : Lexeme) (ts : List Lexeme) → t.kind ≡ kind → Says (external_at s n (storage_class_of kind) (t ∷ ts)) (t ∷ ts) (λ a q. IsExternal s a q.0 q.1)
 by_says s n (k.Word w.Typedef) t ts kind = token_says _ t ts _ (typedefs_line s n t ts kind)
 by_says s n (k.Word w.Static) t ts kind = token_says _ t ts _ (behind_storage_says s n (Some g.Static) (t ∷ []) ts (IsStorage.static t kind))
 by_says s n (k.Word w.Extern) t ts kind = token_says _ t ts _ (behind_storage_says s n (Some g.Extern) (t ∷ []) ts (IsStorage.extern t kind))

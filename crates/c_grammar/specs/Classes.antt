@@ -17,8 +17,8 @@ use Rattle.c_grammar.specs.declared.classes.Specifier.{Specifier}
 use Rattle.c_grammar.specs.declared.classes.Specifier.TheVariants as c
 use Rattle.c_grammar.specs.declared.classes.Head.{Head}
 use Rattle.c_grammar.specs.declared.classes.Head.TheVariants as h
-use Rattle.c_grammar.specs.declared.classes.Opening.{Opening}
-use Rattle.c_grammar.specs.declared.classes.Opening.TheVariants as o
+use Rattle.c_grammar.specs.declared.classes.StorageClass.{StorageClass}
+use Rattle.c_grammar.specs.declared.classes.StorageClass.TheVariants as o
 use Rattle.c_grammar.specs.declared.classes.TypeWord.TheVariants as t
 
 abbrev pub infix_mark : Punct → Infix
@@ -119,11 +119,11 @@ head_of (k.Word w.Return) = h.Return
 head_of _ = h.Other
 
 -- where an external declaration begins (C99 6.7.1 and 6.9)
-abbrev pub opening_of : TokenKind → Opening
-opening_of (k.Word w.Typedef) = o.Typedef
-opening_of (k.Word w.Static) = o.Static
-opening_of (k.Word w.Extern) = o.Extern
-opening_of _ = o.Other
+abbrev pub storage_class_of : TokenKind → StorageClass
+storage_class_of (k.Word w.Typedef) = o.Typedef
+storage_class_of (k.Word w.Static) = o.Static
+storage_class_of (k.Word w.Extern) = o.Extern
+storage_class_of _ = o.Other
 
 -- whether a type begins with such a token, which is the name of a type or not
 abbrev pub begins_type_by : Specifier → Bool → Bool

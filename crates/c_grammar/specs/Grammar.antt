@@ -22,8 +22,8 @@ use Rattle.c_grammar.specs.declared.classes.Specifier.TheVariants as c
 use Rattle.c_grammar.specs.declared.word_set.WordSet.{WordSet}
 use Rattle.c_grammar.specs.declared.shapes.Shape.TheVariants as h
 use Rattle.c_grammar.specs.declared.shapes.Declarator.{Declarator}
-use Rattle.c_grammar.specs.declared.shapes.Naming.{Naming}
-use Rattle.c_grammar.specs.declared.shapes.Naming.TheVariants as nm
+use Rattle.c_grammar.specs.declared.shapes.NameRequirement.{NameRequirement}
+use Rattle.c_grammar.specs.declared.shapes.NameRequirement.TheVariants as nm
 use Rattle.c_grammar.specs.Classes.{infix_of, prefix_of, specifier_of}
 use Rattle.c_grammar.specs.Levels.{level_of}
 use Rattle.c_grammar.specs.WordSets.{no_words, with_word, basic_of}
@@ -137,27 +137,27 @@ mutual
         → IsTypeName s (a ++ b) (record { at = token_place a; ty = with_shapes d.shapes ty })
 
   -- IsDeclarator s naming m ts d: at m = 1 the declarator begins with no star
-  pub data IsDeclarator (s : TypeNames) : Naming → ℕ → List Lexeme → Declarator → Type 0 where
-    star : {naming : Naming} {m : ℕ} (t : Lexeme) (a b : List Lexeme) (d : Declarator) → m ≤ 0
+  pub data IsDeclarator (s : TypeNames) : NameRequirement → ℕ → List Lexeme → Declarator → Type 0 where
+    star : {naming : NameRequirement} {m : ℕ} (t : Lexeme) (a b : List Lexeme) (d : Declarator) → m ≤ 0
         → t.kind ≡ k.Mark p.Star → AreConsts a → IsDeclarator s naming 0 b d
         → IsDeclarator s naming m (t ∷ a ++ b) (with_shape d h.Pointer)
-    own_name : {naming : Naming} {m : ℕ} (t : Lexeme) → t.kind ≡ k.Name → takes_name naming (is_type s t) ≡ true
-        → IsDeclarator s naming m (t ∷ [])
+    own_name : {naming : NameRequirement} {m : ℕ} (t : Lexeme) → t.kind ≡ k.Name
+        → takes_name naming (is_type s t) ≡ true → IsDeclarator s naming m (t ∷ [])
         (record { name = Some (record { at = t.at; name = t.spelling }); shapes = [] })
-    no_name : {naming : Naming} {m : ℕ} → may_be_nameless naming ≡ true → IsDeclarator s naming m [] nameless
-    group : {naming : Naming} {m : ℕ} (l t : Lexeme) (a : List Lexeme) (r : Lexeme) (d : Declarator)
+    no_name : {naming : NameRequirement} {m : ℕ} → may_be_nameless naming ≡ true → IsDeclarator s naming m [] nameless
+    group : {naming : NameRequirement} {m : ℕ} (l t : Lexeme) (a : List Lexeme) (r : Lexeme) (d : Declarator)
         → l.kind ≡ k.Mark p.LeftParen → t.kind ≡ k.Mark p.Star → IsDeclarator s naming 0 (t ∷ a) d
         → r.kind ≡ k.Mark p.RightParen
         → IsDeclarator s naming m (l ∷ t ∷ a ++ r ∷ []) d
-    open_array : {naming : Naming} {m : ℕ} (a : List Lexeme) (l r : Lexeme) (d : Declarator)
+    open_array : {naming : NameRequirement} {m : ℕ} (a : List Lexeme) (l r : Lexeme) (d : Declarator)
         → IsDeclarator s naming 1 a d → l.kind ≡ k.Mark p.LeftBracket → r.kind ≡ k.Mark p.RightBracket
         → IsDeclarator s naming m (a ++ l ∷ r ∷ []) (with_shape d (h.Array None))
-    array : {naming : Naming} {m : ℕ} (a : List Lexeme) (l : Lexeme) (b : List Lexeme) (r : Lexeme) (d : Declarator)
-        (x : Expr)
+    array : {naming : NameRequirement} {m : ℕ} (a : List Lexeme) (l : Lexeme) (b : List Lexeme) (r : Lexeme)
+        (d : Declarator) (x : Expr)
         → IsDeclarator s naming 1 a d → l.kind ≡ k.Mark p.LeftBracket → IsExpr s levels.conditional b x
         → r.kind ≡ k.Mark p.RightBracket
         → IsDeclarator s naming m (a ++ (l ∷ b ++ r ∷ [])) (with_shape d (h.Array (Some x)))
-    function : {naming : Naming} {m : ℕ} (a : List Lexeme) (l : Lexeme) (b : List Lexeme) (r : Lexeme)
+    function : {naming : NameRequirement} {m : ℕ} (a : List Lexeme) (l : Lexeme) (b : List Lexeme) (r : Lexeme)
         (d : Declarator) (xs : List Parameter)
         → IsDeclarator s naming 1 a d → l.kind ≡ k.Mark p.LeftParen → AreParameters s b xs
         → r.kind ≡ k.Mark p.RightParen

@@ -17,8 +17,8 @@ use Rattle.c_grammar.specs.declared.classes.Specifier.TheVariants as c
 use Rattle.c_grammar.specs.declared.word_set.WordSet.{WordSet}
 use Rattle.c_grammar.specs.declared.shapes.Shape.TheVariants as h
 use Rattle.c_grammar.specs.declared.shapes.Declarator.{Declarator}
-use Rattle.c_grammar.specs.declared.shapes.Naming.{Naming}
-use Rattle.c_grammar.specs.declared.shapes.Naming.TheVariants as nm
+use Rattle.c_grammar.specs.declared.shapes.NameRequirement.{NameRequirement}
+use Rattle.c_grammar.specs.declared.shapes.NameRequirement.TheVariants as nm
 use Rattle.c_grammar.specs.declared.shapes.SpecifierStart.{SpecifierStart}
 use Rattle.c_grammar.specs.declared.shapes.SpecifierStart.TheVariants as o
 use Rattle.c_lexer.specs.Pieces.{Lexeme}
@@ -107,17 +107,17 @@ unfoldable pub member_name : Parser (List ℕ)
 member_name ts = if is_name_token (kind_at ts) then Ok (spelling_at ts, token_tail ts) else Err ts
 
 -- where no name of a declarator stands
-abbrev pub no_name : Naming → Parser Declarator
+abbrev pub no_name : NameRequirement → Parser Declarator
 no_name naming ts = if may_be_nameless naming then Ok (nameless, ts) else Err ts
 
 -- at a name, which may be none of its own
-abbrev pub core_name : TypeNames → Naming → Parser Declarator
+abbrev pub core_name : TypeNames → NameRequirement → Parser Declarator
 core_name s naming ts =
     if takes_name naming (is_type_at s ts)
     then Ok (record { name = Some (record { at = token_place ts; name = spelling_at ts }); shapes = [] }, token_tail ts)
     else no_name naming ts
 
-module _ (s : TypeNames) (expr : ℕ → Parser Expr) (declarator : Naming → Parser Declarator) where
+module _ (s : TypeNames) (expr : ℕ → Parser Expr) (declarator : NameRequirement → Parser Declarator) where
   -- an expression with its commas
   unfoldable pub whole : Parser Expr
   whole ts = and_then (list_from (expr levels.assignment) (length ts) [] ts) (λ xs. pure (comma_of (token_place ts) xs))
@@ -232,27 +232,27 @@ module _ (s : TypeNames) (expr : ℕ → Parser Expr) (declarator : Naming → P
       else Ok (d, ts)
 
   -- behind a star
-  unfoldable pub pointer_declarator : Naming → Parser Declarator
+  unfoldable pub pointer_declarator : NameRequirement → Parser Declarator
   pointer_declarator naming ts =
       and_then (consts (length ts) ts) (λ _. declarator naming >>= λ d. pure (with_shape d h.Pointer))
 
   -- behind the bracket and the star of a declarator in brackets
-  unfoldable pub group_behind : Naming → Parser Declarator
+  unfoldable pub group_behind : NameRequirement → Parser Declarator
   group_behind naming ts = and_then (pointer_declarator naming ts) (λ d. expect p.RightParen >>= λ _. pure d)
 
   -- at a bracket: one of a declarator, or of parameters, which follow a missing name
-  abbrev pub core_bracket : Naming → Parser Declarator
+  abbrev pub core_bracket : NameRequirement → Parser Declarator
   core_bracket naming ts =
       if is_mark p.Star (kind_at (token_tail ts)) then group_behind naming (token_tail (token_tail ts))
       else if may_be_nameless naming then Ok (nameless, ts) else Err (token_tail ts)
 
-  unfoldable pub core : Naming → Parser Declarator
+  unfoldable pub core : NameRequirement → Parser Declarator
   core naming ts = if is_name_token (kind_at ts) then core_name s naming ts
       else if is_mark p.LeftParen (kind_at ts) then core_bracket naming ts
       else no_name naming ts
 
-  abbrev pub shaping : Naming → Parser Declarator
-  shaping naming ts = if is_mark p.Star (kind_at ts) then pointer_declarator naming (token_tail ts)
+  abbrev pub shaped_declarator : NameRequirement → Parser Declarator
+  shaped_declarator naming ts = if is_mark p.Star (kind_at ts) then pointer_declarator naming (token_tail ts)
       else and_then (core naming ts) (λ d r. suffixes (length r) d r)
 
 -- The number bounds how deep the functions go: as many as there are tokens are enough.
@@ -261,6 +261,6 @@ unfoldable mutual
   expr s zero least ts = Err ts
   expr s (suc n) least ts = tight s (expr s n) (declarator s n) least ts
 
-  pub declarator : TypeNames → ℕ → Naming → Parser Declarator
+  pub declarator : TypeNames → ℕ → NameRequirement → Parser Declarator
   declarator s zero naming ts = Err ts
-  declarator s (suc n) naming ts = shaping s (expr s n) (declarator s n) naming ts
+  declarator s (suc n) naming ts = shaped_declarator s (expr s n) (declarator s n) naming ts

@@ -9,8 +9,8 @@ use Rattle.c_grammar.specs.declared.classes.Specifier.{Specifier}
 use Rattle.c_grammar.specs.declared.classes.Specifier.TheVariants as c
 use Rattle.c_grammar.specs.declared.shapes.Shape.{Shape}
 use Rattle.c_grammar.specs.declared.shapes.DeclaredName.{DeclaredName}
-use Rattle.c_grammar.specs.declared.shapes.Naming.{Naming}
-use Rattle.c_grammar.specs.declared.shapes.Naming.TheVariants as nm
+use Rattle.c_grammar.specs.declared.shapes.NameRequirement.{NameRequirement}
+use Rattle.c_grammar.specs.declared.shapes.NameRequirement.TheVariants as nm
 use Rattle.c_grammar.specs.WordSets.{no_words}
 use Rattle.c_grammar.specs.Levels as levels
 use Rattle.c_grammar.specs.Tokens.{TypeNames, token_place, is_mark, is_name_token, kind_at, spelling_at, token_tail, is_type_at}
@@ -23,7 +23,7 @@ abbrev pub named_by : TypeNode → Option DeclaredName → List Shape → Parser
 named_by ty (Some u) shapes ts = Ok (declaration_of ty u shapes, ts)
 named_by ty None shapes ts = Err ts
 
-unfoldable pub declaration : TypeNames → ℕ → Naming → TypeNode → Parser Declaration
+unfoldable pub declaration : TypeNames → ℕ → NameRequirement → TypeNode → Parser Declaration
 declaration s n naming ty ts = and_then (declarator s n naming ts) (λ d. named_by ty d.name d.shapes)
 
 -- elements with commas between, and perhaps one before the brace that closes

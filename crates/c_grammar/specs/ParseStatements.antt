@@ -17,7 +17,7 @@ use Rattle.c_tree.specs.declared.statements.ForFirst.{ForFirst}
 use Rattle.c_tree.specs.declared.statements.ForFirst.TheVariants as f
 use Rattle.c_grammar.specs.declared.classes.Head.{Head}
 use Rattle.c_grammar.specs.declared.classes.Head.TheVariants as h
-use Rattle.c_grammar.specs.declared.shapes.Naming.TheVariants as nm
+use Rattle.c_grammar.specs.declared.shapes.NameRequirement.TheVariants as nm
 use Rattle.c_grammar.specs.Classes.{head_of}
 use Rattle.c_grammar.specs.Levels as levels
 use Rattle.c_grammar.specs.Tokens.{TypeNames, token_place, is_mark, is_keyword, kind_at, token_tail, begins_type}

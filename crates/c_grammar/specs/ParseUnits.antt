@@ -12,13 +12,13 @@ use Rattle.c_tree.specs.declared.declarations.FunctionEnd.TheVariants as f
 use Rattle.c_tree.specs.declared.declarations.External.{External}
 use Rattle.c_tree.specs.declared.declarations.External.TheVariants as x
 use Rattle.c_tree.specs.declared.declarations.TranslationUnit.{TranslationUnit}
-use Rattle.c_grammar.specs.declared.classes.Opening.{Opening}
-use Rattle.c_grammar.specs.declared.classes.Opening.TheVariants as o
+use Rattle.c_grammar.specs.declared.classes.StorageClass.{StorageClass}
+use Rattle.c_grammar.specs.declared.classes.StorageClass.TheVariants as o
 use Rattle.c_grammar.specs.declared.shapes.Shape.{Shape}
 use Rattle.c_grammar.specs.declared.shapes.DeclaredName.{DeclaredName}
 use Rattle.c_grammar.specs.declared.shapes.Declarator.{Declarator}
-use Rattle.c_grammar.specs.declared.shapes.Naming.TheVariants as nm
-use Rattle.c_grammar.specs.Classes.{opening_of}
+use Rattle.c_grammar.specs.declared.shapes.NameRequirement.TheVariants as nm
+use Rattle.c_grammar.specs.Classes.{storage_class_of}
 use Rattle.c_grammar.specs.Levels as levels
 use Rattle.c_grammar.specs.Tokens.{TypeNames, token_place, is_mark, kind_at, token_tail}
 use Rattle.c_grammar.specs.Types.{declaration_of, without_body}
@@ -106,14 +106,14 @@ module _ (s : TypeNames) (n : ℕ) (storage : Option Storage) where
   unfoldable pub behind_storage : Parser (List External × TypeNames)
   behind_storage ts = and_then (specifier s n ts) (λ ty. behind_type ty >>= λ vs. pure (vs, s))
 
-abbrev pub external_at : TypeNames → ℕ → Opening → Parser (List External × TypeNames)
+abbrev pub external_at : TypeNames → ℕ → StorageClass → Parser (List External × TypeNames)
 external_at s n o.Typedef ts = typedefs s n (token_tail ts)
 external_at s n o.Static ts = behind_storage s n (Some g.Static) (token_tail ts)
 external_at s n o.Extern ts = behind_storage s n (Some g.Extern) (token_tail ts)
 external_at s n o.Other ts = behind_storage s n None ts
 
 unfoldable pub external : TypeNames → ℕ → Parser (List External × TypeNames)
-external s n ts = external_at s n (opening_of (kind_at ts)) ts
+external s n ts = external_at s n (storage_class_of (kind_at ts)) ts
 
 abbrev pub externals_behind : ParseOutcome (List External × TypeNames)
     → (List External × TypeNames → List Lexeme → Result (List External) (List Lexeme))

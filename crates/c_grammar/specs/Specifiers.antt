@@ -11,8 +11,8 @@ use Rattle.c_tree.specs.declared.types.Declaration.{Declaration}
 use Rattle.c_tree.specs.declared.types.Constant.{Constant}
 use Rattle.c_grammar.specs.declared.shapes.Shape.{Shape}
 use Rattle.c_grammar.specs.declared.shapes.DeclaredName.{DeclaredName}
-use Rattle.c_grammar.specs.declared.shapes.Naming.{Naming}
-use Rattle.c_grammar.specs.declared.shapes.Naming.TheVariants as nm
+use Rattle.c_grammar.specs.declared.shapes.NameRequirement.{NameRequirement}
+use Rattle.c_grammar.specs.declared.shapes.NameRequirement.TheVariants as nm
 use Rattle.c_grammar.specs.Levels as levels
 use Rattle.c_grammar.specs.Tokens.{TypeNames, is_type}
 use Rattle.c_grammar.specs.Types.{declaration_of, without_body}
@@ -24,7 +24,8 @@ pub data IsTag (t : Lexeme) : List Lexeme → ℕ → Option (List ℕ) → Type
   some : (u : Lexeme) → u.kind ≡ k.Name → IsTag t (u ∷ []) u.at (Some u.spelling)
 
 -- a declarator with a name, behind the type
-pub data IsDeclared (s : TypeNames) (naming : Naming) (ty : TypeNode) : List Lexeme → Declaration → Type 0 where
+pub data IsDeclared (s : TypeNames) (naming : NameRequirement) (ty : TypeNode) :
+    List Lexeme → Declaration → Type 0 where
   of : (a : List Lexeme) (u : DeclaredName) (shapes : List Shape)
       → IsDeclarator s naming 0 a (record { name = Some u; shapes = shapes })
       → IsDeclared s naming ty a (declaration_of ty u shapes)

@@ -11,8 +11,8 @@ use Rattle.c_grammar.specs.declared.shapes.Shape.{Shape}
 use Rattle.c_grammar.specs.declared.shapes.Shape.TheVariants as h
 use Rattle.c_grammar.specs.declared.shapes.DeclaredName.{DeclaredName}
 use Rattle.c_grammar.specs.declared.shapes.Declarator.{Declarator}
-use Rattle.c_grammar.specs.declared.shapes.Naming.{Naming}
-use Rattle.c_grammar.specs.declared.shapes.Naming.TheVariants as nm
+use Rattle.c_grammar.specs.declared.shapes.NameRequirement.{NameRequirement}
+use Rattle.c_grammar.specs.declared.shapes.NameRequirement.TheVariants as nm
 
 abbrev pub nameless : Declarator
 nameless = record { name = None; shapes = [] }
@@ -21,13 +21,13 @@ abbrev pub with_shape : Declarator → Shape → Declarator
 with_shape d s = record { name = d.name; shapes = d.shapes ++ s ∷ [] }
 
 -- whether a declarator may have this name, which is one of a type or not
-abbrev pub takes_name : Naming → Bool → Bool
+abbrev pub takes_name : NameRequirement → Bool → Bool
 takes_name nm.Required is_type = not is_type
 takes_name nm.Member is_type = true
 takes_name nm.Optional is_type = not is_type
 takes_name nm.Refused is_type = false
 
-abbrev pub may_be_nameless : Naming → Bool
+abbrev pub may_be_nameless : NameRequirement → Bool
 may_be_nameless nm.Required = false
 may_be_nameless nm.Member = false
 may_be_nameless nm.Optional = true

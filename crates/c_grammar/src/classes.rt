@@ -78,7 +78,7 @@ pub enum Head {
 
 /// What an external declaration begins with (C99 6.7.1). `Other` is a type, or nothing.
 #[derive(Clone, Copy, Debug, PartialEq, Eq)]
-pub enum Opening {
+pub enum StorageClass {
     Typedef,
     Static,
     Extern,
@@ -213,13 +213,13 @@ pub fn head_of(kind: TokenKind) -> Head
 }
 
 /// What the token is where an external declaration begins.
-pub fn opening_of(kind: TokenKind) -> Opening
-    ensures { result ≡ classes.opening_of kind }
+pub fn storage_class_of(kind: TokenKind) -> StorageClass
+    ensures { result ≡ classes.storage_class_of kind }
 {
     match kind {
-        TokenKind::Word(Keyword::Typedef) => Opening::Typedef,
-        TokenKind::Word(Keyword::Static) => Opening::Static,
-        TokenKind::Word(Keyword::Extern) => Opening::Extern,
-        _ => Opening::Other,
+        TokenKind::Word(Keyword::Typedef) => StorageClass::Typedef,
+        TokenKind::Word(Keyword::Static) => StorageClass::Static,
+        TokenKind::Word(Keyword::Extern) => StorageClass::Extern,
+        _ => StorageClass::Other,
     }
 }

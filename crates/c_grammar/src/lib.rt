@@ -9,8 +9,8 @@ mod shapes;
 mod word_set;
 
 pub use classes::{
-    Head, Infix, Opening, Prefix, Specifier, TypeWord, head_of, infix_of, opening_of, prefix_of,
-    specifier_of,
+    Head, Infix, Prefix, Specifier, StorageClass, TypeWord, head_of, infix_of, prefix_of,
+    specifier_of, storage_class_of,
 };
-pub use shapes::{Declarator, DeclaredName, Naming, Shape, SpecifierStart};
+pub use shapes::{Declarator, DeclaredName, NameRequirement, Shape, SpecifierStart};
 pub use word_set::{BaseWord, Sign, WordSet};

@@ -34,7 +34,7 @@ pub struct Declarator {
 
 /// Whether a declarator has a name.
 #[derive(Clone, Copy, Debug, PartialEq, Eq)]
-pub enum Naming {
+pub enum NameRequirement {
     Required,
     /// That of a member, which may also be the name of a type.
     Member,

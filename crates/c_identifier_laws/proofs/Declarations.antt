@@ -10,7 +10,7 @@ use Rattle.c_tree.specs.declared.declarations.External.{External}
 use Rattle.c_tree.specs.declared.declarations.TranslationUnit.{TranslationUnit}
 use Rattle.c_grammar.specs.declared.shapes.DeclaredName.{DeclaredName}
 use Rattle.c_grammar.specs.declared.shapes.Declarator.{Declarator}
-use Rattle.c_grammar.specs.declared.shapes.Naming.{Naming}
+use Rattle.c_grammar.specs.declared.shapes.NameRequirement.{NameRequirement}
 use Rattle.c_grammar.specs.Tokens.{TypeNames}
 use Rattle.c_grammar.specs.Types.{declaration_of}
 use Rattle.c_grammar.specs.Grammar.{IsDeclarator}
@@ -18,23 +18,23 @@ use Rattle.c_grammar.specs.Specifiers.{IsDeclared}
 use Rattle.c_grammar.specs.Units.{external_of, is_function, IsObject, AreObjects, AreTypedefs, IsExternal, AreExternals}
 use Rattle.c_parser.specs.Reading.{IsRead}
 use Rattle.c_identifier_laws.specs.Identifiers.{IsIdentifier, HasIdentifier}
-use Rattle.c_identifier_laws.proofs.Spellings.{AreSpelled, both, named, tokens_spelled}
+use Rattle.c_identifier_laws.proofs.Spellings.{AreSpelled, both, named_spelling, tokens_spelled}
 
 -- ---- declarators
 
 abbrev HasName : Option DeclaredName → Type 0
 HasName o = IfSome o (λ u. IsIdentifier u.name)
 
-declarator_name : {s : TypeNames} {naming : Naming} {m : ℕ} {ts : List Lexeme} {d : Declarator} → IsDeclarator s naming m ts d → AreSpelled ts → HasName d.name
+declarator_name : {s : TypeNames} {naming : NameRequirement} {m : ℕ} {ts : List Lexeme} {d : Declarator} → IsDeclarator s naming m ts d → AreSpelled ts → HasName d.name
 declarator_name (IsDeclarator.star t a b d low kind consts rest) h = declarator_name rest (both a b h.1).1
-declarator_name (IsDeclarator.own_name t kind takes) h = named t h.0 kind
+declarator_name (IsDeclarator.own_name t kind takes) h = named_spelling t h.0 kind
 declarator_name (IsDeclarator.no_name may) h = tt
 declarator_name (IsDeclarator.group l t a r d lk kind rest rk) h = declarator_name rest (both (t ∷ a) (r ∷ []) h.1).0
 declarator_name (IsDeclarator.open_array a l r d rest lk rk) h = declarator_name rest (both a (l ∷ r ∷ []) h).0
 declarator_name (IsDeclarator.array a l b r d x rest lk length rk) h = declarator_name rest (both a (l ∷ b ++ r ∷ []) h).0
 declarator_name (IsDeclarator.function a l b r d xs rest lk params rk) h = declarator_name rest (both a (l ∷ b ++ r ∷ []) h).0
 
-declared_name : {s : TypeNames} {naming : Naming} {ty : TypeNode} {ts : List Lexeme} {d : Declaration} → IsDeclared s naming ty ts d → AreSpelled ts → IsIdentifier d.name
+declared_name : {s : TypeNames} {naming : NameRequirement} {ty : TypeNode} {ts : List Lexeme} {d : Declaration} → IsDeclared s naming ty ts d → AreSpelled ts → IsIdentifier d.name
 declared_name (IsDeclared.of a u shapes g) h = declarator_name g h
 
 -- ---- declarations

@@ -86,8 +86,8 @@ name_spelled (b ∷ s) h = passed (is_blank b) _ _ (when_no (list_all is_blank s
 abbrev pub IsSpelled : Lexeme → Type 0
 IsSpelled t = piece_of t.spelling ≡ Some (p.Token t.kind)
 
-pub named : (t : Lexeme) → IsSpelled t → t.kind ≡ k.Name → IsIdentifier t.spelling
-named t h kind = name_spelled t.spelling (ap is_name h ∙ ap is_name_kind kind)
+pub named_spelling : (t : Lexeme) → IsSpelled t → t.kind ≡ k.Name → IsIdentifier t.spelling
+named_spelling t h kind = name_spelled t.spelling (ap is_name h ∙ ap is_name_kind kind)
 
 abbrev pub AreSpelled : List Lexeme → Type 0
 AreSpelled [] = Unit {0}
@@ -110,7 +110,7 @@ NamedWell t = t.kind ≡ k.Name → IsIdentifier t.spelling
 
 each_named : (ts : List Lexeme) → AreSpelled ts → All NamedWell ts
 each_named [] h = All-nil NamedWell
-each_named (t ∷ ts) h = All-cons NamedWell t ts (named t h.0) (each_named ts h.1)
+each_named (t ∷ ts) h = All-cons NamedWell t ts (named_spelling t h.0) (each_named ts h.1)
 
 pub name_tokens : (text : List ℕ) (toks : Toks) → Tokens text toks → All (λ t. t.kind ≡ k.Name → IsIdentifier t.spelling) toks.items
 name_tokens text toks h = each_named toks.items (tokens_spelled text toks h)

@@ -14,7 +14,8 @@ use Rattle.data_object.specs.Globals.{Reaches, StandsWhole}
 use Rattle.c_initial_values.specs.declared.values.InitialValue.{InitialValue}
 use Rattle.c_initial_values.specs.declared.values.InitialValue.TheVariants as v
 use Rattle.c_initial_values.specs.Cells.{zero_cells, word_cells, address_cells, value_cells, text_cells, reach, place_piece}
-use Rattle.c_initial_value_laws.specs.Cells.{ObjectHasSize, IsAddressIn, IsValueIn, IsCellIn, AreInitialCells, AreBytes}
+use Rattle.mem_model.specs.Bytes.{AreBytes}
+use Rattle.c_initial_value_laws.specs.Cells.{ObjectHasSize, IsAddressIn, IsValueIn, IsCellIn, AreInitialCells}
 use Rattle.c_initial_value_laws.specs.Laws.{IsMultiple, IsPlaceFor, value_size}
 
 -- ---- cells by their place
@@ -87,11 +88,11 @@ module _ (globals : List DataObject) where
 
   -- ---- as far as a place
 
-  record Reached (place : ℕ) (cells : List DataCell) : Type 0 where
+  record ReachesPlace (place : ℕ) (cells : List DataCell) : Type 0 where
     cells_lawful : AreInitialCells globals place (reach place cells)
     far : length (reach place cells) ≡ place
 
-  reached : (place : ℕ) (cells : List DataCell) → AreInitialCells globals place cells → Reached place cells
+  reached : (place : ℕ) (cells : List DataCell) → AreInitialCells globals place cells → ReachesPlace place cells
   reached place cells h =
       let gap = place - length cells in
       let w : length cells ≤ place = h.within in

@@ -1,5 +1,5 @@
 -- Lawful cells of an object that a program may write, among the objects of static storage of its unit.
-use Rattle.std.specs.Prelude.{◌≡◌, ℕ, ◌*◌, ◌/◌, ◌<◌, ◌≤◌, List, [], ◌∷◌, length, slice_get, Option, Some, None}
+use Rattle.std.specs.Prelude.{◌≡◌, ℕ, ◌*◌, ◌/◌, ◌<◌, ◌≤◌, List, length, slice_get, Option, Some, None}
 use Rattle.c_constant_rules.specs.declared.addresses.Address.{Address}
 use Rattle.data_object.specs.declared.DataObject.{DataObject}
 use Rattle.data_object.specs.declared.DataCell.{DataCell}
@@ -37,8 +37,3 @@ IsCellIn globals cells at (AddressPart global plus part) =
 pub record AreInitialCells (globals : List DataObject) (end : ℕ) (cells : List DataCell) : Type 0 where
   pub within : length cells ≤ end
   pub lawful : (at : ℕ) (x : DataCell) → slice_get cells at ≡ Some x → IsCellIn globals cells at x
-
--- each of these numbers is a byte
-abbrev pub AreBytes : List ℕ → Type 0
-AreBytes [] = Unit {0}
-AreBytes (b ∷ bs) = (b < 256) × AreBytes bs

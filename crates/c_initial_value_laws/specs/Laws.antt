@@ -13,7 +13,8 @@ use Rattle.c_initial_values.specs.declared.values.InitialValue.{InitialValue}
 use Rattle.c_initial_values.specs.Values.{initial_value}
 use Rattle.c_initial_values.specs.Cells.{value_cells, text_cells, place_piece}
 use Rattle.c_type_laws.specs.Typed.{AreKnown, IsTypedIn}
-use Rattle.c_initial_value_laws.specs.Cells.{IsAddressIn, IsValueIn, AreInitialCells, AreBytes}
+use Rattle.mem_model.specs.Bytes.{AreBytes}
+use Rattle.c_initial_value_laws.specs.Cells.{IsAddressIn, IsValueIn, AreInitialCells}
 
 -- an address constant lies in an object of the context, where the structs that it is judged by are known there
 abbrev pub AddressIsThere : Type 0

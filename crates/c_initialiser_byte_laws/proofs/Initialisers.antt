@@ -17,7 +17,7 @@ use Rattle.c_grammar.specs.Units.{external_of, is_function, IsInit, AreInits, Is
 use Rattle.c_parser.specs.Reading.{IsRead}
 use Rattle.c_judgements.specs.Texts.{spelling_bytes}
 use Rattle.c_initialisers.specs.Values.{text_in}
-use Rattle.c_initial_value_laws.specs.Cells.{AreBytes}
+use Rattle.mem_model.specs.Bytes.{AreBytes}
 use Rattle.c_initialiser_laws.specs.Laws.{HoldsBytes, HoldBytes}
 use Rattle.c_initialiser_byte_laws.specs.Laws.{HasBytes}
 use Rattle.c_literal_byte_laws.proofs.Literals.{texts_bytes}

@@ -5,7 +5,7 @@ use Rattle.c_tree.specs.declared.declarations.External.{External}
 use Rattle.c_tree.specs.declared.declarations.External.TheVariants.{Object, Function}
 use Rattle.c_tree.specs.declared.declarations.TranslationUnit.{TranslationUnit}
 use Rattle.c_parser.specs.Reading.{IsRead}
-use Rattle.c_initial_value_laws.specs.Cells.{AreBytes}
+use Rattle.mem_model.specs.Bytes.{AreBytes}
 use Rattle.c_initialiser_laws.specs.Laws.{HoldsBytes}
 
 -- those in the initialiser of a declaration, if it has one

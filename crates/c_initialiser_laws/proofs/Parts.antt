@@ -17,7 +17,7 @@ use Rattle.c_typed_tree.specs.Typing.{is_valid_type, depth_of, most_depth}
 use Rattle.c_typed_tree.specs.Lawful.{IsLawfulStruct, IsCompleteStruct, is_object_type}
 use Rattle.c_struct_layout.proofs.Rounding.{aligned_up_ge}
 use Rattle.c_layout_laws.specs.Laws.{is_alignment}
-use Rattle.c_layout_laws.proofs.Layouts.{aligned, complete_at, struct_multiple, members_within, struct_aligned_at}
+use Rattle.c_layout_laws.proofs.Layouts.{aligned_type, complete_at, struct_multiple, members_within, struct_aligned_at}
 use Rattle.c_initial_values.specs.declared.parts.ObjectPart.{ObjectPart}
 use Rattle.c_initial_values.specs.Parts.{part_of_element, part_of_member, part_of}
 use Rattle.c_type_laws.specs.Typed.{AreKnown}
@@ -199,7 +199,7 @@ module _ (ds : List StructDef) (lawful : All (IsLawfulStruct ds) ds) where
     member_place k m place e h =
         let own = type_view m.ty in
         let kind = member_type k m e in
-        let small = aligned ds lawful own kind.0 kind.1 in
+        let small = aligned_type ds lawful own kind.0 kind.1 in
         let less : align_of ds own ≤ d.align = omega (arith, whole.layout.align, member_less ds k d.members m e) in
         multiple_sum (align_of ds own) place m.offset
         (multiple_through (align_of ds own) d.align place (less_aligned (align_of ds own) d.align small (struct_aligned_at ds lawful n d there complete) less) h)

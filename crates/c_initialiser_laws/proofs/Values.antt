@@ -29,14 +29,15 @@ use Rattle.c_initial_values.specs.Cells.{place_piece, value_cells, text_cells}
 use Rattle.c_initial_values.specs.Parts.{is_aggregate, is_character, is_room_for, part_room}
 use Rattle.c_initial_values.specs.Values.{initial_value}
 use Rattle.c_initialisers.specs.Unfit.{no_place}
-use Rattle.c_initialisers.specs.Values.{Filling, FillingState, cells_beside, put_scalar, scalar_value, fill_value, text_in, text_value, expression_value, value_or_text, single_value}
+use Rattle.c_initialisers.specs.Values.{CellsAndNotes, FillingState, cells_beside, put_scalar, scalar_value, fill_value, text_in, text_value, expression_value, value_or_text, single_value}
 use Rattle.c_type_laws.specs.Typed.{AreKnown, IsTypedIn}
 use Rattle.c_type_laws.proofs.Truth.{no_true}
 use Rattle.c_type_laws.proofs.Values.{decay_typed}
 use Rattle.c_judgement_laws.specs.Covers.{IsLawfulContext}
 use Rattle.c_judgement_laws.proofs.Notes.{later_itself, later_fault}
 use Rattle.c_struct_laws.proofs.Growth.{grow_itself}
-use Rattle.c_initial_value_laws.specs.Cells.{IsValueIn, AreInitialCells, AreBytes}
+use Rattle.mem_model.specs.Bytes.{AreBytes}
+use Rattle.c_initial_value_laws.specs.Cells.{IsValueIn, AreInitialCells}
 use Rattle.c_initial_value_laws.specs.Laws.{value_size, IsMultiple, IsPlaceFor}
 use Rattle.c_initial_value_laws.proofs.Addresses.{value_there}
 use Rattle.c_initial_value_laws.proofs.Cells.{value_put, text_put}
@@ -142,7 +143,7 @@ module _ (c : Context) (names : Type 0) (lawful : IsLawfulContext c) (ds : List 
       (fills_then c names s u (s.0, (s.1.0, with_fault e.at e.kind u.1.1)) (fills_fault {X = Unit {0}} f.at f.kind s tt) (fills_fault e.at e.kind u (λ g cells. tt)))
 
   -- what a single value leaves
-  abbrev Value : t.CType → (place : ℕ) → (given : Type 0) → FillingState → Option ℕ × Filling → Type 0
+  abbrev Value : t.CType → (place : ℕ) → (given : Type 0) → FillingState → Option ℕ × CellsAndNotes → Type 0
   Value ty place given s r = Fills c names (given → Goes c ds ty place s.0 r.0 r.1.0) s (r.1.0, (s.1.0, r.1.1))
 
   value_filled : (ty : t.CType) (place : ℕ) (a : TypedExpression) (s : FillingState) → (names → IsSpot ds ty place) → Value ty place (IsTypedIn c a) s (fill_value ty place a (s.0, s.1.1))
@@ -170,7 +171,7 @@ module _ (c : Context) (names : Type 0) (lawful : IsLawfulContext c) (ds : List 
       ((text_value place room at bytes (s.0, s.1.1)).1.0, (s.1.0, (text_value place room at bytes (s.0, s.1.1)).1.1))
   text_filled ty place room at bytes s e all = choose (is_room_for room bytes)
     where
-      text_where : Bool → Option ℕ × Filling
+      text_where : Bool → Option ℕ × CellsAndNotes
       text_where b = if b then (Some at, (place_piece place (text_cells room bytes) s.0, s.1.1)) else cells_beside s.0 (no_place BadInit at s.1.1)
 
       choose : (b : Bool) → Fills c names (Goes c ds ty place s.0 (text_where b).0 (text_where b).1.0) s ((text_where b).1.0, (s.1.0, (text_where b).1.1))

@@ -13,7 +13,8 @@ use Rattle.c_initialisers.specs.Initialisers.{object_cells}
 use Rattle.c_initialisers.specs.Unfit.{judge_init}
 use Rattle.c_judgement_laws.specs.Covers.{Knows, Takes, IsLawfulContext}
 use Rattle.c_expression_laws.specs.Laws.{HasScope}
-use Rattle.c_initial_value_laws.specs.Cells.{AreInitialCells, AreBytes}
+use Rattle.mem_model.specs.Bytes.{AreBytes}
+use Rattle.c_initial_value_laws.specs.Cells.{AreInitialCells}
 
 -- each text that fills an array holds bytes
 unfoldable mutual

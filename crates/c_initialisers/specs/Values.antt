@@ -23,8 +23,8 @@ use Rattle.c_expressions.specs.Expressions.{judge}
 use Rattle.c_initialisers.specs.Unfit.{no_place}
 
 -- the cells of an object so far, and what was noted
-abbrev pub Filling : Type 0
-Filling = List DataCell × Notes
+abbrev pub CellsAndNotes : Type 0
+CellsAndNotes = List DataCell × Notes
 
 -- these, with the names in scope
 abbrev pub FillingState : Type 0
@@ -35,7 +35,7 @@ abbrev pub cells_beside : {A S : Type 0} → List DataCell → A × S → A × (
 cells_beside cells x = (x.0, (cells, x.1))
 
 -- what is filled where names stay as they are
-abbrev pub with_env : {A : Type 0} → Env → A × Filling → A × FillingState
+abbrev pub with_env : {A : Type 0} → Env → A × CellsAndNotes → A × FillingState
 with_env env x = (x.0, (x.1.0, (env, x.1.1)))
 
 -- ---- scalars: the value is a constant, and is converted as by an assignment. Both are judged
@@ -54,18 +54,18 @@ put_scalar ty place at (Some v) false cells = (None, cells)
 put_scalar ty place at (Some v) true cells =
     (Some at, place_piece place (value_cells (integer_of (type_view ty)) v) cells)
 
-abbrev pub with_notes : {A : Type 0} → A × List DataCell → Notes → A × Filling
+abbrev pub with_notes : {A : Type 0} → A × List DataCell → Notes → A × CellsAndNotes
 with_notes r n = (r.0, (r.1, n))
 
 -- a value of which an array is a pointer already
-abbrev pub scalar_value : CType → (place : ℕ) → TypedExpression → Filling → Option ℕ × Filling
+abbrev pub scalar_value : CType → (place : ℕ) → TypedExpression → CellsAndNotes → Option ℕ × CellsAndNotes
 scalar_value ty place a f =
     and_then (constant_value a f.1) (λ v n. and_then (is_taken ty a n) (λ taken.
     with_notes (put_scalar ty place a.at v taken f.0)))
 
 -- ---- an array or a struct has no single value here
 
-abbrev pub fill_value : CType → (place : ℕ) → TypedExpression → Filling → Option ℕ × Filling
+abbrev pub fill_value : CType → (place : ℕ) → TypedExpression → CellsAndNotes → Option ℕ × CellsAndNotes
 fill_value ty place a f =
     if is_aggregate ty then cells_beside f.0 (no_place BadInit a.at f.1) else scalar_value ty place (decay a) f
 
@@ -95,7 +95,7 @@ text_in (e.Arrow' at _ x name) = None
 text_in (e.Postfix' at op _ x) = None
 text_in (e.Comma' at _ operands) = None
 
-abbrev pub text_value : (place room at : ℕ) → (bytes : List ℕ) → Filling → Option ℕ × Filling
+abbrev pub text_value : (place room at : ℕ) → (bytes : List ℕ) → CellsAndNotes → Option ℕ × CellsAndNotes
 text_value place room at bytes f =
     if is_room_for room bytes then (Some at, (place_piece place (text_cells room bytes) f.0, f.1))
     else cells_beside f.0 (no_place BadInit at f.1)

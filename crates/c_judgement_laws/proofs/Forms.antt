@@ -43,14 +43,14 @@ use Rattle.c_judgements.specs.Members.{struct_number, target_number, member_at, 
 use Rattle.c_judgements.specs.declared.members.MemberMeaning.{MemberMeaning}
 use Rattle.c_judgements.specs.declared.members.MemberMeaning.TheVariants as w
 use Rattle.c_type_laws.specs.Typed.{AreTypedIn, IsMemberOf, IsFitType}
-use Rattle.c_type_laws.proofs.Truth.{no_true, front, also, given}
+use Rattle.c_type_laws.proofs.Truth.{no_true, front, also, given_true}
 use Rattle.c_type_laws.proofs.Values.{decay_typed}
 use Rattle.c_type_laws.proofs.Places.{step_behind_typed, field_typed, arrow_typed, size_typed, number_typed}
 use Rattle.c_type_laws.proofs.Primary.{integer_constant_typed, character_constant_typed, local_typed, object_typed, comma_typed}
 use Rattle.c_type_laws.proofs.Operators.{unary_typed, binary_typed, subscript_typed, conditional_typed, assign_typed, cast_to_typed}
 use Rattle.c_judgement_laws.specs.Covers.{is_whole, IsNameIn, Knows, Takes, IsLawfulContext, IsJudged, AreJudged, Judges}
 use Rattle.c_judgement_laws.proofs.Whole.{W, V, AreWhole, IsWholeType, integer_whole, decay_whole, unary_whole, binary_whole, subscript_whole, conditional_whole, assign_whole, behind_whole, field_whole, arrow_whole, cast_whole, comma_whole}
-use Rattle.c_judgement_laws.proofs.Notes.{later_itself, later_use, later_taken, taken_memory, later_text, texts_last, found_itself, found_none, found_later, found_fault, found_ruled, joined}
+use Rattle.c_judgement_laws.proofs.Notes.{later_itself, later_use, later_taken, taken_memory, later_text, texts_last, found_itself, found_none, found_later, found_fault, found_ruled, joined_rulings}
 use Rattle.c_judgement_laws.proofs.Structs.{fit_whole, known_small, member_known}
 
 -- ---- types
@@ -62,7 +62,7 @@ fit_type_whole c (d.Unsized element) h = tt
 fit_type_whole c (d.Function result parameters) h = tt
 
 size_whole : (ds : List StructDef) (at : ℕ) (ty : CType) → IfOk (size ds at ty) V
-size_whole ds at ty = given V (is_object ds (type_view ty)) _ _ (λ s. integer_whole i.UnsignedLong) (λ s. tt)
+size_whole ds at ty = given_true V (is_object ds (type_view ty)) _ _ (λ s. integer_whole i.UnsignedLong) (λ s. tt)
 
 size_type_whole : (ds : List StructDef) (at : ℕ) (ty : DeclaredType) → IfOk (size_of_type ds at ty) V
 size_type_whole ds at (d.Value ty) = size_whole ds at ty
@@ -128,59 +128,59 @@ module _ (c : Context) (lawful : IsLawfulContext c) (names : Type 0) where
       found_later c names (IsJudged c) n (form.taken_by op a.place n) (form.apply_prefix at op a n) later
       (found_ruled c names (IsJudged c) (form.taken_by op a.place n) (unary_ruling n.structs at op a)
       (λ v k. let known = later.knows k in
-      joined c (Takes c (form.taken_by op a.place n)) (unary_ruling n.structs at op a) (unary_whole n.structs at op a (h v known).whole)
+      joined_rulings c (Takes c (form.taken_by op a.place n)) (unary_ruling n.structs at op a) (unary_whole n.structs at op a (h v known).whole)
       (λ t. unary_typed c n.structs at op a known.structs_known.complete (taken_memory c op a.place n t) ((h v known).typed (later.takes t)))))
 
   pub between_judged : (at : ℕ) (op : BinaryOp) (a b : TypedExpression) (n : Notes) → (names → Knows c n → IsJudged c (Takes c n) a) → (names → Knows c n → IsJudged c (Takes c n) b)
       → Judges c names (IsJudged c) n (form.binary_check at op a b n)
   between_judged at op a b n h g =
       found_ruled c names (IsJudged c) n (binary_ruling n.structs at op a b)
-      (λ v k. joined c (Takes c n) (binary_ruling n.structs at op a b) (binary_whole n.structs at op a b (h v k).whole (g v k).whole)
+      (λ v k. joined_rulings c (Takes c n) (binary_ruling n.structs at op a b) (binary_whole n.structs at op a b (h v k).whole (g v k).whole)
       (λ t. binary_typed c n.structs at op a b k.structs_known.complete ((h v k).typed t) ((g v k).typed t)))
 
   pub assignment_judged : (at : ℕ) (op : AssignOp) (a b : TypedExpression) (n : Notes) → (names → Knows c n → IsJudged c (Takes c n) a) → (names → Knows c n → IsJudged c (Takes c n) b)
       → Judges c names (IsJudged c) n (form.assignment_check at op a b n)
   assignment_judged at op a b n h g =
       found_ruled c names (IsJudged c) n (assign n.structs at op a b)
-      (λ v k. joined c (Takes c n) (assign n.structs at op a b) (assign_whole n.structs at op a b (h v k).whole)
+      (λ v k. joined_rulings c (Takes c n) (assign n.structs at op a b) (assign_whole n.structs at op a b (h v k).whole)
       (λ t. assign_typed c n.structs at op a b k.structs_known.complete ((h v k).typed t) ((g v k).typed t)))
 
   pub element_judged : (at : ℕ) (a b : TypedExpression) (n : Notes) → (names → Knows c n → IsJudged c (Takes c n) a) → (names → Knows c n → IsJudged c (Takes c n) b)
       → Judges c names (IsJudged c) n (form.subscript_check at a b n)
   element_judged at a b n h g =
       found_ruled c names (IsJudged c) n (subscript n.structs at a b)
-      (λ v k. joined c (Takes c n) (subscript n.structs at a b) (subscript_whole n.structs at a b (h v k).whole (g v k).whole)
+      (λ v k. joined_rulings c (Takes c n) (subscript n.structs at a b) (subscript_whole n.structs at a b (h v k).whole (g v k).whole)
       (λ t. subscript_typed c n.structs at a b k.structs_known.complete ((h v k).typed t) ((g v k).typed t)))
 
   pub choice_judged : (at : ℕ) (q a b : TypedExpression) (n : Notes) → (names → Knows c n → IsJudged c (Takes c n) q) → (names → Knows c n → IsJudged c (Takes c n) a) → (names → Knows c n → IsJudged c (Takes c n) b)
       → Judges c names (IsJudged c) n (form.choice_check at q a b n)
   choice_judged at q a b n f h g =
       found_ruled c names (IsJudged c) n (conditional_ruling at q a b)
-      (λ v k. joined c (Takes c n) (conditional_ruling at q a b) (conditional_whole at q a b (h v k).whole (g v k).whole)
+      (λ v k. joined_rulings c (Takes c n) (conditional_ruling at q a b) (conditional_whole at q a b (h v k).whole (g v k).whole)
       (λ t. conditional_typed c at q a b ((f v k).typed t) ((h v k).typed t) ((g v k).typed t)))
 
   pub cast_judged : (at : ℕ) (to : DeclaredType) (a : TypedExpression) (n : Notes) → (names → Knows c n → IsFitType c to) → (names → Knows c n → IsJudged c (Takes c n) a) → Judges c names (IsJudged c) n (form.cast_check at to a n)
   cast_judged at to a n f h =
       found_ruled c names (IsJudged c) n (cast_to at to a)
-      (λ v k. joined c (Takes c n) (cast_to at to a) (cast_whole at to a (fit_type_whole c to (f v k))) (λ t. cast_to_typed c at to a (f v k) ((h v k).typed t)))
+      (λ v k. joined_rulings c (Takes c n) (cast_to at to a) (cast_whole at to a (fit_type_whole c to (f v k))) (λ t. cast_to_typed c at to a (f v k) ((h v k).typed t)))
 
   -- the operand is not evaluated, and what it takes need not be there
   pub size_judged : (at : ℕ) (a : TypedExpression) (n : Notes) → (names → Knows c n → IsTrue (is_whole (type_view a.ty))) → Judges c names (IsJudged c) n (form.size_of_value at a n)
   size_judged at a n h =
       found_ruled c names (IsJudged c) n (size n.structs at a.ty)
-      (λ v k. joined c (Takes c n) (size n.structs at a.ty) (size_whole n.structs at a.ty) (λ t. size_typed c n.structs at a.ty (known_small c n.structs a.ty lawful k.structs_known.complete (h v k))))
+      (λ v k. joined_rulings c (Takes c n) (size n.structs at a.ty) (size_whole n.structs at a.ty) (λ t. size_typed c n.structs at a.ty (known_small c n.structs a.ty lawful k.structs_known.complete (h v k))))
 
   pub size_name_judged : (at : ℕ) (ty : DeclaredType) (n : Notes) → (names → Knows c n → IsFitType c ty) → Judges c names (IsJudged c) n (form.size_of_name at ty n)
   size_name_judged at (d.Value ty) n h =
       found_ruled c names (IsJudged c) n (size n.structs at ty)
-      (λ v k. joined c (Takes c n) (size n.structs at ty) (size_whole n.structs at ty) (λ t. size_typed c n.structs at ty (known_small c n.structs ty lawful k.structs_known.complete (fit_whole c.structs (type_view ty) (h v k)))))
+      (λ v k. joined_rulings c (Takes c n) (size n.structs at ty) (size_whole n.structs at ty) (λ t. size_typed c n.structs at ty (known_small c n.structs ty lawful k.structs_known.complete (fit_whole c.structs (type_view ty) (h v k)))))
   size_name_judged at (d.Unsized element) n h = found_fault c names (IsJudged c) at _ n
   size_name_judged at (d.Function result parameters) n h = found_fault c names (IsJudged c) at _ n
 
   pub behind_judged : (at : ℕ) (op : StepOp) (a : TypedExpression) (n : Notes) → (names → Knows c n → IsJudged c (Takes c n) a) → Judges c names (IsJudged c) n (form.postfix_check at op a n)
   behind_judged at op a n h =
       found_ruled c names (IsJudged c) n (step_behind n.structs at op a)
-      (λ v k. joined c (Takes c n) (step_behind n.structs at op a) (behind_whole n.structs at op a (h v k).whole) (λ t. step_behind_typed c n.structs at op a k.structs_known.complete ((h v k).typed t)))
+      (λ v k. joined_rulings c (Takes c n) (step_behind n.structs at op a) (behind_whole n.structs at op a (h v k).whole) (λ t. step_behind_typed c n.structs at op a k.structs_known.complete ((h v k).typed t)))
 
   -- ---- commas
 
@@ -208,7 +208,7 @@ module _ (c : Context) (lawful : IsLawfulContext c) (names : Type 0) where
 
   pub integer_judged : (at : ℕ) (spelling : List ℕ) (n : Notes) → Judges c names (IsJudged c) n (note_fault (integer_constant at spelling) n)
   integer_judged at spelling n =
-      found_ruled c names (IsJudged c) n (integer_constant at spelling) (λ v k. joined c (Takes c n) (integer_constant at spelling) (of (integer_literal spelling)) (λ t. integer_constant_typed c at spelling))
+      found_ruled c names (IsJudged c) n (integer_constant at spelling) (λ v k. joined_rulings c (Takes c n) (integer_constant at spelling) (of (integer_literal spelling)) (λ t. integer_constant_typed c at spelling))
     where
       of : (q : Option IntegerLiteral) → IfOk (literal_value at q) V
       of None = tt
@@ -216,7 +216,7 @@ module _ (c : Context) (lawful : IsLawfulContext c) (names : Type 0) where
 
   pub character_judged : (at : ℕ) (spelling : List ℕ) (n : Notes) → Judges c names (IsJudged c) n (note_fault (character_constant at spelling) n)
   character_judged at spelling n =
-      found_ruled c names (IsJudged c) n (character_constant at spelling) (λ v k. joined c (Takes c n) (character_constant at spelling) (of (character spelling)) (λ t. character_constant_typed c at spelling))
+      found_ruled c names (IsJudged c) n (character_constant at spelling) (λ v k. joined_rulings c (Takes c n) (character_constant at spelling) (of (character spelling)) (λ t. character_constant_typed c at spelling))
     where
       of : (q : Option ℕ) → IfOk (character_value at q) V
       of None = tt
@@ -262,11 +262,11 @@ module _ (c : Context) (lawful : IsLawfulContext c) (names : Type 0) where
 
   field_judged_in : (at : ℕ) (a : TypedExpression) (found : MemberMeaning) (n : Notes) → IsFoundIn c n (type_view a.ty) found → (names → Knows c n → IsJudged c (Takes c n) a) → Judges c names (IsJudged c) n (field_in at a found n)
   field_judged_in at a w.Nothing n f h =
-      found_ruled c names (IsJudged c) n (field at a None) (λ v k. joined c (Takes c n) (field at a None) (field_whole at a None tt) (λ t. field_typed c at a None ((h v k).typed t) tt))
+      found_ruled c names (IsJudged c) n (field at a None) (λ v k. joined_rulings c (Takes c n) (field at a None) (field_whole at a None tt) (λ t. field_typed c at a None ((h v k).typed t) tt))
   field_judged_in at a w.Faulty n f h = found_none c names (IsJudged c) n n (later_itself c n)
   field_judged_in at a (w.Member x) n f h =
       found_ruled c names (IsJudged c) n (field at a (Some x))
-      (λ v k. joined c (Takes c n) (field at a (Some x)) (field_whole at a (Some x) (fit_whole c.structs (type_view x.ty) (f k).fit)) (λ t. field_typed c at a (Some x) ((h v k).typed t) (f k)))
+      (λ v k. joined_rulings c (Takes c n) (field at a (Some x)) (field_whole at a (Some x) (fit_whole c.structs (type_view x.ty) (f k).fit)) (λ t. field_typed c at a (Some x) ((h v k).typed t) (f k)))
 
   pub field_judged : (at : ℕ) (name : List ℕ) (a : TypedExpression) (n : Notes) → (names → Knows c n → IsJudged c (Takes c n) a) → Judges c names (IsJudged c) n (field_named at name a n)
   field_judged at name a n h = field_judged_in at a (member_of n (struct_number (type_view a.ty)) name) n (field_found n (type_view a.ty) name) h
@@ -275,11 +275,11 @@ module _ (c : Context) (lawful : IsLawfulContext c) (names : Type 0) where
       → Judges c names (IsJudged c) n (arrow_in at a found n)
   arrow_judged_in at a w.Nothing n f h =
       found_ruled c names (IsJudged c) n (arrow n.structs at a None)
-      (λ v k. joined c (Takes c n) (arrow n.structs at a None) (arrow_whole n.structs at a None tt) (λ t. arrow_typed c n.structs at a None ((h v k).typed t) tt))
+      (λ v k. joined_rulings c (Takes c n) (arrow n.structs at a None) (arrow_whole n.structs at a None tt) (λ t. arrow_typed c n.structs at a None ((h v k).typed t) tt))
   arrow_judged_in at a w.Faulty n f h = found_none c names (IsJudged c) n n (later_itself c n)
   arrow_judged_in at a (w.Member x) n f h =
       found_ruled c names (IsJudged c) n (arrow n.structs at a (Some x))
-      (λ v k. joined c (Takes c n) (arrow n.structs at a (Some x)) (arrow_whole n.structs at a (Some x) (fit_whole c.structs (type_view x.ty) (f k).fit))
+      (λ v k. joined_rulings c (Takes c n) (arrow n.structs at a (Some x)) (arrow_whole n.structs at a (Some x) (fit_whole c.structs (type_view x.ty) (f k).fit))
       (λ t. arrow_typed c n.structs at a (Some x) ((h v k).typed t) (f k)))
 
   pub arrow_judged : (at : ℕ) (name : List ℕ) (a : TypedExpression) (n : Notes) → (names → Knows c n → IsJudged c (Takes c n) a) → Judges c names (IsJudged c) n (arrow_named at name a n)

@@ -125,6 +125,6 @@ module _ (c : Context) (names : Type 0) {A : Type 0} (P : Type 0 → A → Type 
   found_ruled n (Err f) h = found_none n (with_fault f.at f.kind n) (later_fault c f.at f.kind n)
 
 -- both parts of what a rule gives
-pub joined : (c : Context) (taken : Type 0) (r : Ruling TypedExpression) → IfOk r V → (taken → IfOk r (IsTypedIn c)) → IfOk r (IsJudged c taken)
-joined c taken (Ok a) h g = record { whole = h; typed = g }
-joined c taken (Err f) h g = tt
+pub joined_rulings : (c : Context) (taken : Type 0) (r : Ruling TypedExpression) → IfOk r V → (taken → IfOk r (IsTypedIn c)) → IfOk r (IsJudged c taken)
+joined_rulings c taken (Ok a) h g = record { whole = h; typed = g }
+joined_rulings c taken (Err f) h g = tt

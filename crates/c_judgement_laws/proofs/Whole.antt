@@ -38,7 +38,7 @@ use Rattle.c_operators.specs.Binary as binaries
 use Rattle.c_operators.specs.Assigned as assigned
 use Rattle.c_operators.specs.Casts as casts
 use Rattle.c_operators.specs.Null.{is_null_for}
-use Rattle.c_type_laws.proofs.Truth.{given, given_some, along}
+use Rattle.c_type_laws.proofs.Truth.{given_true, given_some, along}
 use Rattle.c_type_laws.proofs.Values.{ElementIs, element_says}
 use Rattle.c_type_laws.proofs.Places.{Leads, object_says}
 use Rattle.c_judgement_laws.specs.Covers.{is_whole}
@@ -86,7 +86,7 @@ unary_of_whole at op a None = tt
 unary_of_whole at op a (Some s) = integer_whole (promote s)
 
 step_whole : (ds : List StructDef) (at : ℕ) (op : UnaryOp) (a : TypedExpression) → V a → IfOk (places.step_before ds at op a) V
-step_whole ds at op a h = given V (places.is_assignable a) _ _ (λ s. given V (places.is_steppable ds a) _ _ (λ k. h) (λ k. tt)) (λ s. tt)
+step_whole ds at op a h = given_true V (places.is_assignable a) _ _ (λ s. given_true V (places.is_steppable ds a) _ _ (λ k. h) (λ k. tt)) (λ s. tt)
 
 dereference_whole : (ds : List StructDef) (at : ℕ) (a : TypedExpression) (q : Option t.CType) → V a → IfSome q (Leads ds (type_view a.ty)) → IfOk (places.dereference_of at a q) V
 dereference_whole ds at a None h k = tt
@@ -95,12 +95,12 @@ dereference_whole ds at a (Some x) h k = led_whole ds a.ty x h k
 pub unary_whole : (ds : List StructDef) (at : ℕ) (op : UnaryOp) (a : TypedExpression) → V a → IfOk (operators.unary_ruling ds at op a) V
 unary_whole ds at u.Increment a h = step_whole ds at u.Increment a h
 unary_whole ds at u.Decrement a h = step_whole ds at u.Decrement a h
-unary_whole ds at u.Address a h = given V (places.is_somewhere a.place) _ _ (λ s. pointer_whole a.ty h) (λ s. tt)
+unary_whole ds at u.Address a h = given_true V (places.is_somewhere a.place) _ _ (λ s. pointer_whole a.ty h) (λ s. tt)
 unary_whole ds at u.Dereference a h = dereference_whole ds at (decay a) (places.object_of ds (decay a).ty) (decay_whole a h) (object_says ds (decay a).ty)
 unary_whole ds at u.Plus a h = unary_of_whole at u.Plus (decay a) (integer (decay a))
 unary_whole ds at u.Minus a h = unary_of_whole at u.Minus (decay a) (integer (decay a))
 unary_whole ds at u.Invert a h = unary_of_whole at u.Invert (decay a) (integer (decay a))
-unary_whole ds at u.Not a h = given V (is_scalar (type_view (decay a).ty)) _ _ (λ s. integer_whole i.Int) (λ s. tt)
+unary_whole ds at u.Not a h = given_true V (is_scalar (type_view (decay a).ty)) _ _ (λ s. integer_whole i.Int) (λ s. tt)
 
 -- ---- between operands
 
@@ -116,27 +116,27 @@ shift_whole at op x y (Some s) (Some k) = integer_whole (promote s)
 
 sum_whole : (ds : List StructDef) (at : ℕ) (x y : TypedExpression) → V x → V y → IfOk (arithmetic.addition ds at x y) V
 sum_whole ds at x y h g =
-    given V (points_to_object ds (type_view x.ty)) _ _
-    (λ p. given V (is_integer (type_view y.ty)) _ _ (λ n. h) (λ n. tt))
-    (λ p. given V (points_to_object ds (type_view y.ty)) _ _
-    (λ q. given V (is_integer (type_view x.ty)) _ _ (λ n. g) (λ n. tt))
+    given_true V (points_to_object ds (type_view x.ty)) _ _
+    (λ p. given_true V (is_integer (type_view y.ty)) _ _ (λ n. h) (λ n. tt))
+    (λ p. given_true V (points_to_object ds (type_view y.ty)) _ _
+    (λ q. given_true V (is_integer (type_view x.ty)) _ _ (λ n. g) (λ n. tt))
     (λ q. arithmetic_whole at b.Add x y (integer x) (integer y)))
 
 difference_whole : (ds : List StructDef) (at : ℕ) (x y : TypedExpression) → V x → V y → IfOk (arithmetic.subtraction ds at x y) V
 difference_whole ds at x y h g =
-    given V (points_to_object ds (type_view x.ty)) _ _
-    (λ p. given V (is_integer (type_view y.ty)) _ _ (λ n. h)
-    (λ n. given V (is_same x.ty y.ty) _ _ (λ s. integer_whole i.Long) (λ s. tt)))
+    given_true V (points_to_object ds (type_view x.ty)) _ _
+    (λ p. given_true V (is_integer (type_view y.ty)) _ _ (λ n. h)
+    (λ n. given_true V (is_same x.ty y.ty) _ _ (λ s. integer_whole i.Long) (λ s. tt)))
     (λ p. arithmetic_whole at b.Subtract x y (integer x) (integer y))
 
 logical_whole : (at : ℕ) (op : BinaryOp) (x y : TypedExpression) → IfOk (comparisons.logical at op x y) V
 logical_whole at op x y =
-    given V (is_scalar (type_view x.ty)) _ _ (λ s. given V (is_scalar (type_view y.ty)) _ _ (λ k. integer_whole i.Int) (λ k. tt)) (λ s. tt)
+    given_true V (is_scalar (type_view x.ty)) _ _ (λ s. given_true V (is_scalar (type_view y.ty)) _ _ (λ k. integer_whole i.Int) (λ k. tt)) (λ s. tt)
 
 ordered_whole : (at : ℕ) (op : BinaryOp) (x y : TypedExpression) (q r : Option IntegerType) → IfOk (comparisons.comparison_of at op x y q r) V
 ordered_whole at op x y (Some s) (Some k) = integer_whole i.Int
 ordered_whole at op x y (Some s) None = tt
-ordered_whole at op x y None r = given V (comparisons.are_pointers_of_one_type x y) _ _ (λ s. integer_whole i.Int) (λ s. tt)
+ordered_whole at op x y None r = given_true V (comparisons.are_pointers_of_one_type x y) _ _ (λ s. integer_whole i.Int) (λ s. tt)
 
 equal_whole : (at : ℕ) (op : BinaryOp) (x y : TypedExpression) (q : Option t.CType) → IfOk (conversions.equal_pointers at op x y q) V
 equal_whole at op x y None = tt
@@ -172,11 +172,11 @@ binary_whole ds at op x y h g = between_whole ds at op (decay x) (decay y) (deca
 
 element_whole : (ds : List StructDef) (at : ℕ) (x y : TypedExpression) (ty : t.CType) (is_index : Bool) (q : Option t.CType) → W ty → IfSome q (Leads ds (type_view ty)) → IfOk (places.element_by_index at x y is_index q) V
 element_whole ds at x y ty is_index None h k = tt
-element_whole ds at x y ty is_index (Some z) h k = given V is_index _ _ (λ s. led_whole ds ty z h k) (λ s. tt)
+element_whole ds at x y ty is_index (Some z) h k = given_true V is_index _ _ (λ s. led_whole ds ty z h k) (λ s. tt)
 
 pub subscript_whole : (ds : List StructDef) (at : ℕ) (x y : TypedExpression) → V x → V y → IfOk (binaries.subscript ds at x y) V
 subscript_whole ds at x y h g =
-    given V (points_to_object ds (type_view (decay x).ty)) _ _
+    given_true V (points_to_object ds (type_view (decay x).ty)) _ _
     (λ p. element_whole ds at (decay x) (decay y) (decay x).ty _ (places.object_of ds (decay x).ty) (decay_whole x h) (object_says ds (decay x).ty))
     (λ p. element_whole ds at (decay x) (decay y) (decay y).ty _ (places.object_of ds (decay y).ty) (decay_whole y g) (object_says ds (decay y).ty))
 
@@ -197,7 +197,7 @@ met_whole at c x y None h = tt
 met_whole at c x y (Some ty) h = h
 
 apart_whole : (at : ℕ) (c : TExpr) (x y : TypedExpression) (na nb : Bool) → V x → V y → IfOk (conversions.choice_apart at c x y na nb) V
-apart_whole at c x y na nb h g = given V (is_same x.ty y.ty) _ _ (λ s. h) (λ s. met_whole at c x y (meet x.ty y.ty na nb) (meet_whole x.ty y.ty na nb h g))
+apart_whole at c x y na nb h g = given_true V (is_same x.ty y.ty) _ _ (λ s. h) (λ s. met_whole at c x y (meet x.ty y.ty na nb) (meet_whole x.ty y.ty na nb h g))
 
 choice_whole : (at : ℕ) (c : TExpr) (x y : TypedExpression) (na nb : Bool) (q r : Option IntegerType) → V x → V y → IfOk (conversions.choice_of at c x y na nb q r) V
 choice_whole at c x y na nb (Some s) (Some k) h g = integer_whole (common s k)
@@ -222,14 +222,14 @@ moved_whole : (ds : List StructDef) (at : ℕ) (op : AssignOp) (x y : TypedExpre
 moved_whole ds at op x y None None h = tt
 moved_whole ds at op x y (Some s) None h = tt
 moved_whole ds at op x y None (Some k) h =
-    given V (assignments.moves op) _ _ (λ m. given V (points_to_object ds (type_view x.ty)) _ _ (λ p. h) (λ p. tt)) (λ m. tt)
+    given_true V (assignments.moves op) _ _ (λ m. given_true V (points_to_object ds (type_view x.ty)) _ _ (λ p. h) (λ p. tt)) (λ m. tt)
 moved_whole ds at op x y (Some s) (Some k) h = h
 
 compound_whole : (ds : List StructDef) (at : ℕ) (op : AssignOp) (x y : TypedExpression) → V x → IfOk (assignments.compound ds at op x y) V
-compound_whole ds at op x y h = given V (places.is_assignable x) _ _ (λ s. moved_whole ds at op x y (integer x) (integer y) h) (λ s. tt)
+compound_whole ds at op x y h = given_true V (places.is_assignable x) _ _ (λ s. moved_whole ds at op x y (integer x) (integer y) h) (λ s. tt)
 
 value_whole : (ds : List StructDef) (at : ℕ) (op : AssignOp) (x y : TypedExpression) → V x → IfOk (assigned.assign_rvalue ds at op x y) V
-value_whole ds at o.Set x y h = given V (places.is_assignable x) _ _ (λ s. set_whole at x (conversions.value_for_type x.ty y (is_null_for x.ty y)) h) (λ s. tt)
+value_whole ds at o.Set x y h = given_true V (places.is_assignable x) _ _ (λ s. set_whole at x (conversions.value_for_type x.ty y (is_null_for x.ty y)) h) (λ s. tt)
 value_whole ds at o.Multiply x y h = compound_whole ds at o.Multiply x y h
 value_whole ds at o.Divide x y h = compound_whole ds at o.Divide x y h
 value_whole ds at o.Remainder x y h = compound_whole ds at o.Remainder x y h
@@ -247,19 +247,19 @@ assign_whole ds at op x y h = value_whole ds at op x (decay y) h
 -- ---- steps, members, casts and commas
 
 pub behind_whole : (ds : List StructDef) (at : ℕ) (op : StepOp) (a : TypedExpression) → V a → IfOk (places.step_behind ds at op a) V
-behind_whole ds at op a h = given V (places.is_assignable a) _ _ (λ s. given V (places.is_steppable ds a) _ _ (λ k. h) (λ k. tt)) (λ s. tt)
+behind_whole ds at op a h = given_true V (places.is_assignable a) _ _ (λ s. given_true V (places.is_steppable ds a) _ _ (λ k. h) (λ k. tt)) (λ s. tt)
 
 abbrev pub IsWholeMember : Option FoundMember → Type 0
 IsWholeMember None = Unit {0}
 IsWholeMember (Some m) = W m.ty
 
 pub field_whole : (at : ℕ) (a : TypedExpression) (q : Option FoundMember) → IsWholeMember q → IfOk (members.field at a q) V
-field_whole at a None h = given V (members.is_struct_place a) _ _ (λ s. tt) (λ s. tt)
-field_whole at a (Some m) h = given V (members.is_struct_place a) _ _ (λ s. h) (λ s. tt)
+field_whole at a None h = given_true V (members.is_struct_place a) _ _ (λ s. tt) (λ s. tt)
+field_whole at a (Some m) h = given_true V (members.is_struct_place a) _ _ (λ s. h) (λ s. tt)
 
 pub arrow_whole : (ds : List StructDef) (at : ℕ) (a : TypedExpression) (q : Option FoundMember) → IsWholeMember q → IfOk (members.arrow ds at a q) V
-arrow_whole ds at a None h = given V (points_to_struct ds (type_view a.ty)) _ _ (λ s. tt) (λ s. tt)
-arrow_whole ds at a (Some m) h = given V (points_to_struct ds (type_view a.ty)) _ _ (λ s. h) (λ s. tt)
+arrow_whole ds at a None h = given_true V (points_to_struct ds (type_view a.ty)) _ _ (λ s. tt) (λ s. tt)
+arrow_whole ds at a (Some m) h = given_true V (points_to_struct ds (type_view a.ty)) _ _ (λ s. h) (λ s. tt)
 
 abbrev pub IsWholeType : DeclaredType → Type 0
 IsWholeType (d.Value ty) = W ty
@@ -267,7 +267,7 @@ IsWholeType (d.Unsized element) = Unit {0}
 IsWholeType (d.Function result parameters) = Unit {0}
 
 pub cast_whole : (at : ℕ) (to : DeclaredType) (a : TypedExpression) → IsWholeType to → IfOk (casts.cast_to at to a) V
-cast_whole at (d.Value ty) a h = given V (conversions.is_castable ty (decay a) (is_null_for ty (decay a))) _ _ (λ s. h) (λ s. tt)
+cast_whole at (d.Value ty) a h = given_true V (conversions.is_castable ty (decay a) (is_null_for ty (decay a))) _ _ (λ s. h) (λ s. tt)
 cast_whole at (d.Unsized x) a h = tt
 cast_whole at (d.Function x xs) a h = tt
 

@@ -9,16 +9,14 @@ use crate::leaves::no_type;
 use c_checks::{Env, NameMeaning, Notes, declare, note, note_fault, stands_here};
 use c_constant_rules::values::length;
 use c_declared_types::{
-    DeclaredType, array_of, function_of, is_declarable, is_deep_at_most, parameter_of, pointer_to,
+    DeclaredType, MOST_DEPTH, array_of, function_of, is_declarable, is_deep_at_most, parameter_of,
+    pointer_to,
 };
 use c_tree::{Name, Seq};
 use c_type_faults::Kind;
 use c_type_rules::TypedExpression;
 use c_typed_tree::CType;
 use std::alloc::{AllocError, Global};
-
-/// The greatest depth of a type that is declared.
-const MOST_DEPTH: u64 = 256;
 
 /// The type that there is, or the fault that there is none.
 fn there(

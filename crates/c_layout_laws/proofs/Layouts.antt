@@ -73,10 +73,10 @@ module _ (ds : List StructDef) where
     complete_at n d e c = subst (IsStruct ds d) c (all_at (IsLawfulStruct ds) ds n d lawful e)
 
     -- what is to be shown of each type
-    abbrev Aligned : PlainType → Type 0
-    Aligned ty = IsTrue (is_valid_type ds ty) → IsTrue (is_object ds ty) → IsTrue (is_alignment (align_of ds ty))
+    abbrev IsAligned : PlainType → Type 0
+    IsAligned ty = IsTrue (is_valid_type ds ty) → IsTrue (is_object ds ty) → IsTrue (is_alignment (align_of ds ty))
 
-    module _ (k : ℕ) (below : (ty : PlainType) → depth_of ds ty ≤ k → Aligned ty) where
+    module _ (k : ℕ) (below : (ty : PlainType) → depth_of ds ty ≤ k → IsAligned ty) where
       members_aligned : (ms : List Member) → greatest_depth ds ms ≤ k → IsTrue (list_all (λ (m : Member). is_object_type ds (type_view m.ty)) ms) → IsTrue (is_alignment (greatest_align ds ms))
       members_aligned [] d h = refl
       members_aligned (m ∷ ms) d h =
@@ -95,7 +95,7 @@ module _ (ds : List StructDef) where
           let low : greatest_depth ds d.members ≤ k = omega (arith, whole.depth, h) in
           rw whole.layout.align (members_aligned d.members low whole.types)
 
-      one_more : (ty : PlainType) → depth_of ds ty ≤ suc k → Aligned ty
+      one_more : (ty : PlainType) → depth_of ds ty ≤ suc k → IsAligned ty
       one_more Void h t o = no_true o
       one_more (Int n s) h t o = integer_aligned n s t
       one_more (Pointer x) h t o = refl
@@ -104,12 +104,12 @@ module _ (ds : List StructDef) where
           (front (is_object ds x) (nat_le 1 n) (front (is_object ds x && nat_le 1 n) (nat_le (size_of ds x * n) MOST_DATA) o))
       one_more (Struct n) h t o = struct_aligned n (slice_get ds n) refl h o
 
-    type_aligned : (k : ℕ) (ty : PlainType) → depth_of ds ty ≤ k → Aligned ty
+    type_aligned : (k : ℕ) (ty : PlainType) → depth_of ds ty ≤ k → IsAligned ty
     type_aligned zero ty h = absurd (omega (arith, h, depth_above ty))
     type_aligned (suc k) ty h = one_more k (type_aligned k) ty h
 
-    pub aligned : (ty : PlainType) → Aligned ty
-    aligned ty = type_aligned (depth_of ds ty) ty (omega arith)
+    pub aligned_type : (ty : PlainType) → IsAligned ty
+    aligned_type ty = type_aligned (depth_of ds ty) ty (omega arith)
 
     -- ---- structs
 

@@ -11,26 +11,26 @@ use Rattle.c_lexer.proofs.Fronts.{Answers, front_answers}
 use Rattle.c_lexer.proofs.Once.{cuts_some}
 
 -- whole pieces up to the end, or to where no piece begins
-record Reached (text : List ℕ) (at : ℕ) : Type 0 where
+record HasWholePieces (text : List ℕ) (at : ℕ) : Type 0 where
   tokens : List Lexeme
   to : ℕ
   pieces : Pieces text at tokens to
   stops : (to ≡ length text) ⊎ IsStuck text to
 
-goes_on : (text : List ℕ) (at n : ℕ) (x : Piece) → Cuts text at n x → Reached text (at + n) → Reached text at
+goes_on : (text : List ℕ) (at n : ℕ) (x : Piece) → Cuts text at n x → HasWholePieces text (at + n) → HasWholePieces text at
 goes_on text at n p.Blank c r = record { tokens = r.tokens; to = r.to; pieces = Pieces.blank n r.tokens c r.pieces; stops = r.stops }
 goes_on text at n (p.Token kind) c r =
     record { tokens = lexeme text (record { kind = kind; at = at; len = n }) ∷ r.tokens; to = r.to; pieces = Pieces.token n kind r.tokens c r.pieces; stops = r.stops }
 
 from_front : (text : List ℕ) (at : ℕ) (o : Option Cut) → at < length text → Answers (is_line_start (take at text)) (drop at text) o
-    → ((i : ℕ) → at < i → i ≤ length text → Reached text i) → Reached text at
+    → ((i : ℕ) → at < i → i ≤ length text → HasWholePieces text i) → HasWholePieces text at
 from_front text at None lt answers next = record { tokens = []; to = at; pieces = Pieces.none; stops = inr (record { some = lt; none = λ n x c. answers n x c.begins_with }) }
 from_front text at (Some cut) lt answers next =
     let c : Cuts text at cut.len cut.piece = record { begins_with = answers } in
     let w = cuts_some text at cut.len cut.piece c in
     goes_on text at cut.len cut.piece c (next (at + cut.len) (omega arith) w.1)
 
-reaches : (fuel : ℕ) (text : List ℕ) (at : ℕ) → at ≤ length text → length text ≤ at + fuel → Reached text at
+reaches : (fuel : ℕ) (text : List ℕ) (at : ℕ) → at ≤ length text → length text ≤ at + fuel → HasWholePieces text at
 reaches zero text at le enough = record { tokens = []; to = at; pieces = Pieces.none; stops = inl (omega arith) }
 reaches (suc fuel) text at le enough = ⊎_elim
     (λ (lt : at < length text). from_front text at (front (is_line_start (take at text)) (drop at text)) lt (front_answers (is_line_start (take at text)) (drop at text))

@@ -15,9 +15,9 @@ unfolding piece_of
 not_empty first s zero x b = let is = b.piece.is in cc
 not_empty first s (suc n) x b = omega arith
 
-pub found : (first : Bool) (s : List ℕ) (o : Option Cut) → o ≡ front first s → IfSome o (λ c. Begins first s c.len c.piece)
-found first s None e = tt
-found first s (Some c) e = answers first s (Some c) e
+pub found_piece : (first : Bool) (s : List ℕ) (o : Option Cut) → o ≡ front first s → IfSome o (λ c. Begins first s c.len c.piece)
+found_piece first s None e = tt
+found_piece first s (Some c) e = answers first s (Some c) e
 
 pub some : (first : Bool) (s : List ℕ) (o : Option Cut) → o ≡ front first s → IfSome o (λ c. 0 < c.len)
 some first s None e = tt

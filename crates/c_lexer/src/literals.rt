@@ -6,6 +6,9 @@ ghost use Rattle.c_lexer.specs.Literals as spec;
 
 use crate::bytes::{hex_len, is_digit, is_octal, octal_len};
 
+/// The greatest value of a byte (C99 5.2.4.2.1).
+const MOST_BYTE: u16 = 255;
+
 /// One item of a literal: the byte that it stands for, and how many bytes spell it.
 #[derive(Clone, Copy, Debug, PartialEq, Eq)]
 pub struct Item {
@@ -54,7 +57,7 @@ fn value_of(base: u16, digits: &[u8]) -> Option<u8>
     let mut value: u16 = 0;
     for b in digits {
         value = value * base + u16::from(digit_value(*b));
-        if value > 255 {
+        if value > MOST_BYTE {
             return None;
         }
     }

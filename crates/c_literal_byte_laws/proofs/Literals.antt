@@ -8,7 +8,7 @@ use Rattle.c_lexer.specs.Literals.{value_in, byte, item, simple_value, octal_ite
 use Rattle.c_lexer.specs.declared.literals.Item.{Item}
 use Rattle.c_literals.specs.Texts.{with_item_byte, bytes_behind, text_bytes}
 use Rattle.c_judgements.specs.Texts.{join_spellings, spelling_bytes}
-use Rattle.c_initial_value_laws.specs.Cells.{AreBytes}
+use Rattle.mem_model.specs.Bytes.{AreBytes}
 
 -- ---- values of items
 

@@ -73,7 +73,7 @@ fn with_digit(base: u64, value: Option<u64>, b: u8) -> Option<u64>
         None => None,
         Some(value) => {
             let next = u128::from(value) * u128::from(base) + u128::from(digit_value(b));
-            if next <= 0xffff_ffff_ffff_ffff {
+            if next <= u128::from(u64::MAX) {
                 Some(next as u64)
             } else {
                 None

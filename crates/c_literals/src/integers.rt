@@ -45,16 +45,7 @@ fn has_l(suffix: &[u8]) -> bool
 fn holds(ty: IntegerType, n: u64) -> bool
     ensures { result ≡ fits ty (pos n) }
 {
-    match ty {
-        IntegerType::Char => n <= 0x7f,
-        IntegerType::UnsignedChar => n <= 0xff,
-        IntegerType::Short => n <= 0x7fff,
-        IntegerType::UnsignedShort => n <= 0xffff,
-        IntegerType::Int => n <= 0x7fff_ffff,
-        IntegerType::UnsignedInt => n <= 0xffff_ffff,
-        IntegerType::Long => n <= 0x7fff_ffff_ffff_ffff,
-        IntegerType::UnsignedLong => n <= 0xffff_ffff_ffff_ffff,
-    }
+    n <= ty.greatest()
 }
 
 /// Whether a constant may have the type, by how it is spelled.

@@ -6,14 +6,11 @@ ghost use Rattle.c_type_faults.specs.declared.faults.Kind.TheVariants.{BadType};
 ghost use Rattle.c_local_rules.specs.Objects as spec;
 
 use c_checks::{Notes, note};
-use c_declared_types::{DeclaredType, is_deep_at_most, parameter_of};
+use c_declared_types::{DeclaredType, MOST_DEPTH, is_deep_at_most, parameter_of};
 use c_tag_bodies::is_member;
 use c_type_faults::Kind;
 use c_typed_tree::CType;
 use std::alloc::{AllocError, Global};
-
-/// The greatest depth of a type that is declared.
-const MOST_DEPTH: u64 = 256;
 
 fn no_object(notes: &mut Notes<'_>, at: u32) -> Result<Option<CType>, AllocError>
     ensures { Finds (spec.no_object_type at notes.old) result notes.new }

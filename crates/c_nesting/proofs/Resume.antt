@@ -7,11 +7,11 @@ use Rattle.c_nesting.specs.declared.nesting.Group.{Group}
 use Rattle.c_nesting.specs.Nesting.{GroupItem, token, group, ends_segment, begins_else, segments, item_value, group_value, Levels, open_to_end, closed, inner_items, brace, levels_around, prepend, place_token, levels, outer_items, nesting}
 use Rattle.c_nesting.specs.Nesting.{count_of_item as counted_of}
 use Rattle.c_nesting.specs.model.Walking.{State, empty, start, cost_of, next_segment, with_one, with_group, at_token, close, act, step, total}
-use Rattle.c_nesting.proofs.Segments.{left, joined-zero, left-push, left-nil, left_next}
+use Rattle.c_nesting.proofs.Segments.{left_nesting, joined-zero, left-push, left-nil, left_next}
 
 -- the greatest cost of the segments of a group that these items end
 abbrev pub group_cost : Group → Bool → List GroupItem → ℕ
-group_cost g ended items = max g.greatest (left ended g.count g.value items)
+group_cost g ended items = max g.greatest (left_nesting ended g.count g.value items)
 
 -- the nesting of the whole, where these groups are open and this is left
 abbrev pub resume : List Group → Group → Bool → Levels → ℕ

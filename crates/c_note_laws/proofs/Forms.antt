@@ -52,9 +52,9 @@ use Rattle.c_note_laws.specs.Steps.NoteSteps.{Stays, Follows, AddsFault, AddsUse
 pub adds_then : (n m o : Notes) → NoteSteps n m → NoteSteps m o → NoteSteps n o
 adds_then n m o h g = Follows h g
 
-pub ruled : {A : Type 0} (r : Ruling A) (n : Notes) → NoteSteps n (note_fault r n).1
-ruled (Ok a) n = Stays
-ruled (Err f) n = AddsFault f.at f.kind
+pub ruled_steps : {A : Type 0} (r : Ruling A) (n : Notes) → NoteSteps n (note_fault r n).1
+ruled_steps (Ok a) n = Stays
+ruled_steps (Err f) n = AddsFault f.at f.kind
 
 pub each_adds : {A B : Type 0} (o : Option A) (f : A → Notes → Option B × Notes) (n : Notes) → ((a : A) → NoteSteps n (f a n).1) → NoteSteps n (each o f n).1
 each_adds None f n h = Stays
@@ -84,13 +84,13 @@ taken_adds u.Invert stands n = Stays
 taken_adds u.Not stands n = Stays
 
 pub prefix_adds : (at : ℕ) (op : UnaryOp) (a : TypedExpression) (n : Notes) → NoteSteps n (apply_prefix at op a n).1
-prefix_adds at op a n = adds_then n (taken_by op a.place n) (apply_prefix at op a n).1 (taken_adds op a.place n) (ruled (unary_ruling n.structs at op a) (taken_by op a.place n))
+prefix_adds at op a n = adds_then n (taken_by op a.place n) (apply_prefix at op a n).1 (taken_adds op a.place n) (ruled_steps (unary_ruling n.structs at op a) (taken_by op a.place n))
 
 pub choice_adds : (at : ℕ) (c a b : Option TypedExpression) (n : Notes) → NoteSteps n (choice_of_parts at c a b n).1
 choice_adds at None a b n = Stays
 choice_adds at (Some c) None b n = Stays
 choice_adds at (Some c) (Some a) None n = Stays
-choice_adds at (Some c) (Some a) (Some b) n = ruled _ n
+choice_adds at (Some c) (Some a) (Some b) n = ruled_steps _ n
 
 between_adds : (at : ℕ) (l : List TypedExpression) (n : Notes) → NoteSteps n (commas_between at l n).1
 between_adds at l n = choose (are_two_or_more l)
@@ -136,7 +136,7 @@ arguments_adds [] args found n = Stays
 arguments_adds (ty ∷ tys) [] found n = Stays
 arguments_adds (ty ∷ tys) (a ∷ args) found n =
     let r = argument ty a n in
-    adds_then n r.1 (convert_arguments tys args (append_part found r.0) r.1).1 (ruled (take_value ty a) n) (arguments_adds tys args (append_part found r.0) r.1)
+    adds_then n r.1 (convert_arguments tys args (append_part found r.0) r.1).1 (ruled_steps (take_value ty a) n) (arguments_adds tys args (append_part found r.0) r.1)
 
 call_of_adds : (at : ℕ) (callee : Callee) (ty : CType) (tys : List CType) (args : List TypedExpression) (n : Notes) → NoteSteps n (call_of at callee ty tys args n).1
 call_of_adds at callee ty tys args n = of (count_arguments at tys args)
@@ -156,17 +156,17 @@ call_adds at (Some (m.Function callee result parameters)) args n = each_adds arg
 call_adds at (Some (m.Typedef ty)) args n = AddsFault at NotFunction
 
 field_adds_in : (at : ℕ) (a : TypedExpression) (x : MemberMeaning) (n : Notes) → NoteSteps n (field_in at a x n).1
-field_adds_in at a q.Nothing n = ruled _ n
+field_adds_in at a q.Nothing n = ruled_steps _ n
 field_adds_in at a q.Faulty n = Stays
-field_adds_in at a (q.Member found) n = ruled _ n
+field_adds_in at a (q.Member found) n = ruled_steps _ n
 
 pub field_adds : (at : ℕ) (name : List ℕ) (a : TypedExpression) (n : Notes) → NoteSteps n (field_named at name a n).1
 field_adds at name a n = field_adds_in at a (member_of n (struct_number (type_view a.ty)) name) n
 
 arrow_adds_in : (at : ℕ) (a : TypedExpression) (x : MemberMeaning) (n : Notes) → NoteSteps n (arrow_in at a x n).1
-arrow_adds_in at a q.Nothing n = ruled _ n
+arrow_adds_in at a q.Nothing n = ruled_steps _ n
 arrow_adds_in at a q.Faulty n = Stays
-arrow_adds_in at a (q.Member found) n = ruled _ n
+arrow_adds_in at a (q.Member found) n = ruled_steps _ n
 
 pub arrow_adds : (at : ℕ) (name : List ℕ) (a : TypedExpression) (n : Notes) → NoteSteps n (arrow_named at name a n).1
 arrow_adds at name a n = arrow_adds_in at (decay a) (member_of n (target_number (type_view (decay a).ty)) name) n

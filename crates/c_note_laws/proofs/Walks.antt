@@ -19,7 +19,7 @@ use Rattle.c_judgements.specs.Types.{JudgementState, in_env, pointer, given_leng
 use Rattle.c_expressions.specs.Expressions.{judge, judge_row, derive, judge_length_held, judge_parameter_row}
 use Rattle.c_note_laws.specs.Steps.{NoteSteps}
 use Rattle.c_note_laws.specs.Steps.NoteSteps.{Stays, Aside}
-use Rattle.c_note_laws.proofs.Forms.{adds_then, ruled, each_adds, both_adds, prefix_adds, choice_adds, commas_adds, name_adds, string_adds, call_adds, field_adds, arrow_adds, leaf_adds, there_adds, named_type_adds, parameter_adds}
+use Rattle.c_note_laws.proofs.Forms.{adds_then, ruled_steps, each_adds, both_adds, prefix_adds, choice_adds, commas_adds, name_adds, string_adds, call_adds, field_adds, arrow_adds, leaf_adds, there_adds, named_type_adds, parameter_adds}
 
 -- a form of one part, and of two
 one_part : {A B : Type 0} (n m : Notes) (o : Option A) (f : A → Notes → Option B × Notes) → NoteSteps n m → ((a : A) → NoteSteps m (f a m).1) → NoteSteps n (each o f m).1
@@ -30,8 +30,8 @@ mutual
 
   pub judge_adds : (x : e.Expr) (s : JudgementState) → NoteSteps s.1 (judge x s).1.1
   judge_adds (e.Name at name) s = name_adds at (meaning_of s.0 name) s.1
-  judge_adds (e.Number at spelling) s = ruled (integer_constant at spelling) s.1
-  judge_adds (e.Character at spelling) s = ruled (character_constant at spelling) s.1
+  judge_adds (e.Number at spelling) s = ruled_steps (integer_constant at spelling) s.1
+  judge_adds (e.Character at spelling) s = ruled_steps (character_constant at spelling) s.1
   judge_adds (e.Text at spellings) s = string_adds at spellings s.1
   judge_adds (e.Call' at name _ arguments) s =
       let u = (judge_row arguments (Some []) s) in
@@ -40,10 +40,10 @@ mutual
       one_part s.1 (judge x s).1.1 (judge x s).0 (apply_prefix at op) (judge_adds x s) (λ a. prefix_adds at op a (judge x s).1.1)
   judge_adds (e.Binary' at op _ (k.more_of-Expr x k.end_of-Expr) _ (k.more_of-Expr y k.end_of-Expr)) s =
       let u = (judge x s).1 in let v = (judge y u).1 in
-      adds_then s.1 v.1 _ (adds_then s.1 u.1 v.1 (judge_adds x s) (judge_adds y u)) (both_adds (judge x s).0 (judge y u).0 (binary_check at op) v.1 (λ a b. ruled _ v.1))
+      adds_then s.1 v.1 _ (adds_then s.1 u.1 v.1 (judge_adds x s) (judge_adds y u)) (both_adds (judge x s).0 (judge y u).0 (binary_check at op) v.1 (λ a b. ruled_steps _ v.1))
   judge_adds (e.Assign' at op _ (k.more_of-Expr x k.end_of-Expr) _ (k.more_of-Expr y k.end_of-Expr)) s =
       let u = (judge x s).1 in let v = (judge y u).1 in
-      adds_then s.1 v.1 _ (adds_then s.1 u.1 v.1 (judge_adds x s) (judge_adds y u)) (both_adds (judge x s).0 (judge y u).0 (assignment_check at op) v.1 (λ a b. ruled _ v.1))
+      adds_then s.1 v.1 _ (adds_then s.1 u.1 v.1 (judge_adds x s) (judge_adds y u)) (both_adds (judge x s).0 (judge y u).0 (assignment_check at op) v.1 (λ a b. ruled_steps _ v.1))
   judge_adds (e.Conditional' at _ (k.more_of-Expr x k.end_of-Expr) _ (k.more_of-Expr y k.end_of-Expr) _ (k.more_of-Expr z k.end_of-Expr)) s =
       let u = (judge x s).1 in let v = (judge y u).1 in let w = (judge z v).1 in
       adds_then s.1 w.1 _ (adds_then s.1 v.1 w.1 (adds_then s.1 u.1 v.1 (judge_adds x s) (judge_adds y u)) (judge_adds z v)) (choice_adds at (judge x s).0 (judge y u).0 (judge z v).0 w.1)
@@ -53,24 +53,24 @@ mutual
       (adds_then s.1 to.1.1 a.1.1
       (one_part s.1 r.1.1 r.0 (type_named place) (adds_then s.1 l.1 r.1.1 (leaf_adds s.0 place ty s.1) (derive_adds place ty l.0 (s.0, l.1))) (λ b. named_type_adds place b r.1.1))
       (judge_adds x to.1))
-      (both_adds to.0 a.0 (cast_check at) a.1.1 (λ b d. ruled _ a.1.1))
+      (both_adds to.0 a.0 (cast_check at) a.1.1 (λ b d. ruled_steps _ a.1.1))
   judge_adds (e.SizeOfValue' at _ (k.more_of-Expr x k.end_of-Expr)) s =
       let a = judge x (s.0, nothing_taken s.1) in let back = rejoin s.1.addressed s.1.texts a.1.1 in let inner = judge_adds x (s.0, nothing_taken s.1) in
-      one_part s.1 back a.0 (size_of_value at) (Aside inner) (λ b. ruled _ back)
+      one_part s.1 back a.0 (size_of_value at) (Aside inner) (λ b. ruled_steps _ back)
   judge_adds (e.SizeOfType' at _ (k.more_of-TypeName place ty k.end_of-TypeName)) s =
       let l = leaf s.0 place ty s.1 in let r = derive place ty l.0 (s.0, l.1) in let to = in_env r.1.0 (each r.0 (type_named place) r.1.1) in
       one_part s.1 to.1.1 to.0 (size_of_name at)
       (one_part s.1 r.1.1 r.0 (type_named place) (adds_then s.1 l.1 r.1.1 (leaf_adds s.0 place ty s.1) (derive_adds place ty l.0 (s.0, l.1))) (λ b. named_type_adds place b r.1.1))
-      (λ b. ruled _ to.1.1)
+      (λ b. ruled_steps _ to.1.1)
   judge_adds (e.Index' at _ (k.more_of-Expr x k.end_of-Expr) _ (k.more_of-Expr y k.end_of-Expr)) s =
       let u = (judge x s).1 in let v = (judge y u).1 in
-      adds_then s.1 v.1 _ (adds_then s.1 u.1 v.1 (judge_adds x s) (judge_adds y u)) (both_adds (judge x s).0 (judge y u).0 (subscript_check at) v.1 (λ a b. ruled _ v.1))
+      adds_then s.1 v.1 _ (adds_then s.1 u.1 v.1 (judge_adds x s) (judge_adds y u)) (both_adds (judge x s).0 (judge y u).0 (subscript_check at) v.1 (λ a b. ruled_steps _ v.1))
   judge_adds (e.Field' at _ (k.more_of-Expr x k.end_of-Expr) name) s =
       one_part s.1 (judge x s).1.1 (judge x s).0 (field_named at name) (judge_adds x s) (λ a. field_adds at name a (judge x s).1.1)
   judge_adds (e.Arrow' at _ (k.more_of-Expr x k.end_of-Expr) name) s =
       one_part s.1 (judge x s).1.1 (judge x s).0 (arrow_named at name) (judge_adds x s) (λ a. arrow_adds at name a (judge x s).1.1)
   judge_adds (e.Postfix' at op _ (k.more_of-Expr x k.end_of-Expr)) s =
-      one_part s.1 (judge x s).1.1 (judge x s).0 (postfix_check at op) (judge_adds x s) (λ a. ruled _ (judge x s).1.1)
+      one_part s.1 (judge x s).1.1 (judge x s).0 (postfix_check at op) (judge_adds x s) (λ a. ruled_steps _ (judge x s).1.1)
   judge_adds (e.Comma' at _ operands) s =
       let u = judge_row operands (Some []) s in
       adds_then s.1 u.1.1 _ (row_adds operands (Some []) s) (commas_adds at u.0 u.1.1)
@@ -100,7 +100,7 @@ mutual
   length_adds k.TypeNode-Array-1-None' s = Stays
   length_adds (k.TypeNode-Array-1-Some' _ (k.more_of-Expr x k.end_of-Expr)) s =
       let r = judge x s in
-      one_part s.1 r.1.1 r.0 given_length (judge_adds x s) (λ a. ruled (length_value a) r.1.1)
+      one_part s.1 r.1.1 r.0 given_length (judge_adds x s) (λ a. ruled_steps (length_value a) r.1.1)
 
   pub parameters_add : {m : _} (xs : k.Row_of-Parameter m) (found : Option (List CType)) (s : JudgementState) → NoteSteps s.1 (judge_parameter_row xs found s).1.1
   parameters_add k.end_of-Parameter found s = Stays

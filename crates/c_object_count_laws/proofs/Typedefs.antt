@@ -51,7 +51,7 @@ use Rattle.c_declarations.specs.Functions.{function_type, function_declared, fun
 use Rattle.c_found_unit_laws.specs.Externals.{typedef_of, typedef_declared, prototype, object_with, with_main_in, with_definition, type_of_function, definition, external_function, end_judged, function_typed, declarator_type, walk_external}
 use Rattle.c_type_faults.specs.declared.faults.Kind.TheVariants.{BadType}
 use Rattle.c_type_laws.proofs.Truth.{no_true}
-use Rattle.c_found_unit_laws.specs.Steps.{is_function_type}
+use Rattle.c_found_unit_laws.specs.model.Bodies.{is_function_type}
 use Rattle.c_found_unit_laws.proofs.Names.{function_env}
 use Rattle.c_found_unit_laws.proofs.Constants.{Enters, Same, More, behind_leaves, declared_enters}
 use Rattle.c_found_unit_laws.proofs.Initialisers.{judge_init_leaves, object_cells_leave}

@@ -192,10 +192,10 @@ all_builtins =
 
 -- ---- at the end
 
-abbrev Ended : TranslationUnit → UnitSoFar × TagScope
-Ended unit = externals (definitions unit.externals) unit.externals (unit_start (definitions unit.externals))
+abbrev LastOfUnit : TranslationUnit → UnitSoFar × TagScope
+LastOfUnit unit = externals (definitions unit.externals) unit.externals (unit_start (definitions unit.externals))
 
-all_hold : (unit : TranslationUnit) → (whole_unit unit).1.1.1.faults ≡ [] → AllObjects nothing_defined unit.externals (Ended unit).0.names
+all_hold : (unit : TranslationUnit) → (whole_unit unit).1.1.1.faults ≡ [] → AllObjects nothing_defined unit.externals (LastOfUnit unit).0.names
 all_hold unit e =
     let ds = definitions unit.externals in
     (externals_hold ds nothing_defined unit.externals (unit_start ds) (λ q h. no_true (sym (all_builtins.typedefs q) ∙ h))).found (clean_unit unit e) (refl, refl) refl
@@ -203,7 +203,7 @@ all_hold unit e =
 pub objects_counted : (unit : TranslationUnit) → (whole_unit unit).1.1.1.faults ≡ [] → (whole_unit unit).0.names.objects ≡ length (definitions unit.externals).objects
 objects_counted unit e =
     let ds = definitions unit.externals in
-    let v = Ended unit in
+    let v = LastOfUnit unit in
     let steps = (unit_steps unit e).0 in
     let apart = all_distinct unit.externals nothing_defined tt in
     let names = all_objects unit.externals nothing_defined v.0.names (all_hold unit e) (λ q h. no_true h) in

@@ -10,7 +10,9 @@ ghost use Rattle.c_parser.specs.model.Parts as parts;
 ghost use Rattle.c_grammar.specs.Units.{external_of, is_function};
 
 use c_expression_parser::{declarator, expr};
-use c_grammar::{Declarator, DeclaredName, Naming, Opening, Shape, levels, opening_of};
+use c_grammar::{
+    Declarator, DeclaredName, NameRequirement, Shape, StorageClass, levels, storage_class_of,
+};
 use c_lexer::Punct;
 use c_parser_types::{SpecifierType, with_shapes};
 use c_specifier_parser::{append, declaration, specifier};
@@ -32,7 +34,7 @@ fn inits(
         result tokens.new }
 {
     let mut found = Seq::new(alloc);
-    for _turn in 0..tokens.left() {
+    for _turn in 0..tokens.count_left() {
         found.push(init(alloc, scope, tokens, depth)?)?;
         if !tokens.sees(Punct::Comma) {
             return Ok(found);
@@ -81,7 +83,7 @@ fn typedef_declarator(
 ) -> Result<External, ParseStop>
     ensures { AnswersIn (parts.typedef_declarator scope.old depth base tokens.old) result scope.new tokens.new }
 {
-    let declaration = declaration(alloc, scope, tokens, depth, Naming::Required, base)?;
+    let declaration = declaration(alloc, scope, tokens, depth, NameRequirement::Required, base)?;
     let declaration = Box::new(alloc, declaration)?;
     scope.add_type(alloc, declaration.name.copy()?)?;
     Ok(External::Typedef(Box::into_inner(declaration)))
@@ -101,7 +103,7 @@ fn typedef_declarators(
 {
     let mut found = Seq::new(alloc);
     let mut ty = Box::new(alloc, base)?;
-    for _turn in 0..tokens.left() {
+    for _turn in 0..tokens.count_left() {
         let bare = Box::new(alloc, ty.bare()?)?;
         let first = Box::into_inner(ty);
         found.push(typedef_declarator(alloc, scope, tokens, depth, first)?)?;
@@ -237,7 +239,13 @@ fn object_declarator(
 ) -> Result<External, ParseStop>
     ensures { Answers (parts.object_declarator scope.now depth storage ty tokens.old) result tokens.new }
 {
-    let Declarator { name, shapes } = declarator(alloc, scope, tokens, depth, Naming::Required)?;
+    let Declarator { name, shapes } = declarator(
+        alloc,
+        scope,
+        tokens,
+        depth,
+        NameRequirement::Required,
+    )?;
     let Some(named) = name else {
         return Err(ParseStop::Refused);
     };
@@ -267,7 +275,7 @@ fn objects(
 {
     let mut found = found;
     let mut ty = base;
-    for _turn in 0..tokens.left() {
+    for _turn in 0..tokens.count_left() {
         let bare = Box::new(alloc, ty.bare()?)?;
         found.push(object_declarator(alloc, scope, tokens, depth, storage, ty)?)?;
         ty = bare;
@@ -370,7 +378,13 @@ fn behind_type(
         return Ok(found);
     }
     let ty = Box::new(alloc, base)?;
-    let Declarator { name, shapes } = declarator(alloc, scope, tokens, depth, Naming::Required)?;
+    let Declarator { name, shapes } = declarator(
+        alloc,
+        scope,
+        tokens,
+        depth,
+        NameRequirement::Required,
+    )?;
     let Some(named) = name else {
         return Err(ParseStop::Refused);
     };
@@ -404,20 +418,20 @@ fn external(
 ) -> Result<Seq<External>, ParseStop>
     ensures { AnswersIn (model.external scope.old depth tokens.old) result scope.new tokens.new }
 {
-    match opening_of(tokens.peek()) {
-        Opening::Typedef => {
+    match storage_class_of(tokens.peek()) {
+        StorageClass::Typedef => {
             tokens.take();
             typedefs(alloc, scope, tokens, depth)
         }
-        Opening::Static => {
+        StorageClass::Static => {
             tokens.take();
             behind_storage(alloc, scope, tokens, depth, Some(Storage::Static))
         }
-        Opening::Extern => {
+        StorageClass::Extern => {
             tokens.take();
             behind_storage(alloc, scope, tokens, depth, Some(Storage::Extern))
         }
-        Opening::Other => behind_storage(alloc, scope, tokens, depth, None),
+        StorageClass::Other => behind_storage(alloc, scope, tokens, depth, None),
     }
 }
 
@@ -431,8 +445,8 @@ pub fn externals(
     ensures { AnswersUnit (model.externals_from (length tokens.old) scope.old [] tokens.old) result tokens.new }
 {
     let mut found = Seq::new(alloc);
-    for _turn in 0..tokens.left() {
-        let left = tokens.left();
+    for _turn in 0..tokens.count_left() {
+        let left = tokens.count_left();
         if left == 0 {
             return Ok(found);
         }

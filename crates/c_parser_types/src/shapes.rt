@@ -4,29 +4,29 @@ ghost use Rattle.std.specs.Prelude.{◌≡◌, [], IfOk, if◌then◌else◌, Li
 ghost use Rattle.c_tree.specs.declared.types.Parameter.{Parameter as Declared};
 ghost use Rattle.c_grammar.specs.Types as types;
 
-use c_grammar::{Declarator, Naming, Shape};
+use c_grammar::{Declarator, NameRequirement, Shape};
 use c_tree::{BasicType, Box, Expr, Name, Parameter, Seq, TypeNode};
 use std::alloc::{AllocError, Global};
 
 /// Whether a declarator may have this name, which is one of a type or not.
-pub fn takes_name(naming: Naming, is_type: bool) -> bool
+pub fn takes_name(naming: NameRequirement, is_type: bool) -> bool
     ensures { result ≡ types.takes_name naming is_type }
 {
     match naming {
-        Naming::Required => !is_type,
-        Naming::Member => true,
-        Naming::Optional => !is_type,
-        Naming::Refused => false,
+        NameRequirement::Required => !is_type,
+        NameRequirement::Member => true,
+        NameRequirement::Optional => !is_type,
+        NameRequirement::Refused => false,
     }
 }
 
 /// Whether a declarator may have no name.
-pub fn may_be_nameless(naming: Naming) -> bool
+pub fn may_be_nameless(naming: NameRequirement) -> bool
     ensures { result ≡ types.may_be_nameless naming }
 {
     match naming {
-        Naming::Required | Naming::Member => false,
-        Naming::Optional | Naming::Refused => true,
+        NameRequirement::Required | NameRequirement::Member => false,
+        NameRequirement::Optional | NameRequirement::Refused => true,
     }
 }
 

@@ -144,20 +144,20 @@ module _ {X S : Type 0} (m : HashMap (Bor (List ℕ)) (Option ℕ) S) (list : Li
   Keeps = IsChained (reverse list) × IsNewest m (entries_of (reverse list))
 
 module _ {X S : Type 0} (m : HashMap (Bor (List ℕ)) (Option ℕ) S) (list : List (Declaration X)) (keeps : Keeps m list) where
-  pub found : (q : List ℕ) (p : ℕ) → place_of (find q (entries_of (reverse list))) ≡ Some p → find q (entries_of (reverse list)) ≡ option_map (λ (d : Declaration X). (p, d.value)) (slice_get list p)
-  found q p h = (stands (reverse list) q p h).at ∙ ap (λ l. option_map (λ (d : Declaration X). (p, d.value)) (slice_get l p)) (reverse-reverse list)
+  pub found_entry : (q : List ℕ) (p : ℕ) → place_of (find q (entries_of (reverse list))) ≡ Some p → find q (entries_of (reverse list)) ≡ option_map (λ (d : Declaration X). (p, d.value)) (slice_get list p)
+  found_entry q p h = (stands (reverse list) q p h).at ∙ ap (λ l. option_map (λ (d : Declaration X). (p, d.value)) (slice_get l p)) (reverse-reverse list)
 
   pub within : (q : List ℕ) (p : ℕ) → place_of (find q (entries_of (reverse list))) ≡ Some p → p < length list
   within q p h = omega (arith, (stands (reverse list) q p h).below, length-reverse list)
 
-  pub pushed : (n : HashMap (Bor (List ℕ)) (Option ℕ) S) (new : List (Declaration X)) (d : Declaration X) (eq : Bor (List ℕ) → Bor (List ℕ) → Bool) → ((k l : Bor (List ℕ)) → eq k l ≡ bytes_eq k.now l.now) → (k : Bor (List ℕ)) (p : ℕ)
+  pub pushed_entry : (n : HashMap (Bor (List ℕ)) (Option ℕ) S) (new : List (Declaration X)) (d : Declaration X) (eq : Bor (List ℕ) → Bor (List ℕ) → Bool) → ((k l : Bor (List ℕ)) → eq k l ≡ bytes_eq k.now l.now) → (k : Bor (List ℕ)) (p : ℕ)
       → n.entries ≡ insert_entry eq m.entries k (Some p) → k.now ≡ d.name.now → p ≡ length list → d.shadows ≡ place_of (find d.name.now (entries_of (reverse list))) → new ≡ list ++ d ∷ [] → Keeps n new
-  pushed n new d eq is k p entries name place shadows push =
+  pushed_entry n new d eq is k p entries name place shadows push =
       subst (λ l. IsChained l × IsNewest n (entries_of l)) (sym (ap reverse push ∙ reverse-append list (d ∷ [])))
       ((shadows, keeps.0), push-IsNewest m n eq is k p (entry_of d) (entries_of (reverse list)) entries name (place ∙ sym (entries_length (reverse list) ∙ length-reverse list)) keeps.1)
 
-  pub popped : (n : HashMap (Bor (List ℕ)) (Option ℕ) S) (new : List (Declaration X)) (d : Declaration X) (name : List ℕ) → n.entries ≡ set_value (λ l. bytes_eq name l.now) m.entries d.shadows → name ≡ d.name.now → list ≡ new ++ d ∷ [] → Keeps n new
-  popped n new d name entries is pop =
+  pub popped_entry : (n : HashMap (Bor (List ℕ)) (Option ℕ) S) (new : List (Declaration X)) (d : Declaration X) (name : List ℕ) → n.entries ≡ set_value (λ l. bytes_eq name l.now) m.entries d.shadows → name ≡ d.name.now → list ≡ new ++ d ∷ [] → Keeps n new
+  popped_entry n new d name entries is pop =
       let old : Keeps m (new ++ d ∷ []) = subst (Keeps m) pop keeps in
       let all : IsChained (d ∷ reverse new) × IsNewest m (entries_of (d ∷ reverse new)) = subst (λ l. IsChained l × IsNewest m (entries_of l)) (reverse-append new (d ∷ [])) old in
       (all.0.1, pop-IsNewest m n name d.shadows (entry_of d) (entries_of (reverse new)) entries is all.0.0 all.1)

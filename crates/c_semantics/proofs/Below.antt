@@ -8,7 +8,7 @@ use Rattle.mem_model.specs.Memory.{Memory, begin_object}
 use Rattle.mem_model.specs.World.{Rooms, room_of, with_memory, turn_from}
 use Rattle.mem_model.specs.Ending.{Done, Trap, Undefined, More, Evaluation, Gives, Ends}
 use Rattle.c_semantics.specs.Reasons.{Reason}
-use Rattle.c_semantics.specs.Runs.{CallState, in_world, Run, and_then, ◌>>=◌, pure, undefined, trap, exit, no_turn, spend_turn, turn, on_memory, set_memory, use_value, read_register, write_register}
+use Rattle.c_semantics.specs.Runs.{CallState, in_world, Run, and_then, ◌>>=◌, pure, undefined_behaviour, trap, exit, no_turn, spend_turn, turn, on_memory, set_memory, use_value, read_register, write_register}
 use Rattle.c_semantics.specs.Objects.{Scope, bind_object, with_local_object}
 use Rattle.c_semantics.specs.Evaluates.{put_character, get}
 use Rattle.c_semantics.specs.Executes.{enter_function, within_call}
@@ -73,8 +73,8 @@ pure_below : {A : Type 0} (a : A) → IsBelow (pure a) (pure a)
 unfolding pure
 pure_below a = record { by = λ s p l. record { peak = p; low = l; holds = refl } }
 
-undefined_below : {A : Type 0} (reason : Reason) → IsBelow (undefined {A = A} reason) (undefined reason)
-unfolding undefined
+undefined_below : {A : Type 0} (reason : Reason) → IsBelow (undefined_behaviour {A = A} reason) (undefined_behaviour reason)
+unfolding undefined_behaviour
 undefined_below reason = record { by = λ s p l. tt }
 
 trap_below : {A : Type 0} (code : ℕ) → IsBelow (trap {A = A} code) (trap code)
@@ -150,8 +150,8 @@ call_below rooms n {run = run} {other = other} g = record {
 abbrev pub BelowOf : (A : Type 0) → Run A → Run A → Type 0
 BelowOf A c d = IsBelow c d
 
-pub kept : Congruence BelowOf
-kept = record {
+pub kept_below : Congruence BelowOf
+kept_below = record {
   bind = bind_below;
   pure = pure_below;
   undefined = undefined_below;

@@ -5,14 +5,14 @@ use Rattle.c_typed_tree.specs.model.View.{opens}
 use Rattle.mem_model.specs.Memory.{load_at, store_at, copy_at}
 use Rattle.mem_model.specs.Cells.{bytes_of, parts_of, cells_of, number_of, pointer_of, value_or_fault}
 use Rattle.c_mean.specs.Behaviour.{Done, Trap, Undefined, More}
-use Rattle.c_semantics.specs.Runs.{◌>>=◌, pure, undefined, trap, exit, no_turn, turn, on_memory, set_memory, read_register, write_register}
+use Rattle.c_semantics.specs.Runs.{◌>>=◌, pure, undefined_behaviour, trap, exit, no_turn, turn, on_memory, set_memory, read_register, write_register}
 use Rattle.c_semantics.specs.Evaluates.{put_character, get}
 use Rattle.c_semantics.specs.Behaves.{behave_c}
 use Rattle.c_semantics.specs.Examples.{returns_seven, returns_nothing, status_is_a_byte, puts_a_byte, gets_a_byte, gets_the_end, aborts, exits, has_no_turn, has_turns_enough, sum_overflows, product_overflows, unsigned_wraps, narrowing_wraps, increment_overflows, minus_least, zero_divisor, least_by_minus_one, remainder_of_least, division_truncates, remainder_has_the_sign, shift_keeps_the_sign, shift_keeps_low_bits, unsigned_compares, compound_narrows, and_needs_the_left, or_needs_the_left, one_arm_is_chosen, commas_go_on, left_before_right, step_gives_the_old, prefix_gives_the_new, while_goes_round, rounds_take_turns, do_goes_once, for_steps_and_continues, switch_falls_through, switch_takes_the_default, return_leaves_the_loop, calls_itself, call_takes_a_turn, written_through_a_pointer, elements_stand_apart, pointers_have_a_distance, globals_begin, globals_hold_addresses, members_have_places, structs_are_copied, parameters_are_objects, unset_register, unset_cell, outside_the_object, through_null, misaligned_access, moved_outside, null_moved, dead_object, dead_pointer_tested, compared_apart, compared_at_the_end, shifted_too_far, shifted_below_zero, literal_written, no_value_used, no_value_left_alone, pointer_read_in_part, copy_overlaps_itself}
 
 -- opens the meaning, and the trees of the units
 unfoldable pub the_meaning : Unit {0}
-unfolding ◌>>=◌ pure undefined trap exit no_turn turn on_memory set_memory read_register write_register put_character get load_at store_at copy_at bytes_of parts_of cells_of number_of pointer_of value_or_fault opens sb.hidden-the_row-TSection-2
+unfolding ◌>>=◌ pure undefined_behaviour trap exit no_turn turn on_memory set_memory read_register write_register put_character get load_at store_at copy_at bytes_of parts_of cells_of number_of pointer_of value_or_fault opens sb.hidden-the_row-TSection-2
 the_meaning = tt
 
 pub is-returns_seven : behave_c returns_seven [] 0 ≡ Done [] 7

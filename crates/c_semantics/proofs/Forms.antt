@@ -20,7 +20,7 @@ use Rattle.c_typed_tree.specs.Layout.{size_of, align_of}
 use Rattle.c_semantics.specs.Reasons.{Reason, ComparesApart, ComparesAtEnd}
 use Rattle.c_semantics.specs.Runs as r
 use Rattle.c_semantics.specs.Evaluates as w
-use Rattle.c_semantics.specs.Runs.{Run, CallState, ◌>>=◌, pure, undefined, trap, exit, turn, on_memory, set_memory, or_undefined, use_value, use_number, read_register, write_register}
+use Rattle.c_semantics.specs.Runs.{Run, CallState, ◌>>=◌, pure, undefined_behaviour, trap, exit, turn, on_memory, set_memory, or_undefined, use_value, use_number, read_register, write_register}
 use Rattle.c_semantics.specs.Objects.{ValuePlace, Register, At, Scope, integer_or_word, access, load, store, copy_cells, copy, integer_value, as_held, call_result, read_at, read, write_at, write, place_pointer, move_reason, move, element_plus, move_elements, move_by, local_place, with_local, with_locals, offset_of, no_scope, with_local_object}
 use Rattle.c_semantics.specs.Operators.{unless_dead, outcome, integers, convert_word, compare_by, pure_truth, bytes_between, distance, pointers, pointer_and_integer, with_integer, with_pointer, apply_binary, apply_unary, test_in, test, convert, operation_type, combined_in, combine, step_operator, one_type, step_value, operator_of}
 use Rattle.mem_model.specs.World.{Rooms}
@@ -46,7 +46,7 @@ use Rattle.c_typed_tree.specs.Statements as q
 pub record Congruence (R : (A : Type 0) → Run A → Run A → Type 0) : Type 1 where
   pub bind : {A B : Type 0} {m m' : Run A} {k k' : A → Run B} → R A m m' → ((a : A) → R B (k a) (k' a)) → R B (m >>= k) (m' >>= k')
   pub pure : {A : Type 0} (a : A) → R A (r.pure a) (r.pure a)
-  pub undefined : {A : Type 0} (reason : Reason) → R A (r.undefined reason) (r.undefined reason)
+  pub undefined : {A : Type 0} (reason : Reason) → R A (r.undefined_behaviour reason) (r.undefined_behaviour reason)
   pub trap : {A : Type 0} (code : ℕ) → R A (r.trap code) (r.trap code)
   pub exit : {A : Type 0} (status : ℕ) → R A (r.exit status) (r.exit status)
   pub memory : (m : Memory) → R (Unit {0}) (set_memory m) (set_memory m)
@@ -61,8 +61,8 @@ pub record Congruence (R : (A : Type 0) → Run A → Run A → Type 0) : Type 1
   pub call : {A : Type 0} (rooms : Rooms) (n : ℕ) {run run' : Run A} → R A run run' → R A (within_call rooms n run) (within_call rooms n run')
 
 module _ (R : (A : Type 0) → Run A → Run A → Type 0) (kept : Congruence R) where
-  abbrev pub Related : {A : Type 0} → Run A → Run A → Type 0
-  Related {A} c d = R A c d
+  abbrev pub RelatedRuns : {A : Type 0} → Run A → Run A → Type 0
+  RelatedRuns {A} c d = R A c d
 
   abbrev pub Itself : {A : Type 0} → Run A → Type 0
   Itself {A} c = R A c c
@@ -81,7 +81,7 @@ module _ (R : (A : Type 0) → Run A → Run A → Type 0) (kept : Congruence R)
   steady_number (Address p) = kept.undefined _
   steady_number Unset = kept.undefined _
 
-  pub related_if : {A : Type 0} (c : Bool) {a a' b b' : Run A} → Related a a' → Related b b' → Related (if c then a else b) (if c then a' else b')
+  pub related_if : {A : Type 0} (c : Bool) {a a' b b' : Run A} → RelatedRuns a a' → RelatedRuns b b' → RelatedRuns (if c then a else b) (if c then a' else b')
   related_if true g h = g
   related_if false g h = h
 
@@ -313,13 +313,13 @@ module _ (R : (A : Type 0) → Run A → Run A → Type 0) (kept : Congruence R)
 
   -- ---- locals
 
-  pub related_local : {A : Type 0} (ds : List StructDef) (k : ℕ) (l : Option Local) {run run' : Scope → Run A} → ((scope : Scope) → Related (run scope) (run' scope))
-      → (scope : Scope) → Related (with_local ds k l run scope) (with_local ds k l run' scope)
+  pub related_local : {A : Type 0} (ds : List StructDef) (k : ℕ) (l : Option Local) {run run' : Scope → Run A} → ((scope : Scope) → RelatedRuns (run scope) (run' scope))
+      → (scope : Scope) → RelatedRuns (with_local ds k l run scope) (with_local ds k l run' scope)
   related_local ds k None g scope = g scope
   related_local ds k (Some l) g scope = related_if l.in_memory (kept.object _ k scope g) (kept.bind (kept.write k Unset) (λ _. g scope))
 
-  pub related_locals : {A : Type 0} (ds : List StructDef) (ls : List Local) (ks : List ℕ) {run run' : Scope → Run A} → ((scope : Scope) → Related (run scope) (run' scope))
-      → (scope : Scope) → Related (with_locals ds ls ks run scope) (with_locals ds ls ks run' scope)
+  pub related_locals : {A : Type 0} (ds : List StructDef) (ls : List Local) (ks : List ℕ) {run run' : Scope → Run A} → ((scope : Scope) → RelatedRuns (run scope) (run' scope))
+      → (scope : Scope) → RelatedRuns (with_locals ds ls ks run scope) (with_locals ds ls ks run' scope)
   related_locals ds ls [] g scope = g scope
   related_locals ds ls (k ∷ ks) g scope = related_local ds k (slice_get ls k) (related_locals ds ls ks g) scope
 
@@ -371,10 +371,10 @@ module _ (R : (A : Type 0) → Run A → Run A → Type 0) (kept : Congruence R)
   steady_assign ds left right None p v = kept.bind (steady_write_place ds left p v) (λ _. kept.pure _)
   steady_assign ds left right (Some op) p v = related_update ds left _ (λ old. steady_combined ds op left right old v) p
 
-  pub related_choose : {A : Type 0} {a a' b b' : Run A} → Related a a' → Related b b' → (t : Bool) → Related (choose a b t) (choose a' b' t)
+  pub related_choose : {A : Type 0} {a a' b b' : Run A} → RelatedRuns a a' → RelatedRuns b b' → (t : Bool) → RelatedRuns (choose a b t) (choose a' b' t)
   related_choose g h t = related_if t g h
 
-  pub related_converted : (from to : PlainType) {v v' : Run Value} {p p' : Run ValuePlace} → Related v v' → Related p p' → Related (converted_from from to v p) (converted_from from to v' p')
+  pub related_converted : (from to : PlainType) {v v' : Run Value} {p p' : Run ValuePlace} → RelatedRuns v v' → RelatedRuns p p' → RelatedRuns (converted_from from to v p) (converted_from from to v' p')
   related_converted Void to g h = kept.bind g (steady_convert Void to)
   related_converted (Int n s) to g h = kept.bind g (steady_convert (Int n s) to)
   related_converted (Pointer t) to g h = kept.bind g (steady_convert (Pointer t) to)
@@ -383,8 +383,8 @@ module _ (R : (A : Type 0) → Run A → Run A → Type 0) (kept : Congruence R)
 
   -- ---- expressions
 
-  module _ (ds : List StructDef) (ls : List Local) (f f' : Functions) (h : (n : ℕ) (vs : List Value) → Related (f n vs) (f' n vs)) where
-    pub call_related : (callee : Callee) (vs : List Value) → Related (run_call f callee vs) (run_call f' callee vs)
+  module _ (ds : List StructDef) (ls : List Local) (f f' : Functions) (h : (n : ℕ) (vs : List Value) → RelatedRuns (f n vs) (f' n vs)) where
+    pub call_related : (callee : Callee) (vs : List Value) → RelatedRuns (run_call f callee vs) (run_call f' callee vs)
     call_related (c.Function n) vs = h n vs
     call_related (c.Builtin g) vs = steady_builtin g vs
 
@@ -392,7 +392,7 @@ module _ (R : (A : Type 0) → Run A → Run A → Type 0) (kept : Congruence R)
     steady_member ty m p = steady_move p (pos (offset_of ds ty m))
 
     mutual
-      pub eval_related : (scope : Scope) (x : Expr) → Related (eval ds ls f scope x) (eval ds ls f' scope x)
+      pub eval_related : (scope : Scope) (x : Expr) → RelatedRuns (eval ds ls f scope x) (eval ds ls f' scope x)
       eval_related scope (Number ty n) = kept.pure _
       eval_related scope (e.Local ty k) = kept.bind (steady_local scope k (slice_get ls k)) (steady_read_place ty)
       eval_related scope (Global ty k) = steady_read_at ty _
@@ -441,7 +441,7 @@ module _ (R : (A : Type 0) → Run A → Run A → Type 0) (kept : Congruence R)
       eval_related scope (Comma ty no_exprs) = kept.undefined _
       eval_related scope (Comma ty (more_exprs x xs)) = last_related scope (eval_related scope x) xs
 
-      pub place_related : (scope : Scope) (x : Expr) → Related (place ds ls f scope x) (place ds ls f' scope x)
+      pub place_related : (scope : Scope) (x : Expr) → RelatedRuns (place ds ls f scope x) (place ds ls f' scope x)
       place_related scope (e.Local ty k) = steady_local scope k (slice_get ls k)
       place_related scope (Global ty k) = kept.pure _
       place_related scope (Unary ty u.Dereference x) = kept.bind (kept.bind (eval_related scope x) (steady_used _)) (λ p. kept.pure _)
@@ -467,59 +467,59 @@ module _ (R : (A : Type 0) → Run A → Run A → Type 0) (kept : Congruence R)
       place_related scope (Postfix ty op x) = kept.undefined _
       place_related scope (Comma ty es) = kept.undefined _
 
-      pub evals_related : (scope : Scope) (xs : Exprs) → Related (evals ds ls f scope xs) (evals ds ls f' scope xs)
+      pub evals_related : (scope : Scope) (xs : Exprs) → RelatedRuns (evals ds ls f scope xs) (evals ds ls f' scope xs)
       evals_related scope no_exprs = kept.pure []
       evals_related scope (more_exprs x xs) =
           kept.bind (kept.bind (eval_related scope x) (steady_used _)) (λ v. kept.bind (evals_related scope xs) (λ vs. kept.pure _))
 
-      pub last_related : (scope : Scope) {a a' : Run Value} → Related a a' → (xs : Exprs) → Related (value_of_last ds ls f scope a xs) (value_of_last ds ls f' scope a' xs)
+      pub last_related : (scope : Scope) {a a' : Run Value} → RelatedRuns a a' → (xs : Exprs) → RelatedRuns (value_of_last ds ls f scope a xs) (value_of_last ds ls f' scope a' xs)
       last_related scope g no_exprs = g
       last_related scope g (more_exprs x xs) = kept.bind g (λ _. last_related scope (eval_related scope x) xs)
 
     -- ---- parts of statements
 
-    pub holds_related : (scope : Scope) (x : Expr) → Related (holds ds ls f scope x) (holds ds ls f' scope x)
+    pub holds_related : (scope : Scope) (x : Expr) → RelatedRuns (holds ds ls f scope x) (holds ds ls f' scope x)
     holds_related scope x = kept.bind (eval_related scope x) steady_test
 
-    pub condition_related : (scope : Scope) (x : Option Expr) → Related (loop_condition ds ls f scope x) (loop_condition ds ls f' scope x)
+    pub condition_related : (scope : Scope) (x : Option Expr) → RelatedRuns (loop_condition ds ls f scope x) (loop_condition ds ls f' scope x)
     condition_related scope None = kept.pure true
     condition_related scope (Some x) = holds_related scope x
 
-    pub step_related : (scope : Scope) (x : Option Expr) → Related (loop_step ds ls f scope x) (loop_step ds ls f' scope x)
+    pub step_related : (scope : Scope) (x : Option Expr) → RelatedRuns (loop_step ds ls f scope x) (loop_step ds ls f' scope x)
     step_related scope None = kept.pure tt
     step_related scope (Some x) = kept.bind (eval_related scope x) (λ _. kept.pure tt)
 
-    pub initialise_related : (scope : Scope) (k : ℕ) (l : Option Local) (init : Option Expr) → Related (initialise_object ds ls f scope k l init) (initialise_object ds ls f' scope k l init)
+    pub initialise_related : (scope : Scope) (k : ℕ) (l : Option Local) (init : Option Expr) → RelatedRuns (initialise_object ds ls f scope k l init) (initialise_object ds ls f' scope k l init)
     initialise_related scope k None init = kept.pure tt
     initialise_related scope k (Some l) None = kept.pure tt
     initialise_related scope k (Some l) (Some x) =
         kept.bind (eval_related scope x) (λ v. kept.bind (steady_local scope k (Some l)) (λ p. steady_write_place ds (type_view l.ty) p v))
 
-    pub declare_related : (scope : Scope) (d : LocalDeclaration) → Related (run_declaration ds ls f scope d) (run_declaration ds ls f' scope d)
+    pub declare_related : (scope : Scope) (d : LocalDeclaration) → RelatedRuns (run_declaration ds ls f scope d) (run_declaration ds ls f' scope d)
     declare_related scope d = initialise_related scope d.number (slice_get ls d.number) d.init
 
-    pub declares_related : (scope : Scope) (more : List LocalDeclaration) → Related (run_declarations ds ls f scope more) (run_declarations ds ls f' scope more)
+    pub declares_related : (scope : Scope) (more : List LocalDeclaration) → RelatedRuns (run_declarations ds ls f scope more) (run_declarations ds ls f' scope more)
     declares_related scope [] = kept.pure tt
     declares_related scope (d ∷ more) = kept.bind (declare_related scope d) (λ _. declares_related scope more)
 
-    pub first_related : (scope : Scope) (start : First) → Related (first ds ls f scope start) (first ds ls f' scope start)
+    pub first_related : (scope : Scope) (start : First) → RelatedRuns (first ds ls f scope start) (first ds ls f' scope start)
     first_related scope q.Nothing = kept.pure tt
     first_related scope (q.Value x) = kept.bind (eval_related scope x) (λ _. kept.pure tt)
     first_related scope (q.Locals more) = declares_related scope more
 
-    pub returned_related : (scope : Scope) (x : Option Expr) → Related (flow_of_return ds ls f scope x) (flow_of_return ds ls f' scope x)
+    pub returned_related : (scope : Scope) (x : Option Expr) → RelatedRuns (flow_of_return ds ls f scope x) (flow_of_return ds ls f' scope x)
     returned_related scope None = kept.pure _
     returned_related scope (Some x) = kept.bind (kept.bind (eval_related scope x) (steady_used _)) (λ v. kept.pure _)
 
   -- ---- statements
 
-  pub related_after : {a a' : Run StatementFlow} → Related a a' → (flow : StatementFlow) → Related (after_body a flow) (after_body a' flow)
+  pub related_after : {a a' : Run StatementFlow} → RelatedRuns a a' → (flow : StatementFlow) → RelatedRuns (after_body a flow) (after_body a' flow)
   related_after g Goes = g
   related_after g Continues = g
   related_after g Breaks = kept.pure _
   related_after g (Returns v) = kept.pure _
 
-  pub related_next : {a a' : Run StatementFlow} → Related a a' → (flow : StatementFlow) → Related (and_next a flow) (and_next a' flow)
+  pub related_next : {a a' : Run StatementFlow} → RelatedRuns a a' → (flow : StatementFlow) → RelatedRuns (and_next a flow) (and_next a' flow)
   related_next g Goes = g
   related_next g Continues = kept.pure _
   related_next g Breaks = kept.pure _
@@ -531,10 +531,10 @@ module _ (R : (A : Type 0) → Run A → Run A → Type 0) (kept : Congruence R)
   steady_switch Continues = kept.pure _
   steady_switch (Returns v) = kept.pure _
 
-  module _ (ds : List StructDef) (ls : List Local) (f f' : Functions) (h : (n : ℕ) (vs : List Value) → Related (f n vs) (f' n vs))
-      (again again' : Scope → Stmt → Run StatementFlow) (l : (scope : Scope) (s : Stmt) → Related (again scope s) (again' scope s)) where
+  module _ (ds : List StructDef) (ls : List Local) (f f' : Functions) (h : (n : ℕ) (vs : List Value) → RelatedRuns (f n vs) (f' n vs))
+      (again again' : Scope → Stmt → Run StatementFlow) (l : (scope : Scope) (s : Stmt) → RelatedRuns (again scope s) (again' scope s)) where
     mutual
-      pub exec_related : (scope : Scope) (s : Stmt) → Related (exec ds ls f again scope s) (exec ds ls f' again' scope s)
+      pub exec_related : (scope : Scope) (s : Stmt) → RelatedRuns (exec ds ls f again scope s) (exec ds ls f' again' scope s)
       exec_related scope (q.Block ss) = related_locals ds ls (declared_in ss) (λ inner. execs_related inner ss) scope
       exec_related scope (q.If x s otherwise) = kept.bind (holds_related ds ls f f' h scope x) (related_choose (exec_related scope s) (else_related scope otherwise))
       exec_related scope (q.While x s) =
@@ -559,19 +559,19 @@ module _ (R : (A : Type 0) → Run A → Run A → Type 0) (kept : Congruence R)
       exec_related scope q.Empty = kept.pure _
       exec_related scope (q.Declare d) = kept.bind (declare_related ds ls f f' h scope d) (λ _. kept.pure _)
 
-      pub else_related : (scope : Scope) (s : Else) → Related (exec_else ds ls f again scope s) (exec_else ds ls f' again' scope s)
+      pub else_related : (scope : Scope) (s : Else) → RelatedRuns (exec_else ds ls f again scope s) (exec_else ds ls f' again' scope s)
       else_related scope no_else = kept.pure _
       else_related scope (else_stmt s) = exec_related scope s
 
-      pub execs_related : (scope : Scope) (ss : Stmts) → Related (execs ds ls f again scope ss) (execs ds ls f' again' scope ss)
+      pub execs_related : (scope : Scope) (ss : Stmts) → RelatedRuns (execs ds ls f again scope ss) (execs ds ls f' again' scope ss)
       execs_related scope no_stmts = kept.pure _
       execs_related scope (more_stmts s ss) = kept.bind (exec_related scope s) (related_next (execs_related scope ss))
 
-      pub sections_related : (scope : Scope) (ss : Sections) → Related (exec_sections ds ls f again scope ss) (exec_sections ds ls f' again' scope ss)
+      pub sections_related : (scope : Scope) (ss : Sections) → RelatedRuns (exec_sections ds ls f again scope ss) (exec_sections ds ls f' again' scope ss)
       sections_related scope no_sections = kept.pure _
       sections_related scope (more_sections label ss rest) = kept.bind (execs_related scope ss) (related_next (sections_related scope rest))
 
-      pub from_related : (scope : Scope) (target : Option ℕ) (ss : Sections) → Related (exec_from ds ls f again scope target ss) (exec_from ds ls f' again' scope target ss)
+      pub from_related : (scope : Scope) (target : Option ℕ) (ss : Sections) → RelatedRuns (exec_from ds ls f again scope target ss) (exec_from ds ls f' again' scope target ss)
       from_related scope target no_sections = kept.pure _
       from_related scope target (more_sections label ss rest) =
           related_if (is_chosen_label target label) (kept.bind (execs_related scope ss) (related_next (sections_related scope rest))) (from_related scope target rest)
@@ -585,8 +585,8 @@ module _ (R : (A : Type 0) → Run A → Run A → Type 0) (kept : Congruence R)
   steady_value main Breaks = kept.undefined _
   steady_value main Continues = kept.undefined _
 
-  pub related_parameters : {A : Type 0} (ds : List StructDef) (k : ℕ) (ps : List Local) (vs : List Value) {run run' : Scope → Run A} → ((scope : Scope) → Related (run scope) (run' scope))
-      → (scope : Scope) → Related (with_parameters ds k ps vs run scope) (with_parameters ds k ps vs run' scope)
+  pub related_parameters : {A : Type 0} (ds : List StructDef) (k : ℕ) (ps : List Local) (vs : List Value) {run run' : Scope → Run A} → ((scope : Scope) → RelatedRuns (run scope) (run' scope))
+      → (scope : Scope) → RelatedRuns (with_parameters ds k ps vs run scope) (with_parameters ds k ps vs run' scope)
   related_parameters ds k [] vs g scope = g scope
   related_parameters ds k (p ∷ ps) [] g scope = kept.undefined _
   related_parameters ds k (p ∷ ps) (v ∷ vs) g scope =
@@ -596,12 +596,12 @@ module _ (R : (A : Type 0) → Run A → Run A → Type 0) (kept : Congruence R)
 
   -- two levels that are related
   abbrev pub Above : Level → Level → Type 0
-  Above l l' = (n : ℕ) (scope : Scope) (s : Stmt) → Related (l n scope s) (l' n scope s)
+  Above l l' = (n : ℕ) (scope : Scope) (s : Stmt) → RelatedRuns (l n scope s) (l' n scope s)
 
-  pub body_related : (ds : List StructDef) (l l' : Level) → Above l l' → (n : ℕ) (g : TypedFn) (vs : List Value) → Related (body_of ds l n g vs) (body_of ds l' n g vs)
+  pub body_related : (ds : List StructDef) (l l' : Level) → Above l l' → (n : ℕ) (g : TypedFn) (vs : List Value) → RelatedRuns (body_of ds l n g vs) (body_of ds l' n g vs)
   body_related ds l l' h n g vs = related_parameters ds 0 (take g.params g.locals) vs (λ scope. h n scope (stmt_view g.body)) no_scope
 
-  pub call_of_related : (ds : List StructDef) (rooms : Rooms) (l l' : Level) → Above l l' → (n : ℕ) (g : Option TypedFn) (vs : List Value) → Related (call_with_turn ds rooms l n g vs) (call_with_turn ds rooms l' n g vs)
+  pub call_of_related : (ds : List StructDef) (rooms : Rooms) (l l' : Level) → Above l l' → (n : ℕ) (g : Option TypedFn) (vs : List Value) → RelatedRuns (call_with_turn ds rooms l n g vs) (call_with_turn ds rooms l' n g vs)
   call_of_related ds rooms l l' h n None vs = kept.undefined _
   call_of_related ds rooms l l' h n (Some g) vs =
       kept.bind kept.turn (λ _. kept.call rooms n (kept.bind (body_related ds l l' h n g vs) (steady_value (is_main g))))

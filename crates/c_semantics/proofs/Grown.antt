@@ -8,7 +8,7 @@ use Rattle.mem_model.specs.Memory.{Memory, end_object, begin_object}
 use Rattle.mem_model.specs.World.{Meter, World, Rooms, with_memory, with_meter, with_turns, turn_from}
 use Rattle.mem_model.specs.Ending.{Done, Trap, Undefined, More, ending_world, Evaluation, Gives, Ends}
 use Rattle.c_semantics.specs.Reasons.{Reason}
-use Rattle.c_semantics.specs.Runs.{CallState, in_world, Run, and_then, ◌>>=◌, pure, undefined, trap, exit, no_turn, spend_turn, turn, on_memory, set_memory, or_undefined, use_value, use_number, read_register, write_register}
+use Rattle.c_semantics.specs.Runs.{CallState, in_world, Run, and_then, ◌>>=◌, pure, undefined_behaviour, trap, exit, no_turn, spend_turn, turn, on_memory, set_memory, or_undefined, use_value, use_number, read_register, write_register}
 use Rattle.c_semantics.specs.Objects.{Scope, bind_object, with_local_object}
 use Rattle.c_semantics.specs.Executes.{enter_function, leave_function, within_call}
 
@@ -60,14 +60,14 @@ Grows d (Ends (Trap w code)) r = r ≡ Ends (Trap (more_turns d w) code)
 Grows d (Ends (Undefined w at)) r = r ≡ Ends (Undefined (more_turns d w) at)
 Grows d (Ends (More w)) r = Reaches w r
 
-pub record Grown {A : Type 0} (c c' : Run A) : Type 0 where
+pub record RunGrows {A : Type 0} (c c' : Run A) : Type 0 where
   pub by : (s : CallState) (d : ℕ) → Grows d (c s) (c' (with_more d s))
   pub low : (s : CallState) → Reaches s.world (c s)
   pub high : (s : CallState) → Reaches s.world (c' s)
 
 -- a run that is the same with more turns
 abbrev pub Steady : {A : Type 0} → Run A → Type 0
-Steady c = Grown c c
+Steady c = RunGrows c c
 
 reaches_bind : {A B : Type 0} (w : World) (r : Evaluation A CallState) (k : A → Run B) → Reaches w r
     → ((a : A) (s : CallState) → Reaches s.world (k a s)) → Reaches w (and_then r k)
@@ -75,15 +75,15 @@ reaches_bind w (Gives a s) k h g = reaches_on w s.world (k a s) h (g a s)
 reaches_bind w (Ends e) k h g = h
 
 grows_bind : {A B : Type 0} (d : ℕ) (r r' : Evaluation A CallState) (k k' : A → Run B) → Grows d r r'
-    → ((a : A) → Grown (k a) (k' a)) → Grows d (and_then r k) (and_then r' k')
+    → ((a : A) → RunGrows (k a) (k' a)) → Grows d (and_then r k) (and_then r' k')
 grows_bind d (Gives a s) r' k k' e g = subst (λ x. Grows d (k a s) (and_then x k')) (sym e) ((g a).by s d)
 grows_bind d (Ends (Done w status)) r' k k' e g = ap (λ x. and_then x k') e
 grows_bind d (Ends (Trap w code)) r' k k' e g = ap (λ x. and_then x k') e
 grows_bind d (Ends (Undefined w at)) r' k k' e g = ap (λ x. and_then x k') e
 grows_bind d (Ends (More w)) r' k k' e g = reaches_bind w r' k' e (λ a s. (g a).high s)
 
-pub bind : {A B : Type 0} {m m' : Run A} {k k' : A → Run B} → Grown m m' → ((a : A) → Grown (k a) (k' a))
-    → Grown (m >>= k) (m' >>= k')
+pub bind : {A B : Type 0} {m m' : Run A} {k k' : A → Run B} → RunGrows m m' → ((a : A) → RunGrows (k a) (k' a))
+    → RunGrows (m >>= k) (m' >>= k')
 unfolding ◌>>=◌
 bind {m = m} {m' = m'} {k = k} {k' = k'} h g = record {
   by = λ s d. grows_bind d (m s) (m' (with_more d s)) k k' (h.by s d) g;
@@ -97,8 +97,8 @@ pub steady_pure : {A : Type 0} (a : A) → Steady (pure a)
 unfolding pure
 steady_pure a = record { by = λ s d. refl; low = λ s. later_same s.world; high = λ s. later_same s.world }
 
-pub steady_undefined : {A : Type 0} (reason : Reason) → Steady (undefined {A = A} reason)
-unfolding undefined
+pub steady_undefined : {A : Type 0} (reason : Reason) → Steady (undefined_behaviour {A = A} reason)
+unfolding undefined_behaviour
 steady_undefined reason = record { by = λ s d. refl; low = λ s. later_same s.world; high = λ s. later_same s.world }
 
 pub steady_trap : {A : Type 0} (code : ℕ) → Steady (trap {A = A} code)
@@ -121,7 +121,7 @@ pub steady_write : (k : ℕ) (v : Value) → Steady (write_register k v)
 unfolding write_register
 steady_write k v = record { by = λ s d. refl; low = λ s. later_same s.world; high = λ s. later_same s.world }
 
-pub grown_seen : {A : Type 0} {k k' : Memory → Run A} → ((m : Memory) → Grown (k m) (k' m)) → Grown (on_memory k) (on_memory k')
+pub grown_seen : {A : Type 0} {k k' : Memory → Run A} → ((m : Memory) → RunGrows (k m) (k' m)) → RunGrows (on_memory k) (on_memory k')
 unfolding on_memory
 grown_seen g = record {
   by = λ s d. (g s.world.outer.memory).by s d;
@@ -151,15 +151,15 @@ steady_read k = record {
   high = λ s. (steady_used _ (s.registers k)).high s;
 }
 
-pub grown_if : {A : Type 0} (c : Bool) {a a' b b' : Run A} → Grown a a' → Grown b b'
-    → Grown (if c then a else b) (if c then a' else b')
+pub grown_if : {A : Type 0} (c : Bool) {a a' b b' : Run A} → RunGrows a a' → RunGrows b b'
+    → RunGrows (if c then a else b) (if c then a' else b')
 grown_if true g h = g
 grown_if false g h = h
 
 -- ---- turns
 
 -- a run that has no turn may be any run
-pub grown_no_turn : {A : Type 0} (c : Run A) → ((s : CallState) → Reaches s.world (c s)) → Grown no_turn c
+pub grown_no_turn : {A : Type 0} (c : Run A) → ((s : CallState) → Reaches s.world (c s)) → RunGrows no_turn c
 unfolding no_turn
 grown_no_turn c h = record {
   by = λ s d. reaches_on s.world (more_turns d s.world) (c (with_more d s)) (record { output = starts_same s.world.outer.output; peak = omega arith }) (h (with_more d s));
@@ -210,8 +210,8 @@ reaches_object size k run scope h s =
     (reaches_on s.world (begun size s).world (run (bind_object scope k o) (begun size s)) (record { output = starts_same s.world.outer.output; peak = omega arith }) (h (bind_object scope k o) (begun size s)))
     (λ a t. (steady_leaving o a).low t)
 
-pub grown_object : {A : Type 0} (size k : ℕ) {run run' : Scope → Run A} (scope : Scope) → ((inner : Scope) → Grown (run inner) (run' inner))
-    → Grown (with_local_object size k run scope) (with_local_object size k run' scope)
+pub grown_object : {A : Type 0} (size k : ℕ) {run run' : Scope → Run A} (scope : Scope) → ((inner : Scope) → RunGrows (run inner) (run' inner))
+    → RunGrows (with_local_object size k run scope) (with_local_object size k run' scope)
 grown_object size k {run = run} {run' = run'} scope g = record {
   by = λ s d.
       let o = length s.world.outer.memory in
@@ -244,8 +244,8 @@ reaches_call rooms n run h s =
     (reaches_on s.world (inside rooms n s).world (run (inside rooms n s)) (later_inside rooms n s) (h (inside rooms n s)))
     (λ a t. (steady_behind rooms n s.registers a).low t)
 
-pub grown_call : {A : Type 0} (rooms : Rooms) (n : ℕ) {run run' : Run A} → Grown run run'
-    → Grown (within_call rooms n run) (within_call rooms n run')
+pub grown_call : {A : Type 0} (rooms : Rooms) (n : ℕ) {run run' : Run A} → RunGrows run run'
+    → RunGrows (within_call rooms n run) (within_call rooms n run')
 grown_call rooms n {run = run} {run' = run'} g = record {
   by = λ s d. grows_bind d (run (inside rooms n s)) (run' (with_more d (inside rooms n s))) (behind rooms n s.registers) (behind rooms n s.registers)
       (g.by (inside rooms n s) d) (λ a. steady_behind rooms n s.registers a);

@@ -27,7 +27,7 @@ use Rattle.c_semantics.specs.Refines.{IsBelow, IgnorePeak, RefinesIn, ExprRefine
 use Rattle.std.proofs.lemmas.Option.{none-some}
 use Rattle.c_semantics.proofs.Facts.{no_true, front, back, also, both_on, either_on, along, three, four, five, Keeps, keeps_then, keeps_with, keeps_choice, keeps_zero, cast_on, conversion_on}
 use Rattle.c_semantics.proofs.Forms as forms
-use Rattle.c_semantics.proofs.Below.{below_refines, refines_below, onto, BelowOf, kept}
+use Rattle.c_semantics.proofs.Below.{below_refines, refines_below, onto, BelowOf, kept_below}
 
 -- ---- what a refinement is from a state with a lower peak
 
@@ -56,8 +56,8 @@ inside c x y h = record {
   memory = h.memory;
   constants = h.constants;
   built = h.built;
-  value = λ f i scope. refines_below (forms.eval_related BelowOf kept c.structs c.locals f f i scope y) (h.value f i scope);
-  stands = λ f i scope. refines_below (forms.place_related BelowOf kept c.structs c.locals f f i scope y) (h.stands f i scope);
+  value = λ f i scope. refines_below (forms.eval_related BelowOf kept_below c.structs c.locals f f i scope y) (h.value f i scope);
+  stands = λ f i scope. refines_below (forms.place_related BelowOf kept_below c.structs c.locals f f i scope y) (h.stands f i scope);
 }
 
 -- ---- forms of one part
@@ -87,24 +87,24 @@ module _ (c : Context) {x y : Expr} (h : Inside c x y) where
   unary_place t u.Not p = p
 
   unary_value_on : (t : PlainType) (op : UnaryOp) (f : Functions) (i : IgnorePeak f) (scope : Scope) → IsBelow (eval c.structs c.locals f scope (Unary t op x)) (eval c.structs c.locals f scope (Unary t op y))
-  unary_value_on t u.Increment f i scope = kept.bind (h.stands f i scope) ((forms.related_update BelowOf kept) c.structs t new_value ((forms.steady_stepped BelowOf kept) c.structs steps.Increment t))
-  unary_value_on t u.Decrement f i scope = kept.bind (h.stands f i scope) ((forms.related_update BelowOf kept) c.structs t new_value ((forms.steady_stepped BelowOf kept) c.structs steps.Decrement t))
-  unary_value_on t u.Address f i scope = kept.bind (h.stands f i scope) (forms.steady_pointer BelowOf kept)
-  unary_value_on t u.Dereference f i scope = kept.bind (kept.bind (h.value f i scope) ((forms.steady_used BelowOf kept) _)) ((forms.steady_read_at BelowOf kept) t)
-  unary_value_on t u.Plus f i scope = kept.bind (h.value f i scope) ((forms.steady_plus BelowOf kept) t)
-  unary_value_on t u.Minus f i scope = kept.bind (h.value f i scope) ((forms.steady_minus BelowOf kept) t)
-  unary_value_on t u.Invert f i scope = kept.bind (h.value f i scope) ((forms.steady_invert BelowOf kept) t)
-  unary_value_on t u.Not f i scope = kept.bind (kept.bind (h.value f i scope) (forms.steady_test BelowOf kept)) ((forms.related_choose BelowOf kept) ((forms.steady_truth BelowOf kept) false) ((forms.steady_truth BelowOf kept) true))
+  unary_value_on t u.Increment f i scope = kept_below.bind (h.stands f i scope) ((forms.related_update BelowOf kept_below) c.structs t new_value ((forms.steady_stepped BelowOf kept_below) c.structs steps.Increment t))
+  unary_value_on t u.Decrement f i scope = kept_below.bind (h.stands f i scope) ((forms.related_update BelowOf kept_below) c.structs t new_value ((forms.steady_stepped BelowOf kept_below) c.structs steps.Decrement t))
+  unary_value_on t u.Address f i scope = kept_below.bind (h.stands f i scope) (forms.steady_pointer BelowOf kept_below)
+  unary_value_on t u.Dereference f i scope = kept_below.bind (kept_below.bind (h.value f i scope) ((forms.steady_used BelowOf kept_below) _)) ((forms.steady_read_at BelowOf kept_below) t)
+  unary_value_on t u.Plus f i scope = kept_below.bind (h.value f i scope) ((forms.steady_plus BelowOf kept_below) t)
+  unary_value_on t u.Minus f i scope = kept_below.bind (h.value f i scope) ((forms.steady_minus BelowOf kept_below) t)
+  unary_value_on t u.Invert f i scope = kept_below.bind (h.value f i scope) ((forms.steady_invert BelowOf kept_below) t)
+  unary_value_on t u.Not f i scope = kept_below.bind (kept_below.bind (h.value f i scope) (forms.steady_test BelowOf kept_below)) ((forms.related_choose BelowOf kept_below) ((forms.steady_truth BelowOf kept_below) false) ((forms.steady_truth BelowOf kept_below) true))
 
   unary_stands : (t : PlainType) (op : UnaryOp) (f : Functions) (i : IgnorePeak f) (scope : Scope) → IsBelow (place c.structs c.locals f scope (Unary t op x)) (place c.structs c.locals f scope (Unary t op y))
-  unary_stands t u.Increment f i scope = kept.undefined _
-  unary_stands t u.Decrement f i scope = kept.undefined _
-  unary_stands t u.Address f i scope = kept.undefined _
-  unary_stands t u.Dereference f i scope = kept.bind (kept.bind (h.value f i scope) ((forms.steady_used BelowOf kept) _)) (λ p. kept.pure _)
-  unary_stands t u.Plus f i scope = kept.undefined _
-  unary_stands t u.Minus f i scope = kept.undefined _
-  unary_stands t u.Invert f i scope = kept.undefined _
-  unary_stands t u.Not f i scope = kept.undefined _
+  unary_stands t u.Increment f i scope = kept_below.undefined _
+  unary_stands t u.Decrement f i scope = kept_below.undefined _
+  unary_stands t u.Address f i scope = kept_below.undefined _
+  unary_stands t u.Dereference f i scope = kept_below.bind (kept_below.bind (h.value f i scope) ((forms.steady_used BelowOf kept_below) _)) (λ p. kept_below.pure _)
+  unary_stands t u.Plus f i scope = kept_below.undefined _
+  unary_stands t u.Minus f i scope = kept_below.undefined _
+  unary_stands t u.Invert f i scope = kept_below.undefined _
+  unary_stands t u.Not f i scope = kept_below.undefined _
 
   unary_refines : (t : PlainType) (op : UnaryOp) → IsTrue (is_fit c.structs t) → IsTrue (has_rule c (Unary t op y)) → Inside c (Unary t op x) (Unary t op y)
   unfolding expr_weight
@@ -132,8 +132,8 @@ module _ (c : Context) {x y : Expr} (h : Inside c x y) where
     memory = λ p. p;
     constants = λ n e. subst (λ o. option_and_then (converted_value (integer_of o) (integer_of t)) (constant x) ≡ Some n) (sym h.types) (keeps_then (converted_value (integer_of (type_of y)) (integer_of t)) (constant x) (constant y) h.constants n e);
     built = both_on (is_integer t) (is_built y) (is_integer t) (is_built x) (λ p. p) h.built;
-    value = λ f i scope. subst (λ from. IsBelow (eval c.structs c.locals f scope (Cast t x)) (converted_from from t (eval c.structs c.locals f scope y) (place c.structs c.locals f scope y))) h.types ((forms.related_converted BelowOf kept) (type_of x) t (h.value f i scope) (h.stands f i scope));
-    stands = λ f i scope. kept.undefined _;
+    value = λ f i scope. subst (λ from. IsBelow (eval c.structs c.locals f scope (Cast t x)) (converted_from from t (eval c.structs c.locals f scope y) (place c.structs c.locals f scope y))) h.types ((forms.related_converted BelowOf kept_below) (type_of x) t (h.value f i scope) (h.stands f i scope));
+    stands = λ f i scope. kept_below.undefined _;
   }
 
   convert_refines : (t : PlainType) → IsTrue (is_fit c.structs t) → IsTrue (has_rule c (Convert t y)) → Inside c (Convert t x) (Convert t y)
@@ -147,8 +147,8 @@ module _ (c : Context) {x y : Expr} (h : Inside c x y) where
     memory = λ p. p;
     constants = λ n e. subst (λ o. option_and_then (converted_value (integer_of o) (integer_of t)) (constant x) ≡ Some n) (sym h.types) (keeps_then (converted_value (integer_of (type_of y)) (integer_of t)) (constant x) (constant y) h.constants n e);
     built = both_on (is_integer t) (is_built y) (is_integer t) (is_built x) (λ p. p) h.built;
-    value = λ f i scope. subst (λ from. IsBelow (eval c.structs c.locals f scope (Convert t x)) (converted_from from t (eval c.structs c.locals f scope y) (place c.structs c.locals f scope y))) h.types ((forms.related_converted BelowOf kept) (type_of x) t (h.value f i scope) (h.stands f i scope));
-    stands = λ f i scope. kept.undefined _;
+    value = λ f i scope. subst (λ from. IsBelow (eval c.structs c.locals f scope (Convert t x)) (converted_from from t (eval c.structs c.locals f scope y) (place c.structs c.locals f scope y))) h.types ((forms.related_converted BelowOf kept_below) (type_of x) t (h.value f i scope) (h.stands f i scope));
+    stands = λ f i scope. kept_below.undefined _;
   }
 
   field_refines : (t : PlainType) (m : ℕ) → IsTrue (is_fit c.structs t) → IsTrue (has_rule c (Field t y m)) → Inside c (Field t x m) (Field t y m)
@@ -162,8 +162,8 @@ module _ (c : Context) {x y : Expr} (h : Inside c x y) where
     memory = h.memory;
     constants = λ n e. absurd (none-some n e);
     built = λ p. p;
-    value = λ f i scope. kept.bind (kept.bind (kept.bind (h.stands f i scope) (forms.steady_pointer BelowOf kept)) (λ p. onto (ap (λ o. member_pointer c.structs o m p) h.types) (forms.steady_member BelowOf kept c.structs c.locals f f i (type_of x) m p))) ((forms.steady_read_at BelowOf kept) t);
-    stands = λ f i scope. kept.bind (kept.bind (kept.bind (h.stands f i scope) (forms.steady_pointer BelowOf kept)) (λ p. onto (ap (λ o. member_pointer c.structs o m p) h.types) (forms.steady_member BelowOf kept c.structs c.locals f f i (type_of x) m p))) (λ p. kept.pure _);
+    value = λ f i scope. kept_below.bind (kept_below.bind (kept_below.bind (h.stands f i scope) (forms.steady_pointer BelowOf kept_below)) (λ p. onto (ap (λ o. member_pointer c.structs o m p) h.types) (forms.steady_member BelowOf kept_below c.structs c.locals f f i (type_of x) m p))) ((forms.steady_read_at BelowOf kept_below) t);
+    stands = λ f i scope. kept_below.bind (kept_below.bind (kept_below.bind (h.stands f i scope) (forms.steady_pointer BelowOf kept_below)) (λ p. onto (ap (λ o. member_pointer c.structs o m p) h.types) (forms.steady_member BelowOf kept_below c.structs c.locals f f i (type_of x) m p))) (λ p. kept_below.pure _);
   }
 
   arrow_refines : (t : PlainType) (m : ℕ) → IsTrue (is_fit c.structs t) → IsTrue (has_rule c (Arrow t y m)) → Inside c (Arrow t x m) (Arrow t y m)
@@ -177,8 +177,8 @@ module _ (c : Context) {x y : Expr} (h : Inside c x y) where
     memory = λ p. p;
     constants = λ n e. absurd (none-some n e);
     built = λ p. p;
-    value = λ f i scope. kept.bind (kept.bind (h.value f i scope) (λ p. onto (ap (λ o. member_pointer c.structs (target_of o) m p) h.types) (forms.steady_member BelowOf kept c.structs c.locals f f i (target_of (type_of x)) m p))) ((forms.steady_read_at BelowOf kept) t);
-    stands = λ f i scope. kept.bind (kept.bind (h.value f i scope) (λ p. onto (ap (λ o. member_pointer c.structs (target_of o) m p) h.types) (forms.steady_member BelowOf kept c.structs c.locals f f i (target_of (type_of x)) m p))) (λ p. kept.pure _);
+    value = λ f i scope. kept_below.bind (kept_below.bind (h.value f i scope) (λ p. onto (ap (λ o. member_pointer c.structs (target_of o) m p) h.types) (forms.steady_member BelowOf kept_below c.structs c.locals f f i (target_of (type_of x)) m p))) ((forms.steady_read_at BelowOf kept_below) t);
+    stands = λ f i scope. kept_below.bind (kept_below.bind (h.value f i scope) (λ p. onto (ap (λ o. member_pointer c.structs (target_of o) m p) h.types) (forms.steady_member BelowOf kept_below c.structs c.locals f f i (target_of (type_of x)) m p))) (λ p. kept_below.pure _);
   }
 
   postfix_refines : (t : PlainType) (op : StepOp) → IsTrue (is_fit c.structs t) → IsTrue (has_rule c (Postfix t op y)) → Inside c (Postfix t op x) (Postfix t op y)
@@ -192,8 +192,8 @@ module _ (c : Context) {x y : Expr} (h : Inside c x y) where
     memory = λ p. p;
     constants = λ n e. absurd (none-some n e);
     built = λ p. p;
-    value = λ f i scope. kept.bind (h.stands f i scope) ((forms.related_update BelowOf kept) c.structs t old_value ((forms.steady_stepped BelowOf kept) c.structs op t));
-    stands = λ f i scope. kept.undefined _;
+    value = λ f i scope. kept_below.bind (h.stands f i scope) ((forms.related_update BelowOf kept_below) c.structs t old_value ((forms.steady_stepped BelowOf kept_below) c.structs op t));
+    stands = λ f i scope. kept_below.undefined _;
   }
 
 -- ---- forms of two parts
@@ -213,24 +213,24 @@ module _ (c : Context) {x y v w : Expr} (h : Inside c x y) (g : Inside c v w) wh
   element_types a d = ap (λ o. element_pointer c.structs o (type_of v) a d) h.types ∙ ap (λ o. element_pointer c.structs (type_of y) o a d) g.types
 
   binary_value_on : (t : PlainType) (op : BinaryOp) (f : Functions) (i : IgnorePeak f) (scope : Scope) → IsBelow (eval c.structs c.locals f scope (Binary t op x v)) (eval c.structs c.locals f scope (Binary t op y w))
-  binary_value_on t b.LogicalOr f i scope = kept.bind (kept.bind (h.value f i scope) (forms.steady_test BelowOf kept)) ((forms.related_choose BelowOf kept) ((forms.steady_truth BelowOf kept) true) (kept.bind (kept.bind (g.value f i scope) (forms.steady_test BelowOf kept)) (forms.steady_truth BelowOf kept)))
-  binary_value_on t b.LogicalAnd f i scope = kept.bind (kept.bind (h.value f i scope) (forms.steady_test BelowOf kept)) ((forms.related_choose BelowOf kept) (kept.bind (kept.bind (g.value f i scope) (forms.steady_test BelowOf kept)) (forms.steady_truth BelowOf kept)) ((forms.steady_truth BelowOf kept) false))
-  binary_value_on t b.Or f i scope = kept.bind (h.value f i scope) (λ a. kept.bind (g.value f i scope) (λ d. onto (both_types b.Or a d) ((forms.steady_binary BelowOf kept) c.structs b.Or (type_of x) (type_of v) a d)))
-  binary_value_on t b.Xor f i scope = kept.bind (h.value f i scope) (λ a. kept.bind (g.value f i scope) (λ d. onto (both_types b.Xor a d) ((forms.steady_binary BelowOf kept) c.structs b.Xor (type_of x) (type_of v) a d)))
-  binary_value_on t b.And f i scope = kept.bind (h.value f i scope) (λ a. kept.bind (g.value f i scope) (λ d. onto (both_types b.And a d) ((forms.steady_binary BelowOf kept) c.structs b.And (type_of x) (type_of v) a d)))
-  binary_value_on t b.Equal f i scope = kept.bind (h.value f i scope) (λ a. kept.bind (g.value f i scope) (λ d. onto (both_types b.Equal a d) ((forms.steady_binary BelowOf kept) c.structs b.Equal (type_of x) (type_of v) a d)))
-  binary_value_on t b.NotEqual f i scope = kept.bind (h.value f i scope) (λ a. kept.bind (g.value f i scope) (λ d. onto (both_types b.NotEqual a d) ((forms.steady_binary BelowOf kept) c.structs b.NotEqual (type_of x) (type_of v) a d)))
-  binary_value_on t b.Less f i scope = kept.bind (h.value f i scope) (λ a. kept.bind (g.value f i scope) (λ d. onto (both_types b.Less a d) ((forms.steady_binary BelowOf kept) c.structs b.Less (type_of x) (type_of v) a d)))
-  binary_value_on t b.Greater f i scope = kept.bind (h.value f i scope) (λ a. kept.bind (g.value f i scope) (λ d. onto (both_types b.Greater a d) ((forms.steady_binary BelowOf kept) c.structs b.Greater (type_of x) (type_of v) a d)))
-  binary_value_on t b.LessEqual f i scope = kept.bind (h.value f i scope) (λ a. kept.bind (g.value f i scope) (λ d. onto (both_types b.LessEqual a d) ((forms.steady_binary BelowOf kept) c.structs b.LessEqual (type_of x) (type_of v) a d)))
-  binary_value_on t b.GreaterEqual f i scope = kept.bind (h.value f i scope) (λ a. kept.bind (g.value f i scope) (λ d. onto (both_types b.GreaterEqual a d) ((forms.steady_binary BelowOf kept) c.structs b.GreaterEqual (type_of x) (type_of v) a d)))
-  binary_value_on t b.ShiftLeft f i scope = kept.bind (h.value f i scope) (λ a. kept.bind (g.value f i scope) (λ d. onto (both_types b.ShiftLeft a d) ((forms.steady_binary BelowOf kept) c.structs b.ShiftLeft (type_of x) (type_of v) a d)))
-  binary_value_on t b.ShiftRight f i scope = kept.bind (h.value f i scope) (λ a. kept.bind (g.value f i scope) (λ d. onto (both_types b.ShiftRight a d) ((forms.steady_binary BelowOf kept) c.structs b.ShiftRight (type_of x) (type_of v) a d)))
-  binary_value_on t b.Add f i scope = kept.bind (h.value f i scope) (λ a. kept.bind (g.value f i scope) (λ d. onto (both_types b.Add a d) ((forms.steady_binary BelowOf kept) c.structs b.Add (type_of x) (type_of v) a d)))
-  binary_value_on t b.Subtract f i scope = kept.bind (h.value f i scope) (λ a. kept.bind (g.value f i scope) (λ d. onto (both_types b.Subtract a d) ((forms.steady_binary BelowOf kept) c.structs b.Subtract (type_of x) (type_of v) a d)))
-  binary_value_on t b.Multiply f i scope = kept.bind (h.value f i scope) (λ a. kept.bind (g.value f i scope) (λ d. onto (both_types b.Multiply a d) ((forms.steady_binary BelowOf kept) c.structs b.Multiply (type_of x) (type_of v) a d)))
-  binary_value_on t b.Divide f i scope = kept.bind (h.value f i scope) (λ a. kept.bind (g.value f i scope) (λ d. onto (both_types b.Divide a d) ((forms.steady_binary BelowOf kept) c.structs b.Divide (type_of x) (type_of v) a d)))
-  binary_value_on t b.Remainder f i scope = kept.bind (h.value f i scope) (λ a. kept.bind (g.value f i scope) (λ d. onto (both_types b.Remainder a d) ((forms.steady_binary BelowOf kept) c.structs b.Remainder (type_of x) (type_of v) a d)))
+  binary_value_on t b.LogicalOr f i scope = kept_below.bind (kept_below.bind (h.value f i scope) (forms.steady_test BelowOf kept_below)) ((forms.related_choose BelowOf kept_below) ((forms.steady_truth BelowOf kept_below) true) (kept_below.bind (kept_below.bind (g.value f i scope) (forms.steady_test BelowOf kept_below)) (forms.steady_truth BelowOf kept_below)))
+  binary_value_on t b.LogicalAnd f i scope = kept_below.bind (kept_below.bind (h.value f i scope) (forms.steady_test BelowOf kept_below)) ((forms.related_choose BelowOf kept_below) (kept_below.bind (kept_below.bind (g.value f i scope) (forms.steady_test BelowOf kept_below)) (forms.steady_truth BelowOf kept_below)) ((forms.steady_truth BelowOf kept_below) false))
+  binary_value_on t b.Or f i scope = kept_below.bind (h.value f i scope) (λ a. kept_below.bind (g.value f i scope) (λ d. onto (both_types b.Or a d) ((forms.steady_binary BelowOf kept_below) c.structs b.Or (type_of x) (type_of v) a d)))
+  binary_value_on t b.Xor f i scope = kept_below.bind (h.value f i scope) (λ a. kept_below.bind (g.value f i scope) (λ d. onto (both_types b.Xor a d) ((forms.steady_binary BelowOf kept_below) c.structs b.Xor (type_of x) (type_of v) a d)))
+  binary_value_on t b.And f i scope = kept_below.bind (h.value f i scope) (λ a. kept_below.bind (g.value f i scope) (λ d. onto (both_types b.And a d) ((forms.steady_binary BelowOf kept_below) c.structs b.And (type_of x) (type_of v) a d)))
+  binary_value_on t b.Equal f i scope = kept_below.bind (h.value f i scope) (λ a. kept_below.bind (g.value f i scope) (λ d. onto (both_types b.Equal a d) ((forms.steady_binary BelowOf kept_below) c.structs b.Equal (type_of x) (type_of v) a d)))
+  binary_value_on t b.NotEqual f i scope = kept_below.bind (h.value f i scope) (λ a. kept_below.bind (g.value f i scope) (λ d. onto (both_types b.NotEqual a d) ((forms.steady_binary BelowOf kept_below) c.structs b.NotEqual (type_of x) (type_of v) a d)))
+  binary_value_on t b.Less f i scope = kept_below.bind (h.value f i scope) (λ a. kept_below.bind (g.value f i scope) (λ d. onto (both_types b.Less a d) ((forms.steady_binary BelowOf kept_below) c.structs b.Less (type_of x) (type_of v) a d)))
+  binary_value_on t b.Greater f i scope = kept_below.bind (h.value f i scope) (λ a. kept_below.bind (g.value f i scope) (λ d. onto (both_types b.Greater a d) ((forms.steady_binary BelowOf kept_below) c.structs b.Greater (type_of x) (type_of v) a d)))
+  binary_value_on t b.LessEqual f i scope = kept_below.bind (h.value f i scope) (λ a. kept_below.bind (g.value f i scope) (λ d. onto (both_types b.LessEqual a d) ((forms.steady_binary BelowOf kept_below) c.structs b.LessEqual (type_of x) (type_of v) a d)))
+  binary_value_on t b.GreaterEqual f i scope = kept_below.bind (h.value f i scope) (λ a. kept_below.bind (g.value f i scope) (λ d. onto (both_types b.GreaterEqual a d) ((forms.steady_binary BelowOf kept_below) c.structs b.GreaterEqual (type_of x) (type_of v) a d)))
+  binary_value_on t b.ShiftLeft f i scope = kept_below.bind (h.value f i scope) (λ a. kept_below.bind (g.value f i scope) (λ d. onto (both_types b.ShiftLeft a d) ((forms.steady_binary BelowOf kept_below) c.structs b.ShiftLeft (type_of x) (type_of v) a d)))
+  binary_value_on t b.ShiftRight f i scope = kept_below.bind (h.value f i scope) (λ a. kept_below.bind (g.value f i scope) (λ d. onto (both_types b.ShiftRight a d) ((forms.steady_binary BelowOf kept_below) c.structs b.ShiftRight (type_of x) (type_of v) a d)))
+  binary_value_on t b.Add f i scope = kept_below.bind (h.value f i scope) (λ a. kept_below.bind (g.value f i scope) (λ d. onto (both_types b.Add a d) ((forms.steady_binary BelowOf kept_below) c.structs b.Add (type_of x) (type_of v) a d)))
+  binary_value_on t b.Subtract f i scope = kept_below.bind (h.value f i scope) (λ a. kept_below.bind (g.value f i scope) (λ d. onto (both_types b.Subtract a d) ((forms.steady_binary BelowOf kept_below) c.structs b.Subtract (type_of x) (type_of v) a d)))
+  binary_value_on t b.Multiply f i scope = kept_below.bind (h.value f i scope) (λ a. kept_below.bind (g.value f i scope) (λ d. onto (both_types b.Multiply a d) ((forms.steady_binary BelowOf kept_below) c.structs b.Multiply (type_of x) (type_of v) a d)))
+  binary_value_on t b.Divide f i scope = kept_below.bind (h.value f i scope) (λ a. kept_below.bind (g.value f i scope) (λ d. onto (both_types b.Divide a d) ((forms.steady_binary BelowOf kept_below) c.structs b.Divide (type_of x) (type_of v) a d)))
+  binary_value_on t b.Remainder f i scope = kept_below.bind (h.value f i scope) (λ a. kept_below.bind (g.value f i scope) (λ d. onto (both_types b.Remainder a d) ((forms.steady_binary BelowOf kept_below) c.structs b.Remainder (type_of x) (type_of v) a d)))
 
   binary_refines : (t : PlainType) (op : BinaryOp) → IsTrue (is_fit c.structs t) → IsTrue (has_rule c (Binary t op y w)) → Inside c (Binary t op x v) (Binary t op y w)
   unfolding expr_weight
@@ -247,7 +247,7 @@ module _ (c : Context) {x y v w : Expr} (h : Inside c x y) (g : Inside c v w) wh
         (keeps_with op (integer_of (type_of y)) (integer_of (type_of w)) (constant x) (constant y) (is_built v) (is_built w) (constant v) (constant w) h.constants g.built g.constants n e));
     built = both_on (is_integer t && is_built y) (is_built w) (is_integer t && is_built x) (is_built v) (both_on (is_integer t) (is_built y) (is_integer t) (is_built x) (λ p. p) h.built) g.built;
     value = binary_value_on t op;
-    stands = λ f i scope. kept.undefined _;
+    stands = λ f i scope. kept_below.undefined _;
   }
 
   assign_rule : (t : PlainType) (op : AssignOp) → IsTrue (has_rule c (Assign t op y w)) → IsTrue (has_rule c (Assign t op x v))
@@ -268,8 +268,8 @@ module _ (c : Context) {x y v w : Expr} (h : Inside c x y) (g : Inside c v w) wh
     memory = λ p. p;
     constants = λ n e. absurd (none-some n e);
     built = λ p. p;
-    value = λ f i scope. kept.bind (h.stands f i scope) (λ p. kept.bind (g.value f i scope) (λ d. onto (ap (λ o. assign_value c.structs t o (operator_of op) p d) g.types) ((forms.steady_assign BelowOf kept) c.structs t (type_of v) (operator_of op) p d)));
-    stands = λ f i scope. kept.undefined _;
+    value = λ f i scope. kept_below.bind (h.stands f i scope) (λ p. kept_below.bind (g.value f i scope) (λ d. onto (ap (λ o. assign_value c.structs t o (operator_of op) p d) g.types) ((forms.steady_assign BelowOf kept_below) c.structs t (type_of v) (operator_of op) p d)));
+    stands = λ f i scope. kept_below.undefined _;
   }
 
   index_refines : (t : PlainType) → IsTrue (is_fit c.structs t) → IsTrue (has_rule c (Index t y w)) → Inside c (Index t x v) (Index t y w)
@@ -283,8 +283,8 @@ module _ (c : Context) {x y v w : Expr} (h : Inside c x y) (g : Inside c v w) wh
     memory = λ p. p;
     constants = λ n e. absurd (none-some n e);
     built = λ p. p;
-    value = λ f i scope. kept.bind (kept.bind (h.value f i scope) (λ a. kept.bind (g.value f i scope) (λ d. onto (element_types a d) ((forms.steady_element BelowOf kept) c.structs (type_of x) (type_of v) a d)))) ((forms.steady_read_at BelowOf kept) t);
-    stands = λ f i scope. kept.bind (kept.bind (h.value f i scope) (λ a. kept.bind (g.value f i scope) (λ d. onto (element_types a d) ((forms.steady_element BelowOf kept) c.structs (type_of x) (type_of v) a d)))) (λ p. kept.pure _);
+    value = λ f i scope. kept_below.bind (kept_below.bind (h.value f i scope) (λ a. kept_below.bind (g.value f i scope) (λ d. onto (element_types a d) ((forms.steady_element BelowOf kept_below) c.structs (type_of x) (type_of v) a d)))) ((forms.steady_read_at BelowOf kept_below) t);
+    stands = λ f i scope. kept_below.bind (kept_below.bind (h.value f i scope) (λ a. kept_below.bind (g.value f i scope) (λ d. onto (element_types a d) ((forms.steady_element BelowOf kept_below) c.structs (type_of x) (type_of v) a d)))) (λ p. kept_below.pure _);
   }
 
 -- ---- choices
@@ -307,8 +307,8 @@ module _ (c : Context) {x y v w k z : Expr} (h : Inside c x y) (g : Inside c v w
     memory = λ p. p;
     constants = keeps_choice (constant x) (constant y) (is_built v && is_built k) (is_built w && is_built z) (constant v) (constant w) (constant k) (constant z) h.constants built_arms g.constants l.constants;
     built = both_on (is_integer t && is_built y && is_built w) (is_built z) (is_integer t && is_built x && is_built v) (is_built k) (both_on (is_integer t && is_built y) (is_built w) (is_integer t && is_built x) (is_built v) (both_on (is_integer t) (is_built y) (is_integer t) (is_built x) (λ p. p) h.built) g.built) l.built;
-    value = λ f i scope. kept.bind (kept.bind (h.value f i scope) (forms.steady_test BelowOf kept)) ((forms.related_choose BelowOf kept) (g.value f i scope) (l.value f i scope));
-    stands = λ f i scope. kept.undefined _;
+    value = λ f i scope. kept_below.bind (kept_below.bind (h.value f i scope) (forms.steady_test BelowOf kept_below)) ((forms.related_choose BelowOf kept_below) (g.value f i scope) (l.value f i scope));
+    stands = λ f i scope. kept_below.undefined _;
   }
 
 -- ---- lists of expressions
@@ -336,7 +336,7 @@ none_refines c = record {
   weight = omega arith;
   built = λ r. r;
   last_constant = λ p q k. k;
-  values = λ f i scope. kept.pure [];
+  values = λ f i scope. kept_below.pure [];
   last = λ f i scope k. k;
 }
 
@@ -366,8 +366,8 @@ module _ (c : Context) {x y : Expr} {xs ys : Exprs} (h : Inside c x y) (g : List
     weight = omega (arith, h.weight, g.weight);
     built = both_on (is_built y) (are_built ys) (is_built x) (are_built xs) h.built g.built;
     last_constant = more_constant;
-    values = λ f i scope. kept.bind (kept.bind (h.value f i scope) (forms.steady_used BelowOf kept _)) (λ v. kept.bind (g.values f i scope) (λ vs. kept.pure _));
-    last = λ f i scope k. kept.bind k (λ _. g.last f i scope (h.value f i scope));
+    values = λ f i scope. kept_below.bind (kept_below.bind (h.value f i scope) (forms.steady_used BelowOf kept_below _)) (λ v. kept_below.bind (g.values f i scope) (λ vs. kept_below.pure _));
+    last = λ f i scope k. kept_below.bind k (λ _. g.last f i scope (h.value f i scope));
   }
 
 call_rule : (c : Context) {xs ys : Exprs} → ListIn c xs ys → (t : PlainType) (s : Option Signature) → IsTrue (is_call s t ys) → IsTrue (is_call s t xs)
@@ -388,9 +388,9 @@ call_refines c {xs = xs} {ys = ys} g t callee fit rule = record {
   constants = λ n e. absurd (none-some n e);
   built = λ p. p;
   value = λ f i scope.
-      kept.bind (kept.bind (g.values f i scope) (forms.call_related BelowOf kept c.structs c.locals f f i callee))
-      (forms.steady_given BelowOf kept t);
-  stands = λ f i scope. kept.undefined _;
+      kept_below.bind (kept_below.bind (g.values f i scope) (forms.call_related BelowOf kept_below c.structs c.locals f f i callee))
+      (forms.steady_given BelowOf kept_below t);
+  stands = λ f i scope. kept_below.undefined _;
 }
 
 comma_refines : (c : Context) {x y v w : Expr} {xs ys : Exprs} → Inside c x y → Inside c v w → ListIn c xs ys → (t : PlainType)
@@ -411,7 +411,7 @@ comma_refines c {x = x} {y = y} {v = v} {w = w} {xs = xs} {ys = ys} h g k t fit 
       constants = l.last_constant (constant x) (constant y) h.constants;
       built = both_on (is_integer t) (are_built (more_exprs y (more_exprs w ys))) (is_integer t) (are_built (more_exprs x (more_exprs v xs))) (λ p. p) m.built;
       value = λ f i scope. l.last f i scope (h.value f i scope);
-      stands = λ f i scope. kept.undefined _;
+      stands = λ f i scope. kept_below.undefined _;
     }
 
 -- ---- the whole

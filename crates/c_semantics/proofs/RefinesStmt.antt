@@ -30,7 +30,7 @@ use Rattle.c_semantics.specs.Refines.{IsBelow, IgnorePeak, ExprWithin, OptionWit
 use Rattle.c_semantics.proofs.Facts.{front, back, also, either_on, along, three, four}
 use Rattle.c_semantics.proofs.RefinesExpr.{within_below}
 use Rattle.c_semantics.proofs.Forms as forms
-use Rattle.c_semantics.proofs.Below.{below_refines, refines_below, BelowOf, kept, no_turn_below}
+use Rattle.c_semantics.proofs.Below.{below_refines, refines_below, BelowOf, kept_below, no_turn_below}
 
 -- ---- the locals and labels of both are the same
 
@@ -330,22 +330,22 @@ module _ (c : Context) (f : Functions) (i : IgnorePeak f) where
   ls = c.locals
 
   holds_below : (scope : Scope) {x y : Expr} → ExprWithin x y → IsTrue (is_condition c y) → IsBelow (holds ds ls f scope x) (holds ds ls f scope y)
-  holds_below scope {y = y} h p = kept.bind ((within_below h c (typed_condition c y p)).value f i scope) (forms.steady_test BelowOf kept)
+  holds_below scope {y = y} h p = kept_below.bind ((within_below h c (typed_condition c y p)).value f i scope) (forms.steady_test BelowOf kept_below)
 
   condition_below : (scope : Scope) {x y : Option Expr} → OptionWithin x y → IsTrue (is_optional_condition c y) → IsBelow (loop_condition ds ls f scope x) (loop_condition ds ls f scope y)
-  condition_below scope r.missing p = kept.pure true
+  condition_below scope r.missing p = kept_below.pure true
   condition_below scope (r.present h) p = holds_below scope h p
 
   step_below : (scope : Scope) {x y : Option Expr} → OptionWithin x y → IsTrue (is_optional_value c y) → IsBelow (loop_step ds ls f scope x) (loop_step ds ls f scope y)
-  step_below scope r.missing p = kept.pure tt
-  step_below scope (r.present {y = y} h) p = kept.bind ((within_below h c (typed_value c y p)).value f i scope) (λ v. kept.pure tt)
+  step_below scope r.missing p = kept_below.pure tt
+  step_below scope (r.present {y = y} h) p = kept_below.bind ((within_below h c (typed_value c y p)).value f i scope) (λ v. kept_below.pure tt)
 
   initialise_below : (scope : Scope) (k : ℕ) (l : Option Local) {x y : Option Expr} → OptionWithin x y → IsTrue (is_initialiser c l y) → IsBelow (initialise_object ds ls f scope k l x) (initialise_object ds ls f scope k l y)
-  initialise_below scope k None h p = kept.pure tt
-  initialise_below scope k (Some l) r.missing p = kept.pure tt
+  initialise_below scope k None h p = kept_below.pure tt
+  initialise_below scope k (Some l) r.missing p = kept_below.pure tt
   initialise_below scope k (Some l) (r.present {y = y} h) p =
-      kept.bind ((within_below h c (typed_initialiser c (Some l) y p)).value f i scope)
-      (λ v. kept.bind (forms.steady_local BelowOf kept scope k (Some l)) (λ at. forms.steady_write_place BelowOf kept ds (type_view l.ty) at v))
+      kept_below.bind ((within_below h c (typed_initialiser c (Some l) y p)).value f i scope)
+      (λ v. kept_below.bind (forms.steady_local BelowOf kept_below scope k (Some l)) (λ at. forms.steady_write_place BelowOf kept_below ds (type_view l.ty) at v))
 
   declare_below : (scope : Scope) {d e : LocalDeclaration} → DeclaredWithin d e → IsTrue (is_declared c e) → IsBelow (run_declaration ds ls f scope d) (run_declaration ds ls f scope e)
   declare_below scope {d = d} {e = e} h p =
@@ -353,32 +353,32 @@ module _ (c : Context) (f : Functions) (i : IgnorePeak f) where
       (initialise_below scope e.number (slice_get ls e.number) h.init p)
 
   declares_below : (scope : Scope) {a b : List LocalDeclaration} → AllDeclaredWithin a b → IsTrue (list_all (is_declared c) b) → IsBelow (run_declarations ds ls f scope a) (run_declarations ds ls f scope b)
-  declares_below scope r.no_more p = kept.pure tt
+  declares_below scope r.no_more p = kept_below.pure tt
   declares_below scope (r.one_more {e = e} {es = es} h g) p =
-      kept.bind (declare_below scope h (front (is_declared c e) (list_all (is_declared c) es) p)) (λ _. declares_below scope g (back (is_declared c e) (list_all (is_declared c) es) p))
+      kept_below.bind (declare_below scope h (front (is_declared c e) (list_all (is_declared c) es) p)) (λ _. declares_below scope g (back (is_declared c e) (list_all (is_declared c) es) p))
 
   first_below : (scope : Scope) {a b : First} → FirstWithin a b → IsTrue (is_first c b) → IsBelow (first ds ls f scope a) (first ds ls f scope b)
-  first_below scope r.nothing_first p = kept.pure tt
-  first_below scope (r.value_first {y = y} h) p = kept.bind ((within_below h c (typed_value c y p)).value f i scope) (λ v. kept.pure tt)
+  first_below scope r.nothing_first p = kept_below.pure tt
+  first_below scope (r.value_first {y = y} h) p = kept_below.bind ((within_below h c (typed_value c y p)).value f i scope) (λ v. kept_below.pure tt)
   first_below scope (r.locals_first h) p = declares_below scope h p
 
   returned_below : (result : PlainType) (scope : Scope) {x y : Option Expr} → OptionWithin x y → IsTrue (is_returned c result y) → IsBelow (flow_of_return ds ls f scope x) (flow_of_return ds ls f scope y)
-  returned_below result scope r.missing p = kept.pure _
+  returned_below result scope r.missing p = kept_below.pure _
   returned_below result scope (r.present {y = y} h) p =
-      kept.bind (kept.bind ((within_below h c (typed_returned c result y p)).value f i scope) (forms.steady_used BelowOf kept _)) (λ v. kept.pure _)
+      kept_below.bind (kept_below.bind ((within_below h c (typed_returned c result y p)).value f i scope) (forms.steady_used BelowOf kept_below _)) (λ v. kept_below.pure _)
 
 -- ---- levels do not look at the peak
 
 pub level_itself : (unit : TypedUnit) (rooms : Rooms) (m n : ℕ) (scope : Scope) (s : Stmt) → IsBelow (level unit rooms m n scope s) (level unit rooms m n scope s)
 level_itself unit rooms zero n scope s = no_turn_below
 level_itself unit rooms (suc m) n scope s =
-    forms.exec_related BelowOf kept unit.structs (function_locals (slice_get unit.functions n)) (calls_of unit rooms (level unit rooms m)) (calls_of unit rooms (level unit rooms m))
-    (λ k vs. forms.call_of_related BelowOf kept unit.structs rooms (level unit rooms m) (level unit rooms m) (λ o inner t. level_itself unit rooms m o inner t) k (slice_get unit.functions k) vs)
+    forms.exec_related BelowOf kept_below unit.structs (function_locals (slice_get unit.functions n)) (calls_of unit rooms (level unit rooms m)) (calls_of unit rooms (level unit rooms m))
+    (λ k vs. forms.call_of_related BelowOf kept_below unit.structs rooms (level unit rooms m) (level unit rooms m) (λ o inner t. level_itself unit rooms m o inner t) k (slice_get unit.functions k) vs)
     (level unit rooms m n) (level unit rooms m n) (λ inner t. level_itself unit rooms m n inner t) scope s
 
 pub calls_itself : (unit : TypedUnit) (rooms : Rooms) (m : ℕ) → IgnorePeak (calls_of unit rooms (level unit rooms m))
 calls_itself unit rooms m n vs =
-    forms.call_of_related BelowOf kept unit.structs rooms (level unit rooms m) (level unit rooms m) (λ k inner t. level_itself unit rooms m k inner t) n (slice_get unit.functions n) vs
+    forms.call_of_related BelowOf kept_below unit.structs rooms (level unit rooms m) (level unit rooms m) (λ k inner t. level_itself unit rooms m k inner t) n (slice_get unit.functions n) vs
 
 -- ---- what statements do
 
@@ -405,21 +405,21 @@ module _ (unit : TypedUnit) (rooms : Rooms) (m n : ℕ)
     exec_below scope (r.block {ss = ss} {ts = ts} h) j p =
         subst (λ z. IsBelow (exec c.structs c.locals f again scope (q.Block ss)) z)
         (ap (λ ks. with_locals c.structs c.locals ks (λ inner. execs c.structs c.locals f again inner ts) scope) (stmts_in unit n h j p).declares)
-        (forms.related_locals BelowOf kept c.structs c.locals (declared_in ss) (λ inner. execs_below inner h j p) scope)
+        (forms.related_locals BelowOf kept_below c.structs c.locals (declared_in ss) (λ inner. execs_below inner h j p) scope)
     exec_below scope (r.choice {y = y} {t = t} {b = b} h g k) j p =
         let q3 = front (is_condition c y && is_typed_stmt c res j t) (is_typed_else c res j b) p in
-        kept.bind (holds_below c f i scope h (front (is_condition c y) (is_typed_stmt c res j t) q3))
-        (forms.related_choose BelowOf kept (exec_below scope g j (back (is_condition c y) (is_typed_stmt c res j t) q3))
+        kept_below.bind (holds_below c f i scope h (front (is_condition c y) (is_typed_stmt c res j t) q3))
+        (forms.related_choose BelowOf kept_below (exec_below scope g j (back (is_condition c y) (is_typed_stmt c res j t) q3))
         (else_below scope k j (back (is_condition c y && is_typed_stmt c res j t) (is_typed_else c res j b) p)))
     exec_below scope (r.while_loop {x = x} {y = y} {s = s} {t = t} h g) j p =
-        kept.bind (holds_below c f i scope h (front (is_condition c y) (is_typed_stmt c res in_loop t) p))
-        (forms.related_choose BelowOf kept
-        (kept.bind kept.turn (λ _. kept.bind (exec_below scope g in_loop (back (is_condition c y) (is_typed_stmt c res in_loop t) p))
-        (forms.related_after BelowOf kept (l scope (q.While x s) (q.While y t) (r.while_loop h g) j p)))) (kept.pure _))
+        kept_below.bind (holds_below c f i scope h (front (is_condition c y) (is_typed_stmt c res in_loop t) p))
+        (forms.related_choose BelowOf kept_below
+        (kept_below.bind kept_below.turn (λ _. kept_below.bind (exec_below scope g in_loop (back (is_condition c y) (is_typed_stmt c res in_loop t) p))
+        (forms.related_after BelowOf kept_below (l scope (q.While x s) (q.While y t) (r.while_loop h g) j p)))) (kept_below.pure _))
     exec_below scope (r.do_loop {x = x} {y = y} {s = s} {t = t} h g) j p =
-        kept.bind kept.turn (λ _. kept.bind (exec_below scope h in_loop (back (is_condition c y) (is_typed_stmt c res in_loop t) p))
-        (forms.related_after BelowOf kept (kept.bind (holds_below c f i scope g (front (is_condition c y) (is_typed_stmt c res in_loop t) p))
-        (forms.related_choose BelowOf kept (l scope (q.Do s x) (q.Do t y) (r.do_loop h g) j p) (kept.pure _)))))
+        kept_below.bind kept_below.turn (λ _. kept_below.bind (exec_below scope h in_loop (back (is_condition c y) (is_typed_stmt c res in_loop t) p))
+        (forms.related_after BelowOf kept_below (kept_below.bind (holds_below c f i scope g (front (is_condition c y) (is_typed_stmt c res in_loop t) p))
+        (forms.related_choose BelowOf kept_below (l scope (q.Do s x) (q.Do t y) (r.do_loop h g) j p) (kept_below.pure _)))))
     exec_below scope (r.for_loop {a = a} {b = b} {x = x} {y = y} {v = v} {w = w} {s = s} {t = t} h g k o) j p =
         let p4 = back (is_first c b && is_optional_condition c y && is_optional_value c w) (is_typed_stmt c res in_loop t) p in
         let q4 = front (is_first c b && is_optional_condition c y && is_optional_value c w) (is_typed_stmt c res in_loop t) p in
@@ -431,47 +431,47 @@ module _ (unit : TypedUnit) (rooms : Rooms) (m n : ℕ)
         (λ inner. first c.structs c.locals f inner b >> (loop_condition c.structs c.locals f inner y >>= choose
         (turn >> (exec c.structs c.locals f again inner t >>= after_body (loop_step c.structs c.locals f inner w >> again inner (q.For q.Nothing y w t))))
         (pure Goes))) scope) (first_numbers h))
-        (forms.related_locals BelowOf kept c.structs c.locals (declared_first a)
-        (λ inner. kept.bind (first_below c f i inner h (front (is_first c b) (is_optional_condition c y) q3)) (λ _. kept.bind (condition_below c f i inner g p2)
-        (forms.related_choose BelowOf kept
-        (kept.bind kept.turn (λ _. kept.bind (exec_below inner o in_loop p4)
-        (forms.related_after BelowOf kept (kept.bind (step_below c f i inner k p3)
+        (forms.related_locals BelowOf kept_below c.structs c.locals (declared_first a)
+        (λ inner. kept_below.bind (first_below c f i inner h (front (is_first c b) (is_optional_condition c y) q3)) (λ _. kept_below.bind (condition_below c f i inner g p2)
+        (forms.related_choose BelowOf kept_below
+        (kept_below.bind kept_below.turn (λ _. kept_below.bind (exec_below inner o in_loop p4)
+        (forms.related_after BelowOf kept_below (kept_below.bind (step_below c f i inner k p3)
         (λ _. l inner (q.For q.Nothing x v s) (q.For q.Nothing y w t) (r.for_loop r.nothing_first g k o) j
         (four true (is_optional_condition c y) (is_optional_value c w) (is_typed_stmt c res in_loop t) refl p2 p3 p4))))))
-        (kept.pure _))))
+        (kept_below.pure _))))
         scope)
     exec_below scope (r.switch_on {y = y} {ss = ss} {ts = ts} h g) j p =
         let p4 = back (is_promoted (type_of y) && are_labels (integer_of (type_of y)) ts && is_typed c y) (are_typed_sections c res (in_switch j) ts) p in
         let q4 = front (is_promoted (type_of y) && are_labels (integer_of (type_of y)) ts && is_typed c y) (are_typed_sections c res (in_switch j) ts) p in
         let p3 = back (is_promoted (type_of y) && are_labels (integer_of (type_of y)) ts) (is_typed c y) q4 in
-        kept.bind (kept.bind (kept.bind ((within_below h c p3).value f i scope) (forms.steady_number BelowOf kept))
+        kept_below.bind (kept_below.bind (kept_below.bind ((within_below h c p3).value f i scope) (forms.steady_number BelowOf kept_below))
         (λ k. subst (λ z. IsBelow (exec_from c.structs c.locals f again scope (target_in k ss) ss) z)
         (ap (λ target. exec_from c.structs c.locals f again scope target ts) (same_target k g)) (from_below scope _ g (in_switch j) p4)))
-        (forms.steady_switch BelowOf kept)
+        (forms.steady_switch BelowOf kept_below)
     exec_below scope (r.returns h) j p = returned_below c f i res scope h p
-    exec_below scope (r.expression {y = y} h) j p = kept.bind ((within_below h c (typed_value c y p)).value f i scope) (λ v. kept.pure _)
-    exec_below scope (r.declaration h) j p = kept.bind (declare_below c f i scope h p) (λ _. kept.pure _)
+    exec_below scope (r.expression {y = y} h) j p = kept_below.bind ((within_below h c (typed_value c y p)).value f i scope) (λ v. kept_below.pure _)
+    exec_below scope (r.declaration h) j p = kept_below.bind (declare_below c f i scope h p) (λ _. kept_below.pure _)
 
     else_below : (scope : Scope) {a b : Else} → ElseWithin a b → (j : Jumps) → IsTrue (is_typed_else c res j b) → IsBelow (exec_else c.structs c.locals f again scope a) (exec_else c.structs c.locals f again scope b)
-    else_below scope r.no_other j p = kept.pure _
+    else_below scope r.no_other j p = kept_below.pure _
     else_below scope (r.other h) j p = exec_below scope h j p
 
     execs_below : (scope : Scope) {a b : Stmts} → StmtsWithin a b → (j : Jumps) → IsTrue (are_typed_stmts c res j b) → IsBelow (execs c.structs c.locals f again scope a) (execs c.structs c.locals f again scope b)
-    execs_below scope r.no_statement j p = kept.pure _
+    execs_below scope r.no_statement j p = kept_below.pure _
     execs_below scope (r.then_stmts {t = t} {ts = ts} h g) j p =
-        kept.bind (exec_below scope h j (front (is_typed_stmt c res j t) (are_typed_stmts c res j ts) p)) (forms.related_next BelowOf kept (execs_below scope g j (back (is_typed_stmt c res j t) (are_typed_stmts c res j ts) p)))
+        kept_below.bind (exec_below scope h j (front (is_typed_stmt c res j t) (are_typed_stmts c res j ts) p)) (forms.related_next BelowOf kept_below (execs_below scope g j (back (is_typed_stmt c res j t) (are_typed_stmts c res j ts) p)))
 
     sections_below : (scope : Scope) {a b : Sections} → SectionsWithin a b → (j : Jumps) → IsTrue (are_typed_sections c res j b) → IsBelow (exec_sections c.structs c.locals f again scope a) (exec_sections c.structs c.locals f again scope b)
-    sections_below scope r.no_section_left j p = kept.pure _
+    sections_below scope r.no_section_left j p = kept_below.pure _
     sections_below scope (r.one_section {ts = ts} {b = b} h g) j p =
-        kept.bind (execs_below scope h j (front (are_typed_stmts c res j ts) (are_typed_sections c res j b) p)) (forms.related_next BelowOf kept (sections_below scope g j (back (are_typed_stmts c res j ts) (are_typed_sections c res j b) p)))
+        kept_below.bind (execs_below scope h j (front (are_typed_stmts c res j ts) (are_typed_sections c res j b) p)) (forms.related_next BelowOf kept_below (sections_below scope g j (back (are_typed_stmts c res j ts) (are_typed_sections c res j b) p)))
 
     from_below : (scope : Scope) (target : Option ℕ) {a b : Sections} → SectionsWithin a b → (j : Jumps) → IsTrue (are_typed_sections c res j b) → IsBelow (exec_from c.structs c.locals f again scope target a) (exec_from c.structs c.locals f again scope target b)
-    from_below scope target r.no_section_left j p = kept.pure _
+    from_below scope target r.no_section_left j p = kept_below.pure _
     from_below scope target (r.one_section {label = label} {ts = ts} {b = b} h g) j p =
         let p1 = front (are_typed_stmts c res j ts) (are_typed_sections c res j b) p in
         let p2 = back (are_typed_stmts c res j ts) (are_typed_sections c res j b) p in
-        forms.related_if BelowOf kept (is_chosen_label target label) (kept.bind (execs_below scope h j p1) (forms.related_next BelowOf kept (sections_below scope g j p2))) (from_below scope target g j p2)
+        forms.related_if BelowOf kept_below (is_chosen_label target label) (kept_below.bind (execs_below scope h j p1) (forms.related_next BelowOf kept_below (sections_below scope g j p2))) (from_below scope target g j p2)
 
 -- at every level
 level_below : (unit : TypedUnit) (rooms : Rooms) (m n : ℕ) (scope : Scope) {s t : Stmt} → StmtWithin s t → (j : Jumps) → IsTypedAt unit n j t → IsBelow (level unit rooms m n scope s) (level unit rooms m n scope t)

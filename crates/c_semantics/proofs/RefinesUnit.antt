@@ -28,15 +28,15 @@ use Rattle.c_semantics.specs.Refines.{with_peak, lower_peak, GivesBelow, IsBelow
 use Rattle.c_typed_tree.specs.Declarations.{declarations, due_declarations}
 use Rattle.c_semantics.proofs.Facts.{no_true, along}
 use Rattle.c_semantics.proofs.Forms as forms
-use Rattle.c_semantics.proofs.Below.{below_on, refines_below, onto, BelowOf, kept, no_turn_below}
+use Rattle.c_semantics.proofs.Below.{below_on, refines_below, onto, BelowOf, kept_below, no_turn_below}
 use Rattle.c_semantics.proofs.RefinesStmt.{level_itself}
 
 -- ---- functions by number
 
 -- the same functions are there, and each refines its own, which is well typed
-data Related (unit : TypedUnit) (n : ℕ) : Option TypedFn → Option TypedFn → Type 0 where
-  absent : Related unit n None None
-  related : {f g : TypedFn} → FnRefines f g → IsTypedFn unit g → IsTypedAt unit n no_jumps (stmt_view g.body) → Related unit n (Some f) (Some g)
+data FunctionsRefine (unit : TypedUnit) (n : ℕ) : Option TypedFn → Option TypedFn → Type 0 where
+  absent : FunctionsRefine unit n None None
+  related : {f g : TypedFn} → FnRefines f g → IsTypedFn unit g → IsTypedAt unit n no_jumps (stmt_view g.body) → FunctionsRefine unit n (Some f) (Some g)
 
 typed_at : (unit : TypedUnit) → IsTypedUnit unit → (n : ℕ) (g : TypedFn) → slice_get unit.functions n ≡ Some g → IsTypedFn unit g
 typed_at unit ok n g e =
@@ -47,14 +47,14 @@ stmt_at unit ok n g e =
     subst (λ o. IsTrue (is_typed_stmt (context_at unit o) (result_at o) no_jumps (stmt_view g.body))) (sym e) (typed_at unit ok n g e).body
 
 related_from : (unit : TypedUnit) → IsTypedUnit unit → (n k : ℕ) (fs gs : List TypedFn) → FnsRefine fs gs → slice_get unit.functions n ≡ slice_get gs k
-    → Related unit n (slice_get fs k) (slice_get gs k)
+    → FunctionsRefine unit n (slice_get fs k) (slice_get gs k)
 related_from unit ok n k [] [] r.no_function e = absent
 related_from unit ok n k [] (g ∷ gs) h e = elim h [ ]
 related_from unit ok n k (f ∷ fs) [] h e = elim h [ ]
 related_from unit ok n zero (f ∷ fs) (g ∷ gs) (r.one_function h j) e = related h (typed_at unit ok n g e) (stmt_at unit ok n g e)
 related_from unit ok n (suc k) (f ∷ fs) (g ∷ gs) (r.one_function h j) e = related_from unit ok n k fs gs j e
 
-same_locals : {unit : TypedUnit} {n : ℕ} {f g : Option TypedFn} → Related unit n f g → function_locals f ≡ function_locals g
+same_locals : {unit : TypedUnit} {n : ℕ} {f g : Option TypedFn} → FunctionsRefine unit n f g → function_locals f ≡ function_locals g
 same_locals absent = refl
 same_locals (related h t p) = h.locals
 
@@ -65,7 +65,7 @@ module _ (unit : TypedUnit) (fs : List TypedFn) (rooms : Rooms) (ok : IsTypedUni
   abbrev one : TypedUnit
   one = with_functions unit fs
 
-  related_at : (n : ℕ) → Related unit n (slice_get fs n) (slice_get unit.functions n)
+  related_at : (n : ℕ) → FunctionsRefine unit n (slice_get fs n) (slice_get unit.functions n)
   related_at n = related_from unit ok n n fs unit.functions h refl
 
   body_below : (m n : ℕ) → ((scope : Scope) (s : Stmt) → IsBelow (level one rooms m n scope s) (level unit rooms m n scope s))
@@ -75,22 +75,22 @@ module _ (unit : TypedUnit) (fs : List TypedFn) (rooms : Rooms) (ok : IsTypedUni
       subst (λ z. IsBelow (body_of ds (level one rooms m) n f vs) z)
       (ap (λ c. with_parameters ds 0 (take c f.locals) vs (λ scope. level unit rooms m n scope (stmt_view g.body)) no_scope) k.params
       ∙ ap (λ ps. with_parameters ds 0 (take g.params ps) vs (λ scope. level unit rooms m n scope (stmt_view g.body)) no_scope) k.locals)
-      (forms.related_parameters BelowOf kept ds 0 (take f.params f.locals) vs
+      (forms.related_parameters BelowOf kept_below ds 0 (take f.params f.locals) vs
       (λ scope. below_on (l scope (stmt_view f.body)) (refines_below (level_itself unit rooms m n scope (stmt_view g.body)) ((k.body unit n no_jumps p).does rooms m scope))) no_scope)
 
   calls_below : (m n : ℕ) → ((scope : Scope) (s : Stmt) → IsBelow (level one rooms m n scope s) (level unit rooms m n scope s))
-      → {f g : Option TypedFn} → Related unit n f g → (vs : List Value) → IsBelow (call_with_turn ds rooms (level one rooms m) n f vs) (call_with_turn ds rooms (level unit rooms m) n g vs)
-  calls_below m n l absent vs = kept.undefined _
+      → {f g : Option TypedFn} → FunctionsRefine unit n f g → (vs : List Value) → IsBelow (call_with_turn ds rooms (level one rooms m) n f vs) (call_with_turn ds rooms (level unit rooms m) n g vs)
+  calls_below m n l absent vs = kept_below.undefined _
   calls_below m n l (related {f = f} {g = g} k t p) vs =
-      kept.bind kept.turn (λ _. kept.call rooms n (kept.bind (body_below m n l k p vs)
-      (λ flow. onto (ap (λ name. value_of_call (bytes_eq name (codes "main")) flow) k.name) (forms.steady_value BelowOf kept (is_main f) flow))))
+      kept_below.bind kept_below.turn (λ _. kept_below.call rooms n (kept_below.bind (body_below m n l k p vs)
+      (λ flow. onto (ap (λ name. value_of_call (bytes_eq name (codes "main")) flow) k.name) (forms.steady_value BelowOf kept_below (is_main f) flow))))
 
   levels_below : (m n : ℕ) (scope : Scope) (s : Stmt) → IsBelow (level one rooms m n scope s) (level unit rooms m n scope s)
   levels_below zero n scope s = no_turn_below
   levels_below (suc m) n scope s =
       subst (λ z. IsBelow (level one rooms (suc m) n scope s) z)
       (ap (λ ls. exec ds ls (calls_of unit rooms (level unit rooms m)) (level unit rooms m n) scope s) (same_locals (related_at n)))
-      (forms.exec_related BelowOf kept ds (function_locals (slice_get fs n)) (calls_of one rooms (level one rooms m)) (calls_of unit rooms (level unit rooms m))
+      (forms.exec_related BelowOf kept_below ds (function_locals (slice_get fs n)) (calls_of one rooms (level one rooms m)) (calls_of unit rooms (level unit rooms m))
       (λ k vs. calls_below m k (levels_below m k) (related_at k) vs)
       (level one rooms m n) (level unit rooms m n) (levels_below m n) scope s)
 
@@ -116,7 +116,7 @@ module _ (unit : TypedUnit) (fs : List TypedFn) (rooms : Rooms) (ok : IsTypedUni
   ending_below n c (Gives flow t) k =
       subst (λ x. EndingRefines (ending_of (leave_function rooms n) x) (ended_by (leave_function rooms n t.world) flow)) (sym k.holds) (ended_below (leave_function rooms n t.world) k.peak flow k.low)
 
-  run_of_below : (n : ℕ) {f g : Option TypedFn} → Related unit n f g → (w : World) (turns : ℕ) → EndingRefines (run_of one rooms n f w turns) (run_of unit rooms n g w turns)
+  run_of_below : (n : ℕ) {f g : Option TypedFn} → FunctionsRefine unit n f g → (w : World) (turns : ℕ) → EndingRefines (run_of one rooms n f w turns) (run_of unit rooms n g w turns)
   run_of_below n absent w turns = tt
   run_of_below n (related k t p) w turns =
       let s : CallState = record { registers = λ j. Unset; world = enter_function rooms n w } in
@@ -186,7 +186,7 @@ typed_fn unit fs n h {f = f} {g = g} e k t p =
           ((k.body unit n no_jumps p).declarations number ∙ t.declares number));
     }
 
-typed_by : (unit : TypedUnit) (fs : List TypedFn) (n : ℕ) → FnsRefine fs unit.functions → (a b : Option TypedFn) → Related unit n a b → slice_get unit.functions n ≡ b
+typed_by : (unit : TypedUnit) (fs : List TypedFn) (n : ℕ) → FnsRefine fs unit.functions → (a b : Option TypedFn) → FunctionsRefine unit n a b → slice_get unit.functions n ≡ b
     → (x : TypedFn) → a ≡ Some x → IsTypedFn (with_functions unit fs) x
 typed_by unit fs n h None None absent e x i = absurd (none-some x i)
 typed_by unit fs n h None (Some g) l e x i = elim l [ ]

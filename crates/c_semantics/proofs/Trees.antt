@@ -9,7 +9,7 @@ use Rattle.c_typed_tree.specs.declared.units.TypedUnit.{TypedUnit}
 use Rattle.c_semantics.specs.Runs.{CallState, Run, no_turn}
 use Rattle.c_semantics.specs.Evaluates.{put_character, get}
 use Rattle.c_semantics.specs.Executes.{StatementFlow, Level, body_of, calls_of, function_locals, level_above, level}
-use Rattle.c_semantics.proofs.Grown.{starts_same, later_same, Reaches, Grown, Steady, bind, steady_pure, steady_undefined, steady_trap, steady_exit, steady_memory, steady_write, grown_seen, steady_read, grown_no_turn, steady_turn, grown_object, grown_call}
+use Rattle.c_semantics.proofs.Grown.{starts_same, later_same, Reaches, RunGrows, Steady, bind, steady_pure, steady_undefined, steady_trap, steady_exit, steady_memory, steady_write, grown_seen, steady_read, grown_no_turn, steady_turn, grown_object, grown_call}
 use Rattle.c_semantics.proofs.Forms as forms
 
 steady_put : (n : ℕ) → Steady (put_character n)
@@ -29,10 +29,10 @@ steady_get = record {
 }
 
 abbrev pub GrownOf : (A : Type 0) → Run A → Run A → Type 0
-GrownOf A c d = Grown c d
+GrownOf A c d = RunGrows c d
 
-pub kept : forms.Congruence GrownOf
-kept = record {
+pub kept_grown : forms.Congruence GrownOf
+kept_grown = record {
   bind = bind;
   pure = steady_pure;
   undefined = steady_undefined;
@@ -51,15 +51,15 @@ kept = record {
 
 -- two levels of which the second goes as far at least
 abbrev pub Above : Level → Level → Type 0
-Above l l' = forms.Above GrownOf kept l l'
+Above l l' = forms.Above GrownOf kept_grown l l'
 
-pub body_grown : (ds : List StructDef) (l l' : Level) → Above l l' → (n : ℕ) (g : TypedFn) (vs : List Value) → Grown (body_of ds l n g vs) (body_of ds l' n g vs)
-body_grown ds l l' h n g vs = forms.body_related GrownOf kept ds l l' h n g vs
+pub body_grown : (ds : List StructDef) (l l' : Level) → Above l l' → (n : ℕ) (g : TypedFn) (vs : List Value) → RunGrows (body_of ds l n g vs) (body_of ds l' n g vs)
+body_grown ds l l' h n g vs = forms.body_related GrownOf kept_grown ds l l' h n g vs
 
 above_grown : (unit : TypedUnit) (rooms : Rooms) (l l' : Level) → Above l l' → Above (level_above unit rooms l) (level_above unit rooms l')
 above_grown unit rooms l l' h n scope s =
-    forms.exec_related GrownOf kept unit.structs (function_locals (slice_get unit.functions n)) (calls_of unit rooms l) (calls_of unit rooms l')
-    (λ m vs. forms.call_of_related GrownOf kept unit.structs rooms l l' h m (slice_get unit.functions m) vs) (l n) (l' n) (h n) scope s
+    forms.exec_related GrownOf kept_grown unit.structs (function_locals (slice_get unit.functions n)) (calls_of unit rooms l) (calls_of unit rooms l')
+    (λ m vs. forms.call_of_related GrownOf kept_grown unit.structs rooms l l' h m (slice_get unit.functions m) vs) (l n) (l' n) (h n) scope s
 
 no_turn_reaches : (s : CallState) → Reaches s.world (no_turn {A = StatementFlow} s)
 unfolding no_turn

@@ -19,7 +19,7 @@ use Rattle.c_typed_tree.specs.Types.{PlainType, Void, Pointer, Array, Struct}
 use Rattle.c_typed_tree.specs.Expressions.{Expr, Number, Global, Call, Unary, Binary, Assign, Conditional, Cast, Convert, Index, Field, Arrow, Postfix, Comma, Exprs, no_exprs, more_exprs, type_of}
 use Rattle.c_typed_tree.specs.Expressions as e
 use Rattle.c_semantics.specs.Reasons.{UsesNoValue, AccessesOutside}
-use Rattle.c_semantics.specs.Runs.{with_outer, Run, ◌>>=◌, ◌>>◌, pure, undefined, trap, exit, turn, use_value, use_number}
+use Rattle.c_semantics.specs.Runs.{with_outer, Run, ◌>>=◌, ◌>>◌, pure, undefined_behaviour, trap, exit, turn, use_value, use_number}
 use Rattle.c_semantics.specs.Objects.{ValuePlace, At, start_pointer, call_result, read_at, read, write, place_pointer, move, move_by, offset_of, Scope, local_place, integer_or_word}
 use Rattle.c_semantics.specs.Operators.{apply_binary, apply_unary, test, convert, operator_of, combine, step_value, pure_truth}
 
@@ -44,7 +44,7 @@ builtin i.Putchar (v ∷ []) = use_number v >>= (λ n. turn >> put_character n)
 builtin i.Getchar [] = turn >> get
 builtin i.Abort [] = turn >> trap 2
 builtin i.Exit (v ∷ []) = use_number v >>= (λ n. turn >> exit n)
-builtin f vs = undefined UsesNoValue
+builtin f vs = undefined_behaviour UsesNoValue
 
 -- what the functions of the unit do on their arguments
 abbrev pub Functions : Type 0
@@ -63,7 +63,7 @@ place_at p = pure (At p)
 abbrev pub element_pointer : List StructDef → (left right : PlainType) → Value → Value → Run Value
 element_pointer ds (Pointer target) right v w = move_by ds target (integer_or_word right) v w
 element_pointer ds left (Pointer target) v w = move_by ds target (integer_or_word left) w v
-element_pointer ds left right v w = undefined UsesNoValue
+element_pointer ds left right v w = undefined_behaviour UsesNoValue
 
 -- a member of a struct of this type that stands at a pointer (C99 6.5.2.3). The pointer is moved, also by 0
 abbrev pub member_pointer : List StructDef → PlainType → (member : ℕ) → Value → Run Value
@@ -144,7 +144,7 @@ module _ (ds : List StructDef) (ls : List Local) (functions : Functions) where
         place scope x >>= place_pointer >>= member_pointer ds (type_of x) member >>= read_at ty
     eval scope (Arrow ty x member) = eval scope x >>= member_pointer ds (target_of (type_of x)) member >>= read_at ty
     eval scope (Postfix ty op x) = place scope x >>= update ds ty (step_value ds op ty) old_value
-    eval scope (Comma ty no_exprs) = undefined UsesNoValue
+    eval scope (Comma ty no_exprs) = undefined_behaviour UsesNoValue
     eval scope (Comma ty (more_exprs x xs)) = value_of_last scope (eval scope x) xs
 
     -- where an expression stands that is a place (C99 6.3.2.1)
@@ -157,7 +157,7 @@ module _ (ds : List StructDef) (ls : List Local) (functions : Functions) where
     place scope (Field ty x member) =
         place scope x >>= place_pointer >>= member_pointer ds (type_of x) member >>= place_at
     place scope (Arrow ty x member) = eval scope x >>= member_pointer ds (target_of (type_of x)) member >>= place_at
-    place scope _ = undefined AccessesOutside
+    place scope _ = undefined_behaviour AccessesOutside
 
     -- arguments, from left to right; each is used
     pub evals : Scope → Exprs → Run (List Value)

@@ -18,7 +18,7 @@ use Rattle.c_typed_tree.specs.View.{type_view, stmt_view}
 use Rattle.c_typed_tree.specs.Layout.{size_of}
 use Rattle.c_typed_tree.specs.Lawful.{is_main}
 use Rattle.c_semantics.specs.Reasons.{UsesNoValue}
-use Rattle.c_semantics.specs.Runs.{Run, and_then, ◌>>=◌, ◌>>◌, pure, undefined, no_turn, turn, use_value, use_number, write_register}
+use Rattle.c_semantics.specs.Runs.{Run, and_then, ◌>>=◌, ◌>>◌, pure, undefined_behaviour, no_turn, turn, use_value, use_number, write_register}
 use Rattle.c_semantics.specs.Objects.{write, Scope, no_scope, with_local_object, with_locals, local_place}
 use Rattle.c_semantics.specs.Operators.{test}
 use Rattle.c_semantics.specs.Evaluates.{Functions, eval, choose}
@@ -89,7 +89,7 @@ Level = (function : ℕ) → Scope → Stmt → Run StatementFlow
 abbrev pub with_parameters : {A : Type 0} → List StructDef → (number : ℕ) → List Local → List Value → (Scope → Run A)
     → Scope → Run A
 with_parameters ds k [] vs run scope = run scope
-with_parameters ds k (p ∷ ps) [] run scope = undefined UsesNoValue
+with_parameters ds k (p ∷ ps) [] run scope = undefined_behaviour UsesNoValue
 with_parameters ds k (p ∷ ps) (v ∷ vs) run scope =
     if p.in_memory
     then with_local_object (size_of ds (type_view p.ty)) k
@@ -117,8 +117,8 @@ abbrev pub value_of_call : (main : Bool) → StatementFlow → Run Value
 value_of_call main (Returns (Some v)) = pure v
 value_of_call main (Returns None) = pure (no_value main)
 value_of_call main Goes = pure (no_value main)
-value_of_call main Breaks = undefined UsesNoValue
-value_of_call main Continues = undefined UsesNoValue
+value_of_call main Breaks = undefined_behaviour UsesNoValue
+value_of_call main Continues = undefined_behaviour UsesNoValue
 
 -- the body of a function on arguments
 abbrev pub body_of : List StructDef → Level → (function : ℕ) → TypedFn → List Value → Run StatementFlow
@@ -127,7 +127,7 @@ body_of ds prev n f vs =
 
 -- a call takes a turn, and then the function is entered
 abbrev pub call_with_turn : List StructDef → Rooms → Level → (function : ℕ) → Option TypedFn → List Value → Run Value
-call_with_turn ds rooms prev n None vs = undefined UsesNoValue
+call_with_turn ds rooms prev n None vs = undefined_behaviour UsesNoValue
 call_with_turn ds rooms prev n (Some f) vs =
     turn >> within_call rooms n (body_of ds prev n f vs >>= value_of_call (is_main f))
 

@@ -20,7 +20,7 @@ use Rattle.c_typed_tree.specs.Types.{PlainType, Void, Int, Pointer, Array, Struc
 use Rattle.c_typed_tree.specs.View.{type_view}
 use Rattle.c_typed_tree.specs.Layout.{size_of, align_of}
 use Rattle.c_semantics.specs.Reasons.{Reason, AccessesOutside, MovesOutside, UsesDeadObject, UsesNoValue, OverlapsItself, reason_of}
-use Rattle.c_semantics.specs.Runs.{CallState, in_world, Run, and_then, ◌>>=◌, ◌>>◌, pure, undefined, on_memory, set_memory, or_undefined, use_value, use_number, read_register, write_register}
+use Rattle.c_semantics.specs.Runs.{CallState, in_world, Run, and_then, ◌>>=◌, ◌>>◌, pure, undefined_behaviour, on_memory, set_memory, or_undefined, use_value, use_number, read_register, write_register}
 
 -- where a value stands: a local that is no object, or a pointer to it
 pub data ValuePlace : Type 0 where
@@ -40,28 +40,28 @@ integer_or_word _ = i.UnsignedLong
 
 abbrev pub access : {A : Type 0} → Result A MemFault → Run A
 access (Ok a) = pure a
-access (Err fault) = undefined (reason_of fault)
+access (Err fault) = undefined_behaviour (reason_of fault)
 
 -- what stands at a pointer, as a number or as a pointer
 abbrev pub load : (width : ℕ) → (pointer : Bool) → Value → Run Value
 load width pointer (Address p) = on_memory (λ m. access (load_at m p width pointer))
-load width pointer (Word n) = undefined AccessesOutside
-load width pointer Unset = undefined UsesNoValue
+load width pointer (Word n) = undefined_behaviour AccessesOutside
+load width pointer Unset = undefined_behaviour UsesNoValue
 
 -- a value is put at a pointer
 abbrev pub store : (width : ℕ) → Value → Value → Run (Unit {0})
 store width (Address p) v = on_memory (λ m. access (store_at m p width v) >>= set_memory)
-store width (Word n) v = undefined AccessesOutside
-store width Unset v = undefined UsesNoValue
+store width (Word n) v = undefined_behaviour AccessesOutside
+store width Unset v = undefined_behaviour UsesNoValue
 
 -- the cells of a struct are copied, as they are (C99 6.5.16.1)
 abbrev pub copy_cells : Memory → (to from : Ptr) → (size align : ℕ) → Run (Unit {0})
 copy_cells m to from size align =
-    if overlaps to from size then undefined OverlapsItself else access (copy_at m to from size align) >>= set_memory
+    if overlaps to from size then undefined_behaviour OverlapsItself else access (copy_at m to from size align) >>= set_memory
 
 abbrev pub copy : (size align : ℕ) → (to from : Value) → Run (Unit {0})
 copy size align (Address p) (Address q) = on_memory (λ m. copy_cells m p q size align)
-copy size align to from = undefined AccessesOutside
+copy size align to from = undefined_behaviour AccessesOutside
 
 -- a number that was loaded, as its type holds it
 abbrev pub integer_value : IntegerType → Value → Run Value
@@ -69,7 +69,7 @@ integer_value t v = use_number v >>= (λ n. pure (Word (extension t n)))
 
 -- the value at a pointer, by its type. That of a struct or an array is the pointer
 abbrev pub read_at : PlainType → Value → Run Value
-read_at Void p = undefined UsesNoValue
+read_at Void p = undefined_behaviour UsesNoValue
 read_at (Int bytes signed) p = load bytes false p >>= integer_value (integer_or_word (Int bytes signed))
 read_at (Pointer target) p = load 8 true p
 read_at (Array element n) p = pure p
@@ -97,10 +97,10 @@ read ty (At p) = read_at ty p
 
 -- a value is written, by its type; it is used
 abbrev pub write_at : List StructDef → PlainType → Value → Value → Run (Unit {0})
-write_at ds Void p v = undefined UsesNoValue
+write_at ds Void p v = undefined_behaviour UsesNoValue
 write_at ds (Int bytes signed) p v = use_value UsesNoValue v >>= store bytes p
 write_at ds (Pointer target) p v = use_value UsesNoValue v >>= store 8 p
-write_at ds (Array element n) p v = undefined UsesNoValue
+write_at ds (Array element n) p v = undefined_behaviour UsesNoValue
 write_at ds (Struct n) p v = copy (size_of ds (Struct n)) (align_of ds (Struct n)) p v
 
 abbrev pub write : List StructDef → PlainType → ValuePlace → Value → Run (Unit {0})
@@ -109,7 +109,7 @@ write ds ty (At p) v = write_at ds ty p v
 
 -- the pointer to a place; a local that is no object has none
 abbrev pub place_pointer : ValuePlace → Run Value
-place_pointer (Register k) = undefined AccessesOutside
+place_pointer (Register k) = undefined_behaviour AccessesOutside
 place_pointer (At p) = pure p
 
 -- ---- moving
@@ -193,7 +193,7 @@ with_locals ds ls (k ∷ ks) run scope = with_local ds k (slice_get ls k) (with_
 
 -- where a local stands
 abbrev pub local_place : Scope → (local : ℕ) → Option Local → Run ValuePlace
-local_place scope k None = undefined AccessesOutside
+local_place scope k None = undefined_behaviour AccessesOutside
 local_place scope k (Some l) =
     if l.in_memory then or_undefined UsesDeadObject (scope k) >>= (λ o. pure (At (start_pointer o)))
     else pure (Register k)

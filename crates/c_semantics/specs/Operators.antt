@@ -25,13 +25,13 @@ use Rattle.c_typed_tree.specs.Types.{PlainType, Void, Int, Pointer}
 use Rattle.c_typed_tree.specs.Layout.{size_of}
 use Rattle.c_typed_tree.specs.Constants.{integers_with}
 use Rattle.c_semantics.specs.Reasons.{Reason, UsesDeadObject, ComparesApart, ComparesAtEnd, ShiftsTooFar, UsesNoValue}
-use Rattle.c_semantics.specs.Runs.{Run, ◌>>=◌, pure, undefined, trap, on_memory, or_undefined, use_value, use_number}
+use Rattle.c_semantics.specs.Runs.{Run, ◌>>=◌, pure, undefined_behaviour, trap, on_memory, or_undefined, use_value, use_number}
 use Rattle.c_semantics.specs.Objects.{integer_or_word, stands_inside, move_elements, move_by}
 
 abbrev pub outcome : ArithmeticOutcome → Run Value
 outcome (o.Word n) = pure (Word n)
 outcome (o.Trap code) = trap code
-outcome o.Undefined = undefined ShiftsTooFar
+outcome o.Undefined = undefined_behaviour ShiftsTooFar
 
 -- ---- integers
 
@@ -62,9 +62,9 @@ pure_truth b = pure (Word (truth b))
 -- a distance in whole elements (C99 6.5.6); elements without bytes, which no text has, have none
 abbrev pub elements : (bytes : ℤ) → (size : ℕ) → Run Value
 elements bytes size =
-    if size == 0 then undefined ComparesApart
+    if size == 0 then undefined_behaviour ComparesApart
     else if int_eq (int_rem bytes (pos size)) (pos 0) then pure (Word (word i.Long (int_div bytes (pos size))))
-    else undefined ComparesApart
+    else undefined_behaviour ComparesApart
 
 -- the bytes between two pointers within one object or at its end
 abbrev pub bytes_between : Memory → Value → Value → Option ℤ
@@ -84,14 +84,14 @@ pointers ds b.LessEqual element v w = compare_by ComparesApart pointer_le v w >>
 pointers ds b.GreaterEqual element v w = compare_by ComparesApart pointer_le w v >>= pure_truth
 pointers ds b.Equal element v w = compare_by ComparesAtEnd pointer_eq v w >>= pure_truth
 pointers ds b.NotEqual element v w = compare_by ComparesAtEnd pointer_eq v w >>= (λ same. pure_truth (not same))
-pointers ds _ element v w = undefined UsesNoValue
+pointers ds _ element v w = undefined_behaviour UsesNoValue
 
 -- a pointer and a number of elements
 abbrev pub pointer_and_integer : List StructDef → BinaryOp → PlainType → IntegerType → Value → Value → Run Value
 pointer_and_integer ds b.Add element t v w = move_by ds element t v w
 pointer_and_integer ds b.Subtract element t v w =
     use_number w >>= (λ n. move_elements v (neg_ℤ (value t n) *ℤ pos (size_of ds element)))
-pointer_and_integer ds _ element t v w = undefined UsesNoValue
+pointer_and_integer ds _ element t v w = undefined_behaviour UsesNoValue
 
 -- ---- all operands
 
@@ -107,20 +107,20 @@ with_pointer ds op element right v w = pointer_and_integer ds op element (intege
 abbrev pub apply_binary : List StructDef → BinaryOp → (left right : PlainType) → Value → Value → Run Value
 apply_binary ds op (Int n s) right v w = with_integer ds op (integer_or_word (Int n s)) right v w
 apply_binary ds op (Pointer element) right v w = with_pointer ds op element right v w
-apply_binary ds op _ right v w = undefined UsesNoValue
+apply_binary ds op _ right v w = undefined_behaviour UsesNoValue
 
 -- an operator in front of a value, by its type: `+`, `-` and `~`
 abbrev pub apply_unary : UnaryOp → PlainType → Value → Run Value
 apply_unary u.Plus ty v = use_value UsesNoValue v
 apply_unary u.Minus ty v = use_number v >>= (λ n. outcome (negation (integer_or_word ty) n))
 apply_unary u.Invert ty v = use_number v >>= (λ n. pure (Word (complement (integer_or_word ty) n)))
-apply_unary _ ty v = undefined UsesNoValue
+apply_unary _ ty v = undefined_behaviour UsesNoValue
 
 -- whether a value is not zero, and not null
 abbrev pub test_in : Memory → Value → Run Bool
 test_in m (Word n) = pure (not (n == 0))
-test_in m (Address p) = if is_live m p then pure true else undefined UsesDeadObject
-test_in m Unset = undefined UsesNoValue
+test_in m (Address p) = if is_live m p then pure true else undefined_behaviour UsesDeadObject
+test_in m Unset = undefined_behaviour UsesNoValue
 
 abbrev pub test : Value → Run Bool
 test v = on_memory (λ m. test_in m v)
@@ -168,7 +168,7 @@ combine ds op (Int n s) right v w =
     let r = integer_or_word right in
     combined_in op (operation_type op t r) t r v w
 combine ds op (Pointer element) right v w = pointer_and_integer ds op element (integer_or_word right) v w
-combine ds op left right v w = undefined UsesNoValue
+combine ds op left right v w = undefined_behaviour UsesNoValue
 
 -- `++` and `--` add and take away 1 (C99 6.5.2.4, 6.5.3.1)
 abbrev pub step_operator : StepOp → BinaryOp

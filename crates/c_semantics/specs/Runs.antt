@@ -48,8 +48,8 @@ unfoldable pub pure : {A : Type 0} → A → Run A
 pure a = λ s. Gives a s
 
 -- the endings
-unfoldable pub undefined : {A : Type 0} → Reason → Run A
-undefined reason = λ s. Ends (Undefined s.world 0)
+unfoldable pub undefined_behaviour : {A : Type 0} → Reason → Run A
+undefined_behaviour reason = λ s. Ends (Undefined s.world 0)
 
 unfoldable pub trap : {A : Type 0} → (code : ℕ) → Run A
 trap code = λ s. Ends (Trap s.world code)
@@ -78,19 +78,19 @@ set_memory m = λ s. Gives tt (in_world s (with_memory s.world m))
 -- the value, or the run is undefined
 abbrev pub or_undefined : {A : Type 0} → Reason → Option A → Run A
 or_undefined reason (Some a) = pure a
-or_undefined reason None = undefined reason
+or_undefined reason None = undefined_behaviour reason
 
 -- a value that is used
 abbrev pub use_value : Reason → Value → Run Value
 use_value reason (Word n) = pure (Word n)
 use_value reason (Address p) = pure (Address p)
-use_value reason Unset = undefined reason
+use_value reason Unset = undefined_behaviour reason
 
 -- the word of a value that is used as a number
 abbrev pub use_number : Value → Run ℕ
 use_number (Word n) = pure n
-use_number (Address p) = undefined UsesNoValue
-use_number Unset = undefined UsesNoValue
+use_number (Address p) = undefined_behaviour UsesNoValue
+use_number Unset = undefined_behaviour UsesNoValue
 
 -- a register is read, and written
 unfoldable pub read_register : ℕ → Run Value

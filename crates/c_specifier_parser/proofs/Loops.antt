@@ -5,7 +5,7 @@ use Rattle.c_lexer.specs.Pieces.{Lexeme}
 use Rattle.c_lexer.specs.declared.token.Punct.TheVariants as p
 use Rattle.c_tree.specs.declared.types.TypeNode.{TypeNode}
 use Rattle.c_tree.specs.declared.types.Declaration.{Declaration}
-use Rattle.c_grammar.specs.declared.shapes.Naming.TheVariants as nm
+use Rattle.c_grammar.specs.declared.shapes.NameRequirement.TheVariants as nm
 use Rattle.c_grammar.specs.Types.{without_body}
 use Rattle.c_grammar.specs.Tokens.{TypeNames, is_mark, kind_at, token_tail}
 use Rattle.c_grammar.specs.Parser.{Parser, and_then}

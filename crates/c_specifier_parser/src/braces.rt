@@ -5,7 +5,7 @@ ghost use Rattle.c_grammar.specs.ParseSpecifiers as model;
 ghost use Rattle.c_token_cursor.specs.Answers.{Answers};
 
 use c_expression_parser::{declarator, expr};
-use c_grammar::{Declarator, Naming, Specifier, SpecifierStart, levels};
+use c_grammar::{Declarator, NameRequirement, Specifier, SpecifierStart, levels};
 use c_lexer::Punct;
 use c_parser_types::{SpecifierType, with_shapes};
 use c_token_cursor::{ParseStop, Tokens, TypedefScope, named_type, read_words};
@@ -34,7 +34,7 @@ pub fn declaration(
     scope: &TypedefScope,
     tokens: &mut Tokens<'_>,
     depth: usize,
-    naming: Naming,
+    naming: NameRequirement,
     base: SpecifierType,
 ) -> Result<Declaration, ParseStop>
     ensures { Answers (model.declaration scope.now depth naming base tokens.old) result tokens.new }
@@ -99,7 +99,7 @@ fn enumerators(
         tokens.old) result tokens.new }
 {
     let mut found = Seq::new(alloc);
-    for _turn in 0..tokens.left() {
+    for _turn in 0..tokens.count_left() {
         found.push(enumerator(alloc, scope, tokens, depth)?)?;
         if !tokens.sees(Punct::Comma) {
             return Ok(found);
@@ -126,10 +126,10 @@ fn member_declarators(
 {
     let mut found = Seq::new(alloc);
     let mut ty = Box::new(alloc, base)?;
-    for _turn in 0..tokens.left() {
+    for _turn in 0..tokens.count_left() {
         let bare = Box::new(alloc, ty.bare()?)?;
         let first = Box::into_inner(ty);
-        found.push(declaration(alloc, scope, tokens, depth, Naming::Member, first)?)?;
+        found.push(declaration(alloc, scope, tokens, depth, NameRequirement::Member, first)?)?;
         ty = bare;
         if !tokens.sees(Punct::Comma) {
             return Ok(found);
@@ -169,7 +169,7 @@ fn struct_declarations(
         (length tokens.old) [] tokens.old) result tokens.new }
 {
     let mut found = Seq::new(alloc);
-    for _turn in 0..tokens.left() {
+    for _turn in 0..tokens.count_left() {
         found = append(found, struct_declaration(alloc, scope, tokens, depth)?)?;
         if tokens.sees(Punct::RightBrace) {
             return Ok(found);

@@ -36,7 +36,7 @@ use Rattle.c_statement_rules.specs.Values.{condition_check, switch_check, full_e
 use Rattle.c_statement_parts.specs.Parts.{condition_of, full_value, operand_of, optional_condition, optional_value, return_statement, judge_type, initialiser_of, local_of, first_of}
 use Rattle.c_expression_height_laws.specs.Laws.{IsWithin}
 use Rattle.c_expression_height_laws.proofs.Rules.{StandsWithin, stands_roomy, decay_within, converted_within, taken_within, condition_within}
-use Rattle.c_expression_height_laws.proofs.Forms.{ruled, each_within, both_within, appended, either_found}
+use Rattle.c_expression_height_laws.proofs.Forms.{ruled_fits, each_within, both_within, appended_all, either_found}
 use Rattle.c_expression_height_laws.proofs.Walks.{judge_within}
 
 -- what has a height is within three nodes for each of so many levels
@@ -88,9 +88,9 @@ pub found_lower : {A : Type 0} (height : A → ℕ) (n m : ℕ) (o : Option A) �
 found_lower height n m None g h = tt
 found_lower height n m (Some x) g h = more_low (height x) n m g h
 
-pub mapped : {A B : Type 0} (P : A → Type 0) (Q : B → Type 0) (f : A → B) (o : Option A) → IfSome o P → ((x : A) → P x → Q (f x)) → IfSome (option_map f o) Q
-mapped P Q f None h g = tt
-mapped P Q f (Some x) h g = g x h
+pub mapped_if_some : {A B : Type 0} (P : A → Type 0) (Q : B → Type 0) (f : A → B) (o : Option A) → IfSome o P → ((x : A) → P x → Q (f x)) → IfSome (option_map f o) Q
+mapped_if_some P Q f None h g = tt
+mapped_if_some P Q f (Some x) h g = g x h
 
 -- ---- lists
 
@@ -104,7 +104,7 @@ walk_low node height all f n push each (x ∷ xs) found s g h =
     let own = node_height (node x) in let rest = nodes_height (nodes_of node xs) in
     let r = f x s in
     walk_low node height all f n push each xs (append_part found r.0) r.1 (fits_right own rest n g)
-    (appended (IsLow height n) (IsLow all n) push found r.0 h (found_lower height own n r.0 (fits_left own rest n g) (each x s)))
+    (appended_all (IsLow height n) (IsLow all n) push found r.0 h (found_lower height own n r.0 (fits_left own rest n g) (each x s)))
 
 -- ---- expressions
 
@@ -136,12 +136,12 @@ condition_low x s =
     let n = node_height (expr_node x) in
     let u = judge x s in
     low_in n (condition_of x s).0
-    (each_within (HasRoom x) (IsWithin 0 n) u.0 condition_check u.1.1 (judge_within x s) (λ a h. ruled (IsWithin 0 n) (rule.condition (decay a)) u.1.1 (condition_within 0 n (decay a) (value_of_low x a h))))
+    (each_within (HasRoom x) (IsWithin 0 n) u.0 condition_check u.1.1 (judge_within x s) (λ a h. ruled_fits (IsWithin 0 n) (rule.condition (decay a)) u.1.1 (condition_within 0 n (decay a) (value_of_low x a h))))
 
 pub value_low : (x : Expr) (s : JudgementState) → IfSome (full_value x s).0 (IsLow value_height (node_height (expr_node x)))
 value_low x s =
     let n = node_height (expr_node x) in
-    mapped (HasRoom x) (IsLow value_height n) full_expression (judge x s).0 (judge_within x s) (λ a h. low_value n (decay a).tree (value_of_low x a h))
+    mapped_if_some (HasRoom x) (IsLow value_height n) full_expression (judge x s).0 (judge_within x s) (λ a h. low_value n (decay a).tree (value_of_low x a h))
 
 abbrev pub operand_height : SwitchValue → ℕ
 operand_height o = value_height o.tree
@@ -154,25 +154,25 @@ pub operand_low : (x : Expr) (s : JudgementState) → IfSome (operand_of x s).0 
 operand_low x s =
     let n = node_height (expr_node x) in
     let u = judge x s in
-    each_within (HasRoom x) (IsLow operand_height n) u.0 switch_check u.1.1 (judge_within x s) (λ a h. ruled (IsLow operand_height n) (w.switch_operand (decay a)) u.1.1 (switched n (decay a) (integer (decay a)) (decayed_low x a h)))
+    each_within (HasRoom x) (IsLow operand_height n) u.0 switch_check u.1.1 (judge_within x s) (λ a h. ruled_fits (IsLow operand_height n) (w.switch_operand (decay a)) u.1.1 (switched n (decay a) (integer (decay a)) (decayed_low x a h)))
 
 pub optional_condition_low : (o : Option Expr) (s : JudgementState) → IfSome (optional_condition o s).0 (IsLow optional_value_height (node_height (part_of_for o)))
 optional_condition_low None s = nothing_low 1
 optional_condition_low (Some x) s =
     let n = node_height (expr_node x) in
-    mapped (IsLow value_height n) (IsLow optional_value_height n) Some (condition_of x s).0 (condition_low x s) (λ a h. h)
+    mapped_if_some (IsLow value_height n) (IsLow optional_value_height n) Some (condition_of x s).0 (condition_low x s) (λ a h. h)
 
 pub optional_value_low : (o : Option Expr) (s : JudgementState) → IfSome (optional_value o s).0 (IsLow optional_value_height (node_height (part_of_for o)))
 optional_value_low None s = nothing_low 1
 optional_value_low (Some x) s =
     let n = node_height (expr_node x) in
-    mapped (IsLow value_height n) (IsLow optional_value_height n) Some (full_value x s).0 (value_low x s) (λ a h. h)
+    mapped_if_some (IsLow value_height n) (IsLow optional_value_height n) Some (full_value x s).0 (value_low x s) (λ a h. h)
 
 -- a value that is converted
 taken_low : (x : Expr) (ty : CType) (a : TypedExpression) (n : Notes) → HasRoom x a → IfSome (note_fault (take_value ty a) n).0 (IsLow value_height (node_height (expr_node x)))
 taken_low x ty a n h =
     let l = node_height (expr_node x) in
-    low_in l (note_fault (take_value ty a) n).0 (ruled (IsWithin 0 l) (take_value ty a) n (taken_within 0 l ty a h))
+    low_in l (note_fault (take_value ty a) n).0 (ruled_fits (IsWithin 0 l) (take_value ty a) n (taken_within 0 l ty a h))
 
 -- ---- `return`
 
@@ -192,7 +192,7 @@ returned x at ty a n h =
     let l = node_height (expr_node x) in
     let v = note_fault (take_value ty a) n in
     either_found (IsLow statement_height (suc l)) (is_void (type_view ty)) (bad_return at n) (and_then v (λ value. pure (return_of value))) tt
-    (mapped (IsLow value_height l) (IsLow statement_height (suc l)) (λ e. t.Return (Some e)) v.0 (taken_low x ty a n h) (λ e k. return_some_low l e k))
+    (mapped_if_some (IsLow value_height l) (IsLow statement_height (suc l)) (λ e. t.Return (Some e)) v.0 (taken_low x ty a n h) (λ e k. return_some_low l e k))
 
 any_result : (of : Option CType) → IfSome of (λ ty. Unit {0})
 any_result None = tt
@@ -219,7 +219,7 @@ local_height l = declared_height (local_view l)
 initialised_low : (x : Expr) (new : NewLocal) (a : TypedExpression) (n : Notes) → HasRoom x a → IfSome (local_with_value new a n).0 (IsLow local_height (suc (node_height (expr_node x))))
 initialised_low x new a n h =
     let l = node_height (expr_node x) in
-    mapped (IsLow value_height l) (IsLow local_height (suc l)) (with_initialiser new.number) (initialiser new.ty a n).0
+    mapped_if_some (IsLow value_height l) (IsLow local_height (suc l)) (with_initialiser new.number) (initialiser new.ty a n).0
     (either_found (IsLow value_height l) (is_array (type_view new.ty)) (no_initialiser a.at n) (note_fault (take_value new.ty a) n) tt (taken_low x new.ty a n h))
     (λ e k. node_low (value_height e) l k)
 
@@ -264,9 +264,9 @@ pub first_low : (first : ForFirst) (s : BodyState) → IfSome (first_of first s)
 first_low g.Nothing s = nothing_low 1
 first_low (g.Value x) s =
     let l = node_height (expr_node x) in
-    mapped (IsLow value_height (max l 0)) (IsLow first_of_for_height (max l 0)) f.Value (full_value x s.1).0
+    mapped_if_some (IsLow value_height (max l 0)) (IsLow first_of_for_height (max l 0)) f.Value (full_value x s.1).0
     (found_lower value_height l (max l 0) (full_value x s.1).0 (lower_left l 0) (value_low x s.1)) (λ e h. h)
 first_low (g.Locals ds) s =
     let n = nodes_height (nodes_of local_node ds) in
-    mapped (IsLow locals_height n) (IsLow first_of_for_height n) f.Locals (walk local_of ds (Some []) s).0
+    mapped_if_some (IsLow locals_height n) (IsLow first_of_for_height n) f.Locals (walk local_of ds (Some []) s).0
     (walk_low local_node local_height locals_height local_of n (locals_more n) local_low ds (Some []) s (no_more n) (nothing_low n)) (λ ls h. h)

@@ -27,7 +27,7 @@ use Rattle.c_statement_parts.specs.Parts.{condition_of, full_value, operand_of, 
 use Rattle.c_statements.specs.Statements as j
 use Rattle.c_statements.specs.Statements.{SwitchState, in_scope, statement, statement_row, else_held}
 use Rattle.c_function_bodies.specs.Functions.{parameters_of, declared_parameters, result_of, typed_function, judge_function}
-use Rattle.c_expression_height_laws.proofs.Forms.{appended}
+use Rattle.c_expression_height_laws.proofs.Forms.{appended_all}
 use Rattle.c_statement_height_laws.proofs.Parts.{IsLow, lower_left, lower_right, fits_left, fits_right, no_more, nothing_low, node_low, found_lower, walk_low, condition_low, value_low, value_height, operand_low, operand_height, optional_condition_low, optional_value_low, optional_value_height, return_low, local_low, first_low, first_of_for_height, statement_height}
 use Rattle.c_statement_height_laws.proofs.Forms.{statements_height, statements_more, section_height, all_sections_height, sections_more, otherwise_height, block_low, if_low, while_low, do_low, for_low, switch_low, section_low, expression_low, empty_low, break_low, continue_low, local_statement_low, else_low}
 
@@ -124,7 +124,7 @@ module _ (of : Option CType) where
         let own = node_height (stmt_node x) in let rest = nodes_height (stmt_row xs) in
         let r = statement of i x w in
         row_low n i xs (append_part found r.0) r.1 (fits_right own rest n g)
-        (appended (IsLow statement_height n) (IsLow statements_height n) (statements_more n) found r.0 h (found_lower statement_height own n r.0 (fits_left own rest n g) (statement_low i x w)))
+        (appended_all (IsLow statement_height n) (IsLow statements_height n) (statements_more n) found r.0 h (found_lower statement_height own n r.0 (fits_left own rest n g) (statement_low i x w)))
 
     otherwise_low : (i : Jumps) (x : b.Held-Stmt-If-2) (w : BodyState) → IfSome (else_held of i x w).0 (IsLow otherwise_height (nodes_height (stmt_held x)))
     otherwise_low i b.None' w = nothing_low 0
@@ -143,7 +143,7 @@ module _ (of : Option CType) where
         let r = statement_row of i list (Some []) u in
         let x = section_under l.0 r.0 in
         sections_low n i ty rest (append_part found x) (l.1.0, r.1) (fits_right (suc all) after n g)
-        (appended (IsLow section_height n) (IsLow all_sections_height n) (sections_more n) found x h
+        (appended_all (IsLow section_height n) (IsLow all_sections_height n) (sections_more n) found x h
         (found_lower section_height (suc all) n x (fits_left (suc all) after n g)
         (section_low all l.0 r.0 (found_lower statements_height inner all r.0 (behind (label_nodes label) (stmt_row list)) (row_low inner i list (Some []) u (no_more inner) (nothing_low inner))))))
 

@@ -29,7 +29,7 @@ use Rattle.c_function_bodies.specs.Functions as own
 use Rattle.c_type_laws.proofs.Truth.{front, back, also, along}
 use Rattle.c_judgement_laws.specs.Covers.{AreInMemory, HaveTexts, IsLawfulContext}
 use Rattle.c_judgement_laws.proofs.Structs.{object_fits}
-use Rattle.c_expression_laws.proofs.Parts.{left}
+use Rattle.c_expression_laws.proofs.Parts.{left_scope}
 use Rattle.c_local_laws.specs.Laws.{DeclaresItsLocals}
 use Rattle.c_local_laws.proofs.Functions.{function_says}
 use Rattle.c_statement_laws.specs.Laws.{is_parameter, IsGiven, Leaves}
@@ -82,60 +82,60 @@ abbrev Start : JudgementState → BodyState
 Start s = ([], (enter s.0, s.1))
 
 -- its parameters
-abbrev Entered : Declaration → Option FunctionType → JudgementState → Bool × BodyState
-Entered d of s = declared_parameters of (own.parameters_of d.ty) (Start s)
+abbrev ParametersOf : Declaration → Option FunctionType → JudgementState → Bool × BodyState
+ParametersOf d of s = declared_parameters of (own.parameters_of d.ty) (Start s)
 
 -- its statements
-abbrev Ended : Declaration → Option FunctionType → List Stmt → JudgementState → Option (List TStmt) × BodyState
-Ended d of list s = walk (statement (result_of of) no_jumps) list (Some []) (Entered d of s).1
+abbrev StatementsOf : Declaration → Option FunctionType → List Stmt → JudgementState → Option (List TStmt) × BodyState
+StatementsOf d of list s = walk (statement (result_of of) no_jumps) list (Some []) (ParametersOf d of s).1
 
 module _ (c : Context) (lawful : IsLawfulContext c) (d : Declaration) (of : Option FunctionType) (list : List Stmt) (s : JudgementState) where
   -- what statements know of the function
   abbrev HasResult : Type 0
   HasResult = IfSome (result_of of) (λ ty. IsTrue (is_fit c.structs (type_view ty)))
 
-  abbrev Known : Type 0
-  Known = HasResult × IfSome of (λ t. IsTrue (list_all (is_parameter c.structs) t.parameters))
+  abbrev KnowsTypes : Type 0
+  KnowsTypes = HasResult × IfSome of (λ t. IsTrue (list_all (is_parameter c.structs) t.parameters))
 
   abbrev Are : List TStmt → Type 0
   Are xs = AreStmts c lawful HasResult (result_type (result_of of)) no_jumps xs
 
-  entered_moves : Moves c Known (AllScalars (Entered d of s).1.0) (Start s) (Entered d of s).1
-  entered_moves = declared_parameters_moves c Known lawful of (own.parameters_of d.ty) (Start s) (λ k. k.1) refl
+  entered_moves : Moves c KnowsTypes (AllScalars (ParametersOf d of s).1.0) (Start s) (ParametersOf d of s).1
+  entered_moves = declared_parameters_moves c KnowsTypes lawful of (own.parameters_of d.ty) (Start s) (λ k. k.1) refl
 
-  ended_moves : Moves c Known (IfSome (Ended d of list s).0 Are) (Entered d of s).1 (Ended d of list s).1
+  ended_moves : Moves c KnowsTypes (IfSome (StatementsOf d of list s).0 Are) (ParametersOf d of s).1 (StatementsOf d of list s).1
   ended_moves =
-      moves_under c HasResult Known (Entered d of s).1 (Ended d of list s).1 (λ k. k.0)
+      moves_under c HasResult KnowsTypes (ParametersOf d of s).1 (StatementsOf d of list s).1 (λ k. k.0)
       (walk_moves c HasResult Are (IsStmt c lawful HasResult (result_type (result_of of)) no_jumps) (stmts_more c lawful HasResult (result_type (result_of of)) no_jumps) (statement (result_of of) no_jumps)
-      (statement_moves c lawful (result_of of) no_jumps) list (Some []) (Entered d of s).1 (Entered d of s).1 (moves_none c HasResult (Entered d of s).1 refl))
+      (statement_moves c lawful (result_of of) no_jumps) list (Some []) (ParametersOf d of s).1 (ParametersOf d of s).1 (moves_none c HasResult (ParametersOf d of s).1 refl))
 
-  body_moves : Moves c Known (AllScalars (Entered d of s).1.0 × IfSome (Ended d of list s).0 Are) (Start s) (Ended d of list s).1
-  body_moves = moves_then c Known (Start s) (Entered d of s).1 (Ended d of list s).1 entered_moves ended_moves
+  body_moves : Moves c KnowsTypes (AllScalars (ParametersOf d of s).1.0 × IfSome (StatementsOf d of list s).0 Are) (Start s) (StatementsOf d of list s).1
+  body_moves = moves_then c KnowsTypes (Start s) (ParametersOf d of s).1 (StatementsOf d of list s).1 entered_moves ended_moves
 
 -- ---- a function
 
 -- the function that is made of a body without a fault
-abbrev Made : Declaration → FunctionType → List Stmt → JudgementState → List TStmt → TypedFn
-Made d of list s found = record {
+abbrev FunctionOf : Declaration → FunctionType → List Stmt → JudgementState → List TStmt → TypedFn
+FunctionOf d of list s found = record {
   name = d.name;
   result = of.result;
-  params = length (Entered d (Some of) s).1.0;
-  locals = with_addressed (Ended d (Some of) list s).1.1.1.addressed (Ended d (Some of) list s).1.0;
+  params = length (ParametersOf d (Some of) s).1.0;
+  locals = with_addressed (StatementsOf d (Some of) list s).1.1.1.addressed (StatementsOf d (Some of) list s).1.0;
   body = t.Block found;
 }
 
-made_typed : (u : TypedUnit) (d : Declaration) (of : FunctionType) (list : List Stmt) (s : JudgementState) (found : List TStmt) → (Ended d (Some of) list s).0 ≡ Some found → DeclaresItsLocals (Made d of list s found)
-    → IsGiven u d (Some of) s (judge_function d (Some of) list s).1 (Made d of list s found) → IsTypedFn u (Made d of list s found)
+made_typed : (u : TypedUnit) (d : Declaration) (of : FunctionType) (list : List Stmt) (s : JudgementState) (found : List TStmt) → (StatementsOf d (Some of) list s).0 ≡ Some found → DeclaresItsLocals (FunctionOf d of list s found)
+    → IsGiven u d (Some of) s (judge_function d (Some of) list s).1 (FunctionOf d of list s found) → IsTypedFn u (FunctionOf d of list s found)
 made_typed u d of list s found e declares given =
-    let c = context_of u (Made d of list s found) in
-    let v = (Ended d (Some of) list s).1 in
+    let c = context_of u (FunctionOf d of list s found) in
+    let v = (StatementsOf d (Some of) list s).1 in
     let moves = body_moves c given.structs d (Some of) list s in
     let covers : Covers c v = record {
       locals = addressed_has c v.1.1.addressed v.0 refl;
       knows = record { structs_known = given.knows.structs_known; tags_known = given.knows.tags_known; untagged_known = given.knows.untagged_known };
       takes = record { locals = addressed_in_memory c v.1.1.addressed v.0 refl; objects = given.texts };
     } in
-    let stands : Stands c (Known c given.structs d (Some of) list s) (Start s) = record {
+    let stands : Stands c (KnowsTypes c given.structs d (Some of) list s) (Start s) = record {
       scope = record { names = given.scope.names; typedefs = given.scope.typedefs };
       lawful = refl;
       function = (result_fits u.structs (type_view of.result) given.result, given.parameters);
@@ -145,7 +145,7 @@ made_typed u d of list s found e declares given =
       name = given.name;
       result = given.result;
       params = declares.params;
-      scalars = parameters_scalar (Entered d (Some of) s).1.0 v.0 v.1.1.addressed (ended_moves c given.structs d (Some of) list s).grows all.0;
+      scalars = parameters_scalar (ParametersOf d (Some of) s).1.0 v.0 v.1.1.addressed (ended_moves c given.structs d (Some of) list s).grows all.0;
       count = given.count;
       locals = addressed_lawful u.structs v.1.1.addressed v.0 (moves.stands covers stands).lawful;
       block = along is_block (view_block found) refl;
@@ -153,9 +153,9 @@ made_typed u d of list s found e declares given =
       declares = declares.declares;
     }
 
-typed_where : (u : TypedUnit) (d : Declaration) (of : Option FunctionType) (list : List Stmt) (s : JudgementState) (sound : Bool) (o : Option (List TStmt)) → (Ended d of list s).0 ≡ o
-    → IfSome (typed_function d.name (result_of of) sound (length (Entered d of s).1.0) (with_addressed (Ended d of list s).1.1.1.addressed (Ended d of list s).1.0) o) DeclaresItsLocals
-    → IfSome (typed_function d.name (result_of of) sound (length (Entered d of s).1.0) (with_addressed (Ended d of list s).1.1.1.addressed (Ended d of list s).1.0) o)
+typed_where : (u : TypedUnit) (d : Declaration) (of : Option FunctionType) (list : List Stmt) (s : JudgementState) (sound : Bool) (o : Option (List TStmt)) → (StatementsOf d of list s).0 ≡ o
+    → IfSome (typed_function d.name (result_of of) sound (length (ParametersOf d of s).1.0) (with_addressed (StatementsOf d of list s).1.1.1.addressed (StatementsOf d of list s).1.0) o) DeclaresItsLocals
+    → IfSome (typed_function d.name (result_of of) sound (length (ParametersOf d of s).1.0) (with_addressed (StatementsOf d of list s).1.1.1.addressed (StatementsOf d of list s).1.0) o)
     (λ f. IsGiven u d of s (judge_function d of list s).1 f → IsTypedFn u f)
 typed_where u d None list s sound o e h = tt
 typed_where u d (Some of) list s false o e h = tt
@@ -163,7 +163,7 @@ typed_where u d (Some of) list s true None e h = tt
 typed_where u d (Some of) list s true (Some found) e h = made_typed u d of list s found e h
 
 pub function_typed : (u : TypedUnit) (d : Declaration) (of : Option FunctionType) (list : List Stmt) (s : JudgementState) → IfSome (judge_function d of list s).0 (λ f. IsGiven u d of s (judge_function d of list s).1 f → IsTypedFn u f)
-function_typed u d of list s = typed_where u d of list s (Entered d of s).0 (Ended d of list s).0 refl (function_says d of list s)
+function_typed u d of list s = typed_where u d of list s (ParametersOf d of s).0 (StatementsOf d of list s).0 refl (function_says d of list s)
 
 -- ---- what a body leaves
 
@@ -179,12 +179,12 @@ none_in_memory c (n ∷ ns) = (refl, none_in_memory c ns)
 
 pub function_leaves : (c : Context) → IsLawfulContext c → (d : Declaration) (of : Option FunctionType) (list : List Stmt) (s : JudgementState) → Leaves c s (judge_function d of list s).1
 function_leaves c lawful d of list s =
-    let v = (Ended d of list s).1 in
+    let v = (StatementsOf d of list s).1 in
     let moves = body_moves c lawful d of list s in
     let bare : Context = record { structs = c.structs; globals = c.globals; functions = c.functions; locals = [] } in
     let apart = body_moves bare lawful d of list s in
     record {
-      env = left s.0 v.1.0 moves.env;
+      env = left_scope s.0 v.1.0 moves.env;
       first = moves.later.first;
       addressed = refl;
       knows = λ k. moves.later.knows (record { structs_known = k.structs_known; tags_known = k.tags_known; untagged_known = k.untagged_known });

@@ -16,7 +16,7 @@ use Rattle.c_judgement_laws.proofs.Notes.{Later, later_itself, later_then, later
 use Rattle.c_expression_laws.specs.Types.{HasTypedefs}
 use Rattle.c_expression_laws.specs.Laws.{HasScope}
 use Rattle.c_expression_laws.specs.Walks.{Walks}
-use Rattle.c_expression_laws.proofs.Parts.{Extends, extends_same, extends_then, left}
+use Rattle.c_expression_laws.proofs.Parts.{Extends, extends_same, extends_then, left_scope}
 use Rattle.c_statement_laws.proofs.Locals.{Grows, grows_itself, grows_then, HasLocals, has_fewer}
 
 -- the context has the locals, what was noted and what was taken
@@ -133,7 +133,7 @@ module _ (c : Context) (known : Type 0) where
 
   pub scope_moves : {X : Type 0} (w u : BodyState) → Moves c known X (in_scope w) u → Moves c known X w (behind_scope w u)
   scope_moves w u m =
-      let same = left w.1.0 u.1.0 m.env in
+      let same = left_scope w.1.0 u.1.0 m.env in
       record {
         grows = m.grows;
         later = m.later;

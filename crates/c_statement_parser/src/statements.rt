@@ -11,7 +11,7 @@ ghost use Rattle.c_grammar.specs.ParseStatements as model;
 ghost use Rattle.c_token_cursor.specs.Answers.{Answers};
 
 use c_expression_parser::{expr, whole};
-use c_grammar::{Head, Naming, head_of, levels};
+use c_grammar::{Head, NameRequirement, head_of, levels};
 use c_lexer::{Keyword, Punct};
 use c_parser_types::SpecifierType;
 use c_specifier_parser::declaration;
@@ -30,7 +30,7 @@ fn local_declarator(
 ) -> Result<LocalDeclarator, ParseStop>
     ensures { Answers (model.local_declarator scope.now depth base tokens.old) result tokens.new }
 {
-    let declaration = declaration(alloc, scope, tokens, depth, Naming::Required, base)?;
+    let declaration = declaration(alloc, scope, tokens, depth, NameRequirement::Required, base)?;
     if !tokens.sees(Punct::Assign) {
         return Ok(LocalDeclarator {
             declaration,
@@ -63,7 +63,7 @@ fn locals(
         tokens.new }
 {
     let mut found = Seq::new(alloc);
-    for _turn in 0..tokens.left() {
+    for _turn in 0..tokens.count_left() {
         found.push(local_declarator(alloc, scope, tokens, depth, base.bare()?)?)?;
         if !tokens.sees(Punct::Comma) {
             return Ok(found);
@@ -273,7 +273,7 @@ pub fn items(
         tokens.old) result tokens.new }
 {
     let mut found = Seq::new(alloc);
-    for _turn in 0..tokens.left() {
+    for _turn in 0..tokens.count_left() {
         if tokens.sees(Punct::RightBrace) {
             tokens.take();
             return Ok(found);
@@ -317,7 +317,7 @@ fn stmts(
         tokens.old) result tokens.new }
 {
     let mut found = Seq::new(alloc);
-    for _turn in 0..tokens.left() {
+    for _turn in 0..tokens.count_left() {
         if ends_section(tokens) {
             return Ok(found);
         }
@@ -360,7 +360,7 @@ fn sections(
         [] tokens.old) result tokens.new }
 {
     let mut found = Seq::new(alloc);
-    for _turn in 0..tokens.left() {
+    for _turn in 0..tokens.count_left() {
         if tokens.sees(Punct::RightBrace) {
             tokens.take();
             return Ok(found);

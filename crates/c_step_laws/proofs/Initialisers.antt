@@ -20,10 +20,10 @@ use Rattle.c_initial_values.specs.Values.{initial_value}
 use Rattle.c_initialisers.specs.declared.lists.InitialiserItems.{InitialiserItems}
 use Rattle.c_initialisers.specs.declared.lists.InitialiserItems.TheVariants as t
 use Rattle.c_initialisers.specs.Unfit.{judge_init, judge_items, is_whole_with, no_place, faulty_init}
-use Rattle.c_initialisers.specs.Values.{Filling, FillingState, cells_beside, scalar_value, constant_value, fill_value, text_in, text_value, expression_value, value_or_text}
+use Rattle.c_initialisers.specs.Values.{CellsAndNotes, FillingState, cells_beside, scalar_value, constant_value, fill_value, text_in, text_value, expression_value, value_or_text}
 use Rattle.c_initialisers.specs.Initialisers.{with_item, with_surplus, counted_by, if_part, list_of, scalar_list, list_in, initialise, item_row, object_cells}
 use Rattle.c_note_laws.specs.Steps.{NoteSteps}
-use Rattle.c_note_laws.proofs.Forms.{ruled, each_adds}
+use Rattle.c_note_laws.proofs.Forms.{ruled_steps, each_adds}
 use Rattle.c_note_laws.proofs.Walks.{judge_adds}
 
 -- ---- what fits nothing
@@ -46,24 +46,24 @@ unfit_steps kind x s =
 
 -- ---- single values
 
-scalar_steps : (ty : CType) (place : ℕ) (a : TypedExpression) (f : Filling) → NoteSteps f.1 (scalar_value ty place a f).1.1
-scalar_steps ty place a f = NoteSteps.Follows (ruled (initial_value f.1.structs a) f.1) (ruled (take_value ty a) (constant_value a f.1).1)
+scalar_steps : (ty : CType) (place : ℕ) (a : TypedExpression) (f : CellsAndNotes) → NoteSteps f.1 (scalar_value ty place a f).1.1
+scalar_steps ty place a f = NoteSteps.Follows (ruled_steps (initial_value f.1.structs a) f.1) (ruled_steps (take_value ty a) (constant_value a f.1).1)
 
-value_steps : (ty : CType) (place : ℕ) (a : TypedExpression) (f : Filling) → NoteSteps f.1 (fill_value ty place a f).1.1
+value_steps : (ty : CType) (place : ℕ) (a : TypedExpression) (f : CellsAndNotes) → NoteSteps f.1 (fill_value ty place a f).1.1
 value_steps ty place a f = choose (is_aggregate ty)
   where
     choose : (b : Bool) → NoteSteps f.1 (if b then cells_beside f.0 (no_place BadInit a.at f.1) else scalar_value ty place (decay a) f).1.1
     choose true = NoteSteps.AddsFault a.at BadInit
     choose false = scalar_steps ty place (decay a) f
 
-judged_value_steps : (ty : CType) (place : ℕ) (o : Option TypedExpression) (f : Filling) → NoteSteps f.1 (each o (fill_value ty place) f).1.1
+judged_value_steps : (ty : CType) (place : ℕ) (o : Option TypedExpression) (f : CellsAndNotes) → NoteSteps f.1 (each o (fill_value ty place) f).1.1
 judged_value_steps ty place None f = NoteSteps.Stays
 judged_value_steps ty place (Some a) f = value_steps ty place a f
 
 expression_steps : (ty : CType) (place : ℕ) (x : Expr) (s : FillingState) → NoteSteps s.1.1 (expression_value ty place x s).1.1.1
 expression_steps ty place x s = NoteSteps.Follows (judge_adds x s.1) (judged_value_steps ty place (judge x s.1).0 (s.0, (judge x s.1).1.1))
 
-text_steps : (place room at : ℕ) (bytes : List ℕ) (f : Filling) → NoteSteps f.1 (text_value place room at bytes f).1.1
+text_steps : (place room at : ℕ) (bytes : List ℕ) (f : CellsAndNotes) → NoteSteps f.1 (text_value place room at bytes f).1.1
 text_steps place room at bytes f = choose (is_room_for room bytes)
   where
     choose : (b : Bool) → NoteSteps f.1 (if b then (Some at, (place_piece place (text_cells room bytes) f.0, f.1)) else cells_beside f.0 (no_place BadInit at f.1)).1.1

@@ -42,7 +42,7 @@ use Rattle.c_statement_parts.specs.Parts.{condition_of, operand_of, optional_con
 use Rattle.c_function_bodies.specs.Functions.{parameters, typed_parameters, declared_parameters}
 use Rattle.c_function_bodies.specs.Functions as fn
 use Rattle.c_note_laws.specs.Steps.{NoteSteps}
-use Rattle.c_note_laws.proofs.Forms.{ruled, each_adds, both_adds, leaf_adds, within_adds}
+use Rattle.c_note_laws.proofs.Forms.{ruled_steps, each_adds, both_adds, leaf_adds, within_adds}
 use Rattle.c_note_laws.proofs.Walks.{judge_adds, derive_adds}
 
 -- ---- expressions
@@ -52,10 +52,10 @@ pub judged_part : {A : Type 0} (x : Expr) (s : JudgementState) (f : TypedExpress
 judged_part x s f h = NoteSteps.Follows (judge_adds x s) (each_adds (judge x s).0 f (judge x s).1.1 (λ a. h a (judge x s).1.1))
 
 pub condition_steps : (x : Expr) (s : JudgementState) → NoteSteps s.1 (condition_of x s).1.1
-condition_steps x s = judged_part x s condition_check (λ a n. ruled _ n)
+condition_steps x s = judged_part x s condition_check (λ a n. ruled_steps _ n)
 
 pub operand_steps : (x : Expr) (s : JudgementState) → NoteSteps s.1 (operand_of x s).1.1
-operand_steps x s = judged_part x s switch_check (λ a n. ruled _ n)
+operand_steps x s = judged_part x s switch_check (λ a n. ruled_steps _ n)
 
 pub optional_condition_steps : (o : Option Expr) (s : JudgementState) → NoteSteps s.1 (optional_condition o s).1.1
 optional_condition_steps None s = NoteSteps.Stays
@@ -77,7 +77,7 @@ return_value_steps at ty a n = choose (is_void (type_view ty))
   where
     choose : (b : Bool) → NoteSteps n (if b then bad_return at n else and_then (note_fault (take_value ty a) n) (λ value. pure (return_of value))).1
     choose true = NoteSteps.AddsFault at BadReturn
-    choose false = ruled (take_value ty a) n
+    choose false = ruled_steps (take_value ty a) n
 
 pub return_steps : (of : Option CType) (at : ℕ) (o : Option Expr) (s : JudgementState) → NoteSteps s.1 (return_statement of at o s).1.1
 return_steps of at None s = each_adds of (return_nothing at) s.1 (λ ty. nothing_steps at ty s.1)
@@ -118,7 +118,7 @@ initialiser_steps ty a n = choose (is_array (type_view ty))
   where
     choose : (b : Bool) → NoteSteps n (if b then no_initialiser a.at n else note_fault (take_value ty a) n).1
     choose true = NoteSteps.AddsFault a.at BadInit
-    choose false = ruled (take_value ty a) n
+    choose false = ruled_steps (take_value ty a) n
 
 pub initialised_steps : (new : Option NewLocal) (o : Option Expr) (w : BodyState) → NoteSteps w.1.1 (initialiser_of new o w).1.1.1
 initialised_steps new None w = NoteSteps.Stays

@@ -49,8 +49,8 @@ module _ (ds : List StructDef) (tag : List ℕ) (fs : List Field) where
   unfolding whole
   whole_deep = ap (λ n. 1 + n) (sym (deep_from ds 0 fs))
 
-  pub laid : (d : StructDef) → struct_of ds tag fs ≡ Some d → IsLaidOut ds d
-  laid d h = subst (IsLaidOut ds) (is_whole d h) whole_laid
+  pub laid_out_fields : (d : StructDef) → struct_of ds tag fs ≡ Some d → IsLaidOut ds d
+  laid_out_fields d h = subst (IsLaidOut ds) (is_whole d h) whole_laid
 
   pub deep : (d : StructDef) → struct_of ds tag fs ≡ Some d → d.depth ≡ 1 + greatest_depth ds d.members
   deep d h = subst (λ (x : StructDef). x.depth ≡ 1 + greatest_depth ds x.members) (is_whole d h) whole_deep

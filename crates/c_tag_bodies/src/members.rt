@@ -6,7 +6,7 @@ ghost use Rattle.c_checks.specs.Checks.{Finds, each};
 ghost use Rattle.c_tag_bodies.specs.Members as spec;
 
 use c_checks::{Notes, note};
-use c_declared_types::{DeclaredType, is_deep_at_most};
+use c_declared_types::{DeclaredType, MOST_DEPTH, is_deep_at_most};
 use c_scopes::NameTable;
 use c_struct_layout::Field;
 use c_tree::{Name, Seq};
@@ -14,9 +14,6 @@ use c_type_faults::Kind;
 use c_type_rules::types::is_object;
 use c_typed_tree::{CType, StructDef};
 use std::alloc::{AllocError, Global};
-
-/// The greatest depth of a type that is declared.
-const MOST_DEPTH: u64 = 256;
 
 /// The members of a body as far as they are judged.
 #[derive(Drop)]

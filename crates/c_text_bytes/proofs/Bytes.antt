@@ -2,7 +2,7 @@
 use Rattle.std.proofs.Common.{◌≡◌, ℕ, zero, suc, ◌+◌, ◌<◌, ◌≤◌, List, [], ◌∷◌, length, take, drop, get_or, All, arith, subst}
 use Rattle.std.proofs.lemmas.List.{take_all}
 use Rattle.std.proofs.lemmas.List.Elements.{All-more}
-use Rattle.c_initial_value_laws.specs.Cells.{AreBytes}
+use Rattle.mem_model.specs.Bytes.{AreBytes}
 
 -- what is left of a text, with one byte less
 left_with : (text : List ℕ) (i b : ℕ) → i < length text → b ≡ get_or text i b → b < 256 → AreBytes (drop (suc i) text) → AreBytes (drop i text)

@@ -1,1 +1,1 @@
-pub use Rattle.c_initial_value_laws.specs.Cells
+pub use Rattle.mem_model.specs.Bytes

@@ -1,7 +1,7 @@
 //! Texts and string literals hold bytes: a byte that is read is below 256.
 
 ghost use Rattle.std.specs.Prelude.{All};
-ghost use Rattle.c_initial_value_laws.specs.Cells.{AreBytes};
+ghost use Rattle.mem_model.specs.Bytes.{AreBytes};
 
 use c_tree::Seq;
 

@@ -100,7 +100,7 @@ impl<'a> Tokens<'a> {
 
     /// How many are left.
     #[tactic(auto, using(crate::proofs::Lexemes::length_lexemes))]
-    pub fn left(&self) -> usize
+    pub fn count_left(&self) -> usize
         ensures { result ≡ length self.now }
     {
         self.rest.len()
@@ -274,7 +274,7 @@ impl<'a> Tokens<'a> {
     pub fn consts(&mut self)
         ensures { model.consts (length self.old) self.old ≡ Ok (tt, self.new) }
     {
-        for _turn in 0..self.left() {
+        for _turn in 0..self.count_left() {
             if !self.sees_word(Keyword::Const) {
                 return;
             }

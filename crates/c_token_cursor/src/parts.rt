@@ -6,7 +6,7 @@ ghost use Rattle.c_token_cursor.specs.Answers.{Answers};
 
 use crate::cursor::{ParseStop, Tokens};
 use crate::scope::TypedefScope;
-use c_grammar::{Declarator, DeclaredName, Naming};
+use c_grammar::{Declarator, DeclaredName, NameRequirement};
 use c_parser_types::{may_be_nameless, takes_name};
 use c_tree::{Name, Seq};
 use std::alloc::Global;
@@ -17,7 +17,7 @@ pub fn texts(alloc: Global, tokens: &mut Tokens<'_>) -> Result<Seq<Name>, ParseS
     ensures { Answers (model.texts_from (length tokens.old) [] tokens.old) result tokens.new }
 {
     let mut found = Seq::new(alloc);
-    for _turn in 0..tokens.left() {
+    for _turn in 0..tokens.count_left() {
         if !tokens.sees_text() {
             return Ok(found);
         }
@@ -41,7 +41,11 @@ pub fn member_name(alloc: Global, tokens: &mut Tokens<'_>) -> Result<Name, Parse
 }
 
 /// Reads no name, where a declarator may do without one.
-pub fn no_name(alloc: Global, tokens: &Tokens<'_>, naming: Naming) -> Result<Declarator, ParseStop>
+pub fn no_name(
+    alloc: Global,
+    tokens: &Tokens<'_>,
+    naming: NameRequirement,
+) -> Result<Declarator, ParseStop>
     ensures { Answers (model.no_name naming tokens.now) result tokens.now }
 {
     if !may_be_nameless(naming) {
@@ -58,7 +62,7 @@ pub fn core_name(
     alloc: Global,
     scope: &TypedefScope,
     tokens: &mut Tokens<'_>,
-    naming: Naming,
+    naming: NameRequirement,
 ) -> Result<Declarator, ParseStop>
     ensures { Answers (model.core_name scope.now naming tokens.old) result tokens.new }
 {

@@ -39,7 +39,7 @@ pub fn read_words(tokens: &mut Tokens<'_>) -> SpecifierStart
     ensures { model.words_from (length tokens.old) no_words tokens.old ≡ (result, tokens.new) }
 {
     let mut set = WordSet::new();
-    for _turn in 0..tokens.left() {
+    for _turn in 0..tokens.count_left() {
         let kind = specifier_of(tokens.peek());
         let Some(more) = extend(set, kind) else {
             return start_of(set, kind);

@@ -2,6 +2,7 @@
 //!
 //! Each form has a function for its line and one for its children, which stand under an indentation
 //! of two blanks more. The functions go down only where the tree does.
+#![tactic(auto, using(c_tree::proofs::Rows::rows), unfolding(c_tree::specs::model::Open::opens))]
 
 ghost use Rattle.std.specs.Prelude.{◌≡◌, ◌++◌, [], ◌∷◌, IfOk, OnOk};
 ghost use Rattle.c_tree.specs.Words as words;
@@ -13,6 +14,7 @@ use c_tree::{Constant, Declaration, Expr, Name, Parameter, TypeNode};
 use std::alloc::{AllocError, Global};
 
 /// Puts the line that says the word and the text.
+#[tactic(auto)]
 pub fn put_line(out: &mut Vec<u8>, indent: &[u8], word: &str, text: &[u8]) -> Result<(), AllocError>
     ensures { OnOk result (out.new.items ≡ out.old.items ++ line_text indent.now (word.now ++ text.now)) }
 {
@@ -23,6 +25,7 @@ pub fn put_line(out: &mut Vec<u8>, indent: &[u8], word: &str, text: &[u8]) -> Re
 }
 
 /// Puts the line that says the word and two texts.
+#[tactic(auto)]
 pub fn put_line_of_three(
     out: &mut Vec<u8>,
     indent: &[u8],
@@ -40,6 +43,7 @@ pub fn put_line_of_three(
 }
 
 /// The indentation of the children.
+#[tactic(auto)]
 pub fn below(alloc: Global, indent: &[u8]) -> Result<Vec<u8>, AllocError>
     ensures { IfOk result (λ v. v.items ≡ indent.now ++ 32 ∷ 32 ∷ []) }
 {
@@ -49,6 +53,7 @@ pub fn below(alloc: Global, indent: &[u8]) -> Result<Vec<u8>, AllocError>
 }
 
 /// The spellings, with a blank before each.
+#[tactic(auto)]
 fn spellings_text(alloc: Global, spellings: &[Name]) -> Result<Vec<u8>, AllocError>
     ensures { IfOk result (λ v. v.items ≡ words.spellings_text spellings.now) }
 {
@@ -93,7 +98,6 @@ fn expr_line(alloc: Global, out: &mut Vec<u8>, indent: &[u8], e: &Expr) -> Resul
 
 /// Puts an expression.
 #[cycle(ast)]
-#[tactic(auto, using(c_tree::proofs::Rows::rows), unfolding(c_tree::specs::model::Open::opens))]
 pub fn put_expr(alloc: Global, out: &mut Vec<u8>, indent: &[u8], e: &Expr) -> Result<(), AllocError>
     ensures { OnOk result (out.new.items ≡ out.old.items ++ node_text indent.now (expr_node e.now)) }
 {
@@ -104,7 +108,6 @@ pub fn put_expr(alloc: Global, out: &mut Vec<u8>, indent: &[u8], e: &Expr) -> Re
 
 /// Puts what stands under an expression.
 #[cycle(ast)]
-#[tactic(auto, using(c_tree::proofs::Rows::rows), unfolding(c_tree::specs::model::Open::opens))]
 fn put_operands(alloc: Global, out: &mut Vec<u8>, indent: &[u8], e: &Expr) -> Result<(), AllocError>
     ensures { OnOk result (out.new.items ≡ out.old.items ++ nodes_text indent.now (children_of (expr_node e.now))) }
 {
@@ -149,7 +152,6 @@ fn put_operands(alloc: Global, out: &mut Vec<u8>, indent: &[u8], e: &Expr) -> Re
 
 /// Puts expressions.
 #[cycle(ast)]
-#[tactic(auto, using(c_tree::proofs::Rows::rows), unfolding(c_tree::specs::model::Open::opens))]
 fn put_exprs(
     alloc: Global,
     out: &mut Vec<u8>,
@@ -166,7 +168,6 @@ fn put_exprs(
 
 /// Puts an expression that may be missing.
 #[cycle(ast)]
-#[tactic(auto, using(c_tree::proofs::Rows::rows), unfolding(c_tree::specs::model::Open::opens))]
 fn put_value(
     alloc: Global,
     out: &mut Vec<u8>,
@@ -199,7 +200,6 @@ fn type_line(out: &mut Vec<u8>, indent: &[u8], ty: &TypeNode) -> Result<(), Allo
 
 /// Puts a type.
 #[cycle(ast)]
-#[tactic(auto, using(c_tree::proofs::Rows::rows), unfolding(c_tree::specs::model::Open::opens))]
 pub fn put_type(
     alloc: Global,
     out: &mut Vec<u8>,
@@ -215,7 +215,6 @@ pub fn put_type(
 
 /// Puts what stands under a type.
 #[cycle(ast)]
-#[tactic(auto, using(c_tree::proofs::Rows::rows), unfolding(c_tree::specs::model::Open::opens))]
 fn put_type_parts(
     alloc: Global,
     out: &mut Vec<u8>,
@@ -255,7 +254,6 @@ fn put_type_parts(
 
 /// Puts enumeration constants.
 #[cycle(ast)]
-#[tactic(auto, using(c_tree::proofs::Rows::rows), unfolding(c_tree::specs::model::Open::opens))]
 fn put_constants(
     alloc: Global,
     out: &mut Vec<u8>,
@@ -274,7 +272,6 @@ fn put_constants(
 
 /// Puts members.
 #[cycle(ast)]
-#[tactic(auto, using(c_tree::proofs::Rows::rows), unfolding(c_tree::specs::model::Open::opens))]
 fn put_members(
     alloc: Global,
     out: &mut Vec<u8>,
@@ -293,7 +290,6 @@ fn put_members(
 
 /// Puts parameters.
 #[cycle(ast)]
-#[tactic(auto, using(c_tree::proofs::Rows::rows), unfolding(c_tree::specs::model::Open::opens))]
 fn put_parameters(
     alloc: Global,
     out: &mut Vec<u8>,

@@ -1,4 +1,5 @@
 //! The text of statements, externals and units.
+#![tactic(auto, using(c_tree::proofs::Rows::rows), unfolding(c_tree::specs::model::Open::opens))]
 
 ghost use Rattle.std.specs.Prelude.{◌≡◌, ◌++◌, [], IfOk, OnOk};
 ghost use Rattle.c_tree.specs.Nodes.{nodes_of, nodes_text, node_text, optional, local_node, first_nodes, part_of_for, label_line, label_nodes, type_node, stmt_node, init_node, optional_init, end_nodes, external_node, text_of};
@@ -13,7 +14,6 @@ use c_tree::{
 use std::alloc::{AllocError, Global};
 
 /// Puts an expression in a box that may be missing.
-#[tactic(auto, using(c_tree::proofs::Rows::rows), unfolding(c_tree::specs::model::Open::opens))]
 fn put_boxed_value(
     alloc: Global,
     out: &mut Vec<u8>,
@@ -29,7 +29,6 @@ fn put_boxed_value(
 }
 
 /// Puts a declaration in a block.
-#[tactic(auto, using(c_tree::proofs::Rows::rows), unfolding(c_tree::specs::model::Open::opens))]
 fn put_local(
     alloc: Global,
     out: &mut Vec<u8>,
@@ -45,6 +44,7 @@ fn put_local(
 }
 
 /// Puts declarations in a block.
+#[tactic(auto)]
 fn put_locals(
     alloc: Global,
     out: &mut Vec<u8>,
@@ -60,7 +60,6 @@ fn put_locals(
 }
 
 /// Puts the first part of a `for`.
-#[tactic(auto, using(c_tree::proofs::Rows::rows), unfolding(c_tree::specs::model::Open::opens))]
 fn put_first(
     alloc: Global,
     out: &mut Vec<u8>,
@@ -77,7 +76,6 @@ fn put_first(
 }
 
 /// Puts the condition or the step of a `for`.
-#[tactic(auto, using(c_tree::proofs::Rows::rows), unfolding(c_tree::specs::model::Open::opens))]
 fn put_part_of_for(
     alloc: Global,
     out: &mut Vec<u8>,
@@ -115,7 +113,6 @@ fn stmt_line(out: &mut Vec<u8>, indent: &[u8], stmt: &Stmt) -> Result<(), AllocE
 
 /// Puts a statement.
 #[cycle(statement)]
-#[tactic(auto, using(c_tree::proofs::Rows::rows), unfolding(c_tree::specs::model::Open::opens))]
 fn put_stmt(alloc: Global, out: &mut Vec<u8>, indent: &[u8], stmt: &Stmt) -> Result<(), AllocError>
     ensures { OnOk result (out.new.items ≡ out.old.items ++ node_text indent.now (stmt_node stmt.now)) }
 {
@@ -126,7 +123,6 @@ fn put_stmt(alloc: Global, out: &mut Vec<u8>, indent: &[u8], stmt: &Stmt) -> Res
 
 /// Puts what stands under a statement.
 #[cycle(statement)]
-#[tactic(auto, using(c_tree::proofs::Rows::rows), unfolding(c_tree::specs::model::Open::opens))]
 fn put_parts(alloc: Global, out: &mut Vec<u8>, indent: &[u8], stmt: &Stmt) -> Result<(), AllocError>
     ensures { OnOk result (out.new.items ≡ out.old.items ++ nodes_text indent.now (children_of (stmt_node stmt.now))) }
 {
@@ -178,7 +174,6 @@ fn put_parts(alloc: Global, out: &mut Vec<u8>, indent: &[u8], stmt: &Stmt) -> Re
 
 /// Puts the statement behind `else`, if there is one.
 #[cycle(statement)]
-#[tactic(auto, using(c_tree::proofs::Rows::rows), unfolding(c_tree::specs::model::Open::opens))]
 fn put_otherwise(
     alloc: Global,
     out: &mut Vec<u8>,
@@ -195,7 +190,6 @@ fn put_otherwise(
 
 /// Puts statements.
 #[cycle(statement)]
-#[tactic(auto, using(c_tree::proofs::Rows::rows), unfolding(c_tree::specs::model::Open::opens))]
 fn put_stmts(
     alloc: Global,
     out: &mut Vec<u8>,
@@ -211,7 +205,6 @@ fn put_stmts(
 }
 
 /// Puts the line of a label, and the value of a `case`.
-#[tactic(auto, using(c_tree::proofs::Rows::rows), unfolding(c_tree::specs::model::Open::opens))]
 fn put_label(
     alloc: Global,
     out: &mut Vec<u8>,
@@ -233,7 +226,6 @@ fn put_label(
 
 /// Puts the labels of a `switch` with their statements.
 #[cycle(statement)]
-#[tactic(auto, using(c_tree::proofs::Rows::rows), unfolding(c_tree::specs::model::Open::opens))]
 fn put_sections(
     alloc: Global,
     out: &mut Vec<u8>,
@@ -252,7 +244,6 @@ fn put_sections(
 
 /// Puts an initialiser.
 #[cycle(init)]
-#[tactic(auto, using(c_tree::proofs::Rows::rows), unfolding(c_tree::specs::model::Open::opens))]
 fn put_init(alloc: Global, out: &mut Vec<u8>, indent: &[u8], init: &Init) -> Result<(), AllocError>
     ensures { OnOk result (out.new.items ≡ out.old.items ++ node_text indent.now (init_node init.now)) }
 {
@@ -268,7 +259,6 @@ fn put_init(alloc: Global, out: &mut Vec<u8>, indent: &[u8], init: &Init) -> Res
 
 /// Puts initialisers.
 #[cycle(init)]
-#[tactic(auto, using(c_tree::proofs::Rows::rows), unfolding(c_tree::specs::model::Open::opens))]
 fn put_inits(
     alloc: Global,
     out: &mut Vec<u8>,
@@ -284,6 +274,7 @@ fn put_inits(
 }
 
 /// Puts the line of a declaration at file scope and its type.
+#[tactic(auto)]
 fn put_declaration(
     alloc: Global,
     out: &mut Vec<u8>,
@@ -302,7 +293,6 @@ fn put_declaration(
 }
 
 /// Puts an initialiser that may be missing.
-#[tactic(auto, using(c_tree::proofs::Rows::rows), unfolding(c_tree::specs::model::Open::opens))]
 fn put_optional_init(
     alloc: Global,
     out: &mut Vec<u8>,
@@ -318,7 +308,6 @@ fn put_optional_init(
 }
 
 /// Puts what follows the declarator of a function.
-#[tactic(auto, using(c_tree::proofs::Rows::rows), unfolding(c_tree::specs::model::Open::opens))]
 fn put_end(
     alloc: Global,
     out: &mut Vec<u8>,
@@ -339,7 +328,6 @@ fn put_end(
 }
 
 /// Puts what stands at file scope.
-#[tactic(auto, using(c_tree::proofs::Rows::rows), unfolding(c_tree::specs::model::Open::opens))]
 fn put_external(
     alloc: Global,
     out: &mut Vec<u8>,
@@ -389,6 +377,7 @@ fn put_external(
 /// The text of a unit's tree: a line for each node in source order, with two blanks for each level
 /// above it. A line is the node's word, and where the node has a text a blank and the text. It fails
 /// only where memory is short.
+#[tactic(auto)]
 pub fn tree_text(alloc: Global, unit: &TranslationUnit) -> Result<Vec<u8>, AllocError>
     ensures { IfOk result (λ text. text.items ≡ text_of unit.now) }
 {

@@ -21,8 +21,8 @@ use Rattle.c_type_rules.specs.Values.{type_of_integer, int, long, integer, is_sa
 use Rattle.c_type_rules.specs.Arithmetic.{promoted_type, unary_of, unary_arithmetic, common_type, arithmetic_of, arithmetic, shift_of, bitwise_shift, addition, subtraction}
 use Rattle.c_type_rules.specs.Comparisons.{not_operation, logical, are_pointers_of_one_type, ordered_pointers, comparison_of, comparison}
 use Rattle.c_type_laws.specs.Typed.{IsTypedIn, IsOfType, AreKnown}
-use Rattle.c_type_laws.proofs.Truth.{front, back, also, three, along, either_left, either_right, first_of_three, second_of_three, third_of_three, given}
-use Rattle.c_type_laws.proofs.Types.{same, alike, integer_known, integer_from, integer_fits, promote_promoted, common_promoted, promoted, integer_no_array, pointer_no_array, object_pointer_is, known_pointer}
+use Rattle.c_type_laws.proofs.Truth.{front, back, also, three, along, either_left, either_right, first_of_three, second_of_three, third_of_three, given_true}
+use Rattle.c_type_laws.proofs.Types.{same, alike, integer_known, integer_from, integer_fits, promote_promoted, common_promoted, promoted_holds, integer_no_array, pointer_no_array, object_pointer_is, known_pointer}
 use Rattle.c_type_laws.proofs.Values.{fit_in, tree_in, integer_operand, unary_made, binary_made}
 
 -- an integer type is no array
@@ -92,7 +92,7 @@ module _ (c : Context) where
       let ty = type_view (promoted_type s) in
       unary_made c at (promoted_type s) op (convert_tree (promoted_type s) a) x.typed (integer_fits c.structs (promote s))
       (p c.structs c.locals ty (expr_view (convert_tree (promoted_type s) a))
-      (along (has_promoted_type ty) x.type (also (is_promoted ty) (is_same_type ty ty) (promoted (promote s) (promote_promoted s)) (alike ty))))
+      (along (has_promoted_type ty) x.type (also (is_promoted ty) (is_same_type ty ty) (promoted_holds (promote s) (promote_promoted s)) (alike ty))))
       (plain_integer (promote s))
 
   pub unary_arithmetic_typed : (at : ℕ) (op : UnaryOp) (a : TypedExpression) → Promotes op → IsTypedIn c a → IfOk (unary_arithmetic at op a) (IsTypedIn c)
@@ -108,7 +108,7 @@ module _ (c : Context) where
       let ty = type_view (common_type s r) in
       binary_made c at (common_type s r) op ty ty (convert_tree (common_type s r) x) (convert_tree (common_type s r) y)
       (integer_operand c (common s r) x s h k) (integer_operand c (common s r) y r g l) (integer_fits c.structs (common s r))
-      (p c.structs ty ty ty (three (is_promoted ty) (is_same_type ty ty) (is_same_type ty ty) (promoted (common s r) (common_promoted s r)) (alike ty) (alike ty)))
+      (p c.structs ty ty ty (three (is_promoted ty) (is_same_type ty ty) (is_same_type ty ty) (promoted_holds (common s r) (common_promoted s r)) (alike ty) (alike ty)))
       (plain_integer (common s r))
 
   pub arithmetic_typed : (at : ℕ) (op : BinaryOp) (x y : TypedExpression) → Computes op → IsTypedIn c x → IsTypedIn c y → IfOk (arithmetic at op x y) (IsTypedIn c)
@@ -125,7 +125,7 @@ module _ (c : Context) where
       let count = type_view (promoted_type r) in
       binary_made c at (promoted_type s) op ty count (convert_tree (promoted_type s) x) (convert_tree (promoted_type r) y)
       (integer_operand c (promote s) x s h k) (integer_operand c (promote r) y r g l) (integer_fits c.structs (promote s))
-      (p c.structs ty ty count (three (is_promoted ty) (is_promoted count) (is_same_type ty ty) (promoted (promote s) (promote_promoted s)) (promoted (promote r) (promote_promoted r)) (alike ty)))
+      (p c.structs ty ty count (three (is_promoted ty) (is_promoted count) (is_same_type ty ty) (promoted_holds (promote s) (promote_promoted s)) (promoted_holds (promote r) (promote_promoted r)) (alike ty)))
       (plain_integer (promote s))
 
   pub shift_typed : (at : ℕ) (op : BinaryOp) (x y : TypedExpression) → Shifts op → IsTypedIn c x → IsTypedIn c y → IfOk (bitwise_shift at op x y) (IsTypedIn c)
@@ -140,17 +140,17 @@ module _ (c : Context) where
   sum_typed ds at x y known h g =
       let left = type_view x.ty in
       let right = type_view y.ty in
-      given (IsTypedIn c) (points_to_object ds left) _ _
+      given_true (IsTypedIn c) (points_to_object ds left) _ _
       (λ p. let q = known_pointer ds c.structs known left p in
-      given (IsTypedIn c) (is_integer right) _ _
+      given_true (IsTypedIn c) (is_integer right) _ _
       (λ n. binary_made c at x.ty b.Add left right x.tree y.tree (tree_in c x h) (tree_in c y g) (fit_in c x h)
       (second_of_three (is_arithmetic left left right) (points_to_object c.structs left && is_integer right && is_same_type left left)
       (is_integer left && points_to_object c.structs right && is_same_type right left)
       (three (points_to_object c.structs left) (is_integer right) (is_same_type left left) q n (alike left))) (plain_pointer left q))
       (λ n. tt))
-      (λ f. given (IsTypedIn c) (points_to_object ds right) _ _
+      (λ f. given_true (IsTypedIn c) (points_to_object ds right) _ _
       (λ p. let q = known_pointer ds c.structs known right p in
-      given (IsTypedIn c) (is_integer left) _ _
+      given_true (IsTypedIn c) (is_integer left) _ _
       (λ n. binary_made c at y.ty b.Add left right x.tree y.tree (tree_in c x h) (tree_in c y g) (fit_in c y g)
       (third_of_three (is_arithmetic right left right) (points_to_object c.structs left && is_integer right && is_same_type left right)
       (is_integer left && points_to_object c.structs right && is_same_type right right)
@@ -162,14 +162,14 @@ module _ (c : Context) where
   difference_typed ds at x y known h g =
       let left = type_view x.ty in
       let right = type_view y.ty in
-      given (IsTypedIn c) (points_to_object ds left) _ _
+      given_true (IsTypedIn c) (points_to_object ds left) _ _
       (λ p. let q = known_pointer ds c.structs known left p in
-      given (IsTypedIn c) (is_integer right) _ _
+      given_true (IsTypedIn c) (is_integer right) _ _
       (λ n. binary_made c at x.ty b.Subtract left right x.tree y.tree (tree_in c x h) (tree_in c y g) (fit_in c x h)
       (second_of_three (is_arithmetic left left right) (points_to_object c.structs left && is_integer right && is_same_type left left)
       (points_to_object c.structs left && is_same_type left right && is_same_type left rules.long)
       (three (points_to_object c.structs left) (is_integer right) (is_same_type left left) q n (alike left))) (plain_pointer left q))
-      (λ n. given (IsTypedIn c) (is_same x.ty y.ty) _ _
+      (λ n. given_true (IsTypedIn c) (is_same x.ty y.ty) _ _
       (λ s. binary_made c at long b.Subtract left right x.tree y.tree (tree_in c x h) (tree_in c y g) (integer_fits c.structs i.Long)
       (third_of_three (is_arithmetic (type_view long) left right) (points_to_object c.structs left && is_integer right && is_same_type left (type_view long))
       (points_to_object c.structs left && is_same_type left right && is_same_type (type_view long) rules.long)
@@ -181,7 +181,7 @@ module _ (c : Context) where
 
   pub negation_typed : (at : ℕ) (a : TypedExpression) → IsTypedIn c a → IfOk (not_operation at a) (IsTypedIn c)
   negation_typed at a h =
-      given (IsTypedIn c) (is_scalar (type_view a.ty)) _ _
+      given_true (IsTypedIn c) (is_scalar (type_view a.ty)) _ _
       (λ s. unary_made c at int u.Not a.tree h.tree (integer_fits c.structs i.Int)
       (along (rules.has_truth_type (type_view int)) h.type (also (is_same_type (type_view int) rules.int) (is_scalar (type_view a.ty)) int_is s)) (plain_integer i.Int))
       (λ s. tt)
@@ -190,17 +190,17 @@ module _ (c : Context) where
   logical_typed at op x y p h g =
       let left = type_view x.ty in
       let right = type_view y.ty in
-      given (IsTypedIn c) (is_scalar left) _ _
-      (λ s. given (IsTypedIn c) (is_scalar right) _ _
+      given_true (IsTypedIn c) (is_scalar left) _ _
+      (λ s. given_true (IsTypedIn c) (is_scalar right) _ _
       (λ r. binary_made c at int op left right x.tree y.tree (tree_in c x h) (tree_in c y g) (integer_fits c.structs i.Int)
       (p c.structs (type_view int) left right (three (is_same_type (type_view int) rules.int) (is_scalar left) (is_scalar right) int_is s r)) (plain_integer i.Int))
       (λ r. tt))
       (λ s. tt)
 
   -- a comparison of two values of one type
-  pub compared : (at : ℕ) (op : BinaryOp) (ty : PlainType) (x y : TExpr) → Compares op → IsOfType c ty x → IsOfType c ty y → IsTrue (is_promoted ty || is_pointer ty)
+  pub compared_types : (at : ℕ) (op : BinaryOp) (ty : PlainType) (x y : TExpr) → Compares op → IsOfType c ty x → IsOfType c ty y → IsTrue (is_promoted ty || is_pointer ty)
       → IsTypedIn c (binary_rvalue at int op x y)
-  compared at op ty x y p h g k =
+  compared_types at op ty x y p h g k =
       binary_made c at int op ty ty x y h g (integer_fits c.structs i.Int)
       (p c.structs (type_view int) ty ty (three (is_same_type (type_view int) rules.int) (is_same_type ty ty) (is_promoted ty || is_pointer ty) int_is (alike ty) k)) (plain_integer i.Int)
 
@@ -208,15 +208,15 @@ module _ (c : Context) where
       → IsTypedIn c (binary_rvalue at int op (convert_tree (common_type s r) x) (convert_tree (common_type s r) y))
   integers_compared at op x y s r p h g k l =
       let ty = type_view (common_type s r) in
-      compared at op ty (convert_tree (common_type s r) x) (convert_tree (common_type s r) y) p (integer_operand c (common s r) x s h k) (integer_operand c (common s r) y r g l)
-      (either_left (is_promoted ty) (is_pointer ty) (promoted (common s r) (common_promoted s r)))
+      compared_types at op ty (convert_tree (common_type s r) x) (convert_tree (common_type s r) y) p (integer_operand c (common s r) x s h k) (integer_operand c (common s r) y r g l)
+      (either_left (is_promoted ty) (is_pointer ty) (promoted_holds (common s r) (common_promoted s r)))
 
   ordered_typed : (at : ℕ) (op : BinaryOp) (x y : TypedExpression) → Compares op → IsTypedIn c x → IsTypedIn c y → IfOk (ordered_pointers at op x y) (IsTypedIn c)
   ordered_typed at op x y p h g =
       let left = type_view x.ty in
       let right = type_view y.ty in
-      given (IsTypedIn c) (are_pointers_of_one_type x y) _ _
-      (λ s. compared at op left x.tree y.tree p (tree_in c x h)
+      given_true (IsTypedIn c) (are_pointers_of_one_type x y) _ _
+      (λ s. compared_types at op left x.tree y.tree p (tree_in c x h)
       (record { typed = g.tree; type = g.type ∙ sym (same left right (back (is_pointer left) (is_same_type left right) s)) })
       (either_right (is_promoted left) (is_pointer left) (front (is_pointer left) (is_same_type left right) s)))
       (λ s. tt)

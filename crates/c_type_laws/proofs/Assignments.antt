@@ -21,8 +21,8 @@ use Rattle.c_type_rules.specs.Conversions.{value_for_type}
 use Rattle.c_place_rules.specs.Places.{is_assignable}
 use Rattle.c_place_rules.specs.Assignments.{assign_place, set_to, set, shifts, moves, right_type, moved_place, compound_of, compound}
 use Rattle.c_type_laws.specs.Typed.{IsTypedIn, IsOfType, AreKnown}
-use Rattle.c_type_laws.proofs.Truth.{no_true, also, three, four, along, either_left, either_right, given, one_of}
-use Rattle.c_type_laws.proofs.Types.{alike, equal, integer_from, promote_promoted, promoted, common_with, known_pointer}
+use Rattle.c_type_laws.proofs.Truth.{no_true, also, three, four, along, either_left, either_right, given_true, one_of}
+use Rattle.c_type_laws.proofs.Types.{alike, equal, integer_from, promote_promoted, promoted_holds, common_with, known_pointer}
 use Rattle.c_type_laws.proofs.Values.{fit_in, tree_in, value_typed, integer_operand}
 use Rattle.c_type_laws.proofs.Conversions.{IsNull, value_for_type_typed}
 use Rattle.c_type_laws.proofs.Places.{assignable_place, assignable_kind, assignable_plain}
@@ -41,7 +41,7 @@ compound_rule : (left right : PlainType) (s u : IntegerType) → integer_of left
 compound_rule left right s u h g = also (is_integer left) (is_common left right) (integer_from left s h) (common_with left right s u h g)
 
 shift_rule : (left right : PlainType) (s u : IntegerType) → integer_of left ≡ Some s → right ≡ type_view (promoted_type u) → IsTrue (is_compound_shift left right)
-shift_rule left right s u h g = also (is_integer left) (is_promoted right) (integer_from left s h) (along is_promoted g (promoted (promote u) (promote_promoted u)))
+shift_rule left right s u h g = also (is_integer left) (is_promoted right) (integer_from left s h) (along is_promoted g (promoted_holds (promote u) (promote_promoted u)))
 
 pub record Compound (op : AssignOp) : Type 0 where
   pub combines : Combines op
@@ -107,7 +107,7 @@ module _ (c : Context) where
 
   pub set_typed : (at : ℕ) (a b : TypedExpression) (null : Bool) → IsTypedIn c a → IsTypedIn c b → (IsTrue null → IsNull b) → IfOk (set at a b null) (IsTypedIn c)
   set_typed at a b null h g n =
-      given (IsTypedIn c) (is_assignable a) _ _
+      given_true (IsTypedIn c) (is_assignable a) _ _
       (λ s. set_to_typed at a (value_for_type a.ty b null) h s (value_for_type_typed c a.ty b null g (fit_in c a h) n)) (λ s. tt)
 
   -- ---- the compound ones
@@ -120,8 +120,8 @@ module _ (c : Context) where
   moved_typed : (ds : List StructDef) (at : ℕ) (op : AssignOp) (a b : TypedExpression) → Compound op → AreKnown ds c.structs → IsTypedIn c a → IsTypedIn c b → IsTrue (is_assignable a)
       → IsTrue (is_integer (type_view b.ty)) → IfOk (moved_place ds at op a b) (IsTypedIn c)
   moved_typed ds at op a b p known h g s i =
-      given (IsTypedIn c) (moves op) _ _
-      (λ m. given (IsTypedIn c) (points_to_object ds (type_view a.ty)) _ _
+      given_true (IsTypedIn c) (moves op) _ _
+      (λ m. given_true (IsTypedIn c) (points_to_object ds (type_view a.ty)) _ _
       (λ q. assign_made at op a (type_view b.ty) b.tree h s (tree_in c b g)
       (p.moves c.structs (type_view a.ty) (type_view b.ty) m (known_pointer ds c.structs known (type_view a.ty) q) i))
       (λ q. tt))
@@ -138,4 +138,4 @@ module _ (c : Context) where
 
   pub compound_typed : (ds : List StructDef) (at : ℕ) (op : AssignOp) (a b : TypedExpression) → Compound op → AreKnown ds c.structs → IsTypedIn c a → IsTypedIn c b → IfOk (compound ds at op a b) (IsTypedIn c)
   compound_typed ds at op a b p known h g =
-      given (IsTypedIn c) (is_assignable a) _ _ (λ s. compound_of_typed ds at op a b (integer a) (integer b) p known h g s refl refl) (λ s. tt)
+      given_true (IsTypedIn c) (is_assignable a) _ _ (λ s. compound_of_typed ds at op a b (integer a) (integer b) p known h g s refl refl) (λ s. tt)

@@ -18,10 +18,10 @@ use Rattle.c_type_rules.specs.Arithmetic.{common_type}
 use Rattle.c_type_rules.specs.Comparisons.{condition}
 use Rattle.c_type_rules.specs.Conversions.{is_taken_as_pointer, value_for_type, is_castable, cast_value, cast_ruling, void_pointer, meet, equal_pointers, equality_of, equality_test, choice_in, choice_met, choice_apart, choice_of, choice}
 use Rattle.c_type_laws.specs.Typed.{IsTypedIn, IsOfType, IsTested}
-use Rattle.c_type_laws.proofs.Truth.{no_true, also, three, four, five, along, either, either_left, either_right, first_of_three, second_of_three, third_of_three, later_of_three, first_of_four, given, given_some, if_true}
-use Rattle.c_type_laws.proofs.Types.{same, alike, equal, integer_fits, common_promoted, promoted, fit_type, void_no_array, integer_no_array, pointer_no_array, void_pointer_is}
-use Rattle.c_type_laws.proofs.Values.{IsValueIn, fit_in, value_typed, integer_conversion, zero_conversion, pointer_conversion, convert_made, converted, same_operand, integer_operand}
-use Rattle.c_type_laws.proofs.Arithmetic.{plain_integer, Compares, compared, integers_compared}
+use Rattle.c_type_laws.proofs.Truth.{no_true, also, three, four, five, along, either, either_left, either_right, first_of_three, second_of_three, third_of_three, later_of_three, first_of_four, given_true, given_some, if_true}
+use Rattle.c_type_laws.proofs.Types.{same, alike, equal, integer_fits, common_promoted, promoted_holds, fit_type, void_no_array, integer_no_array, pointer_no_array, void_pointer_is}
+use Rattle.c_type_laws.proofs.Values.{IsValueIn, fit_in, value_typed, integer_conversion, zero_conversion, pointer_conversion, convert_made, converted_fit, same_operand, integer_operand}
+use Rattle.c_type_laws.proofs.Arithmetic.{plain_integer, Compares, compared_types, integers_compared}
 
 -- ---- null pointer constants: the integer constant 0, or a pointer to void
 
@@ -102,12 +102,12 @@ module _ (c : Context) where
       let own = type_view v.ty in
       let constant = is_null_constant (expr_view v.tree) in
       let stands = is_place (expr_view v.tree) in
-      given (IsOfType c wanted) (is_same to v.ty) _ _
+      given_true (IsOfType c wanted) (is_same to v.ty) _ _
       (λ s. record { typed = h.tree; type = h.type ∙ sym (same wanted own s) })
-      (λ s. given (IsOfType c wanted) (is_integer wanted) _ _
-      (λ i. given (IsOfType c wanted) (is_integer own) _ _ (λ k. convert_made c to v h fit (integer_conversion wanted own constant stands i k)) (λ k. tt))
-      (λ i. given (IsOfType c wanted) (is_pointer wanted) _ _
-      (λ p. given (IsOfType c wanted) (is_taken_as_pointer to v null) _ _ (λ k. convert_made c to v h fit (taken_conversion wanted own constant stands null p n k)) (λ k. tt))
+      (λ s. given_true (IsOfType c wanted) (is_integer wanted) _ _
+      (λ i. given_true (IsOfType c wanted) (is_integer own) _ _ (λ k. convert_made c to v h fit (integer_conversion wanted own constant stands i k)) (λ k. tt))
+      (λ i. given_true (IsOfType c wanted) (is_pointer wanted) _ _
+      (λ p. given_true (IsOfType c wanted) (is_taken_as_pointer to v null) _ _ (λ k. convert_made c to v h fit (taken_conversion wanted own constant stands null p n k)) (λ k. tt))
       (λ p. tt)))
 
   -- ---- casts
@@ -123,7 +123,7 @@ module _ (c : Context) where
   pub cast_typed : (at : ℕ) (to : t.CType) (a : TypedExpression) (null : Bool) → IsValueIn c a → IsTrue (is_fit c.structs (type_view to)) → (IsTrue null → IsNull a)
       → IfOk (cast_ruling at to a null) (IsTypedIn c)
   cast_typed at to a null h fit n =
-      given (IsTypedIn c) (is_castable to a null) _ _
+      given_true (IsTypedIn c) (is_castable to a null) _ _
       (λ k. cast_made at to a h.typed fit (castable_cast (type_view to) (type_view a.ty) (is_null_constant (expr_view a.tree)) null h.value n k) (castable_plain (type_view to) (type_view a.ty) null k))
       (λ k. tt)
 
@@ -182,7 +182,7 @@ module _ (c : Context) where
   equal_typed : (at : ℕ) (op : BinaryOp) (a b : TypedExpression) (o : Option t.CType) → Compares op → IsTypedIn c a → IsTypedIn c b → IfSome o (Meets c a b) → IfOk (equal_pointers at op a b o) (IsTypedIn c)
   equal_typed at op a b None p h g k = tt
   equal_typed at op a b (Some ty) p h g k =
-      compared c at op (type_view ty) (convert_tree ty a) (convert_tree ty b) p (converted c ty a h k.fit k.left) (converted c ty b g k.fit k.right)
+      compared_types c at op (type_view ty) (convert_tree ty a) (convert_tree ty b) p (converted_fit c ty a h k.fit k.left) (converted_fit c ty b g k.fit k.right)
       (either_right (is_promoted (type_view ty)) (is_pointer (type_view ty)) k.pointer)
 
   equality_of_typed : (at : ℕ) (op : BinaryOp) (a b : TypedExpression) (na nb : Bool) (o q : Option IntegerType) → Compares op → IsTypedIn c a → IsTypedIn c b → (IsTrue na → IsNull a) → (IsTrue nb → IsNull b)
@@ -198,7 +198,7 @@ module _ (c : Context) where
   -- ---- `?:`
 
   pub condition_typed : (a : TypedExpression) → IsTypedIn c a → IfOk (condition a) (IsTested c)
-  condition_typed a h = given (IsTested c) (is_scalar (type_view a.ty)) _ _ (λ s. record { typed = h.tree; scalar = along is_scalar h.type s }) (λ s. tt)
+  condition_typed a h = given_true (IsTested c) (is_scalar (type_view a.ty)) _ _ (λ s. record { typed = h.tree; scalar = along is_scalar h.type s }) (λ s. tt)
 
   choice_made : (at : ℕ) (x : e.TExpr) (ty : t.CType) (a b : TypedExpression) → IsTested c x → IsOfType c (type_view ty) (convert_tree ty a) → IsOfType c (type_view ty) (convert_tree ty b)
       → IsTrue (is_fit c.structs (type_view ty)) → IsTrue (is_promoted (type_view ty) || is_pointer (type_view ty) || is_void (type_view ty) || is_struct (type_view ty))
@@ -218,7 +218,7 @@ module _ (c : Context) where
   choice_met_typed : (at : ℕ) (x : e.TExpr) (a b : TypedExpression) (o : Option t.CType) → IsTested c x → IsTypedIn c a → IsTypedIn c b → IfSome o (Meets c a b) → IfOk (choice_met at x a b o) (IsTypedIn c)
   choice_met_typed at x a b None tested h g k = tt
   choice_met_typed at x a b (Some ty) tested h g k =
-      choice_made at x ty a b tested (converted c ty a h k.fit k.left) (converted c ty b g k.fit k.right) k.fit
+      choice_made at x ty a b tested (converted_fit c ty a h k.fit k.left) (converted_fit c ty b g k.fit k.right) k.fit
       (pointer_kind (is_promoted (type_view ty)) (is_pointer (type_view ty)) (is_void (type_view ty)) (is_struct (type_view ty)) k.pointer) (pointer_no_array (type_view ty) k.pointer)
     where
       pointer_kind : (a b c d : Bool) → IsTrue b → IsTrue (a || b || c || d)
@@ -238,7 +238,7 @@ module _ (c : Context) where
       → (IsTrue (is_same a.ty b.ty) → integer a ≡ None) → IfOk (choice_apart at x a b na nb) (IsTypedIn c)
   choice_apart_typed at x a b na nb tested h g m n none =
       let left = type_view a.ty in
-      given (IsTypedIn c) (is_same a.ty b.ty) _ _
+      given_true (IsTypedIn c) (is_same a.ty b.ty) _ _
       (λ s. choice_made at x a.ty a b tested (same_operand c a.ty a h.typed (alike left)) (same_operand c a.ty b g.typed s) (fit_in c a h.typed)
       (value_kind left h.value (none s) (fit_type c.structs left (fit_in c a h.typed))) h.value)
       (λ s. choice_met_typed at x a b (meet a.ty b.ty na nb) tested h.typed g.typed (meet_says a b na nb h.typed g.typed m n))
@@ -248,7 +248,7 @@ module _ (c : Context) where
   choice_of_typed at x a b na nb (Some s) (Some u) tested h g m n k l =
       let ty = type_view (common_type s u) in
       choice_made at x (common_type s u) a b tested (integer_operand c (common s u) a s h.typed k) (integer_operand c (common s u) b u g.typed l) (integer_fits c.structs (common s u))
-      (first_of_four (is_promoted ty) (is_pointer ty) (is_void ty) (is_struct ty) (promoted (common s u) (common_promoted s u))) (plain_integer (common s u))
+      (first_of_four (is_promoted ty) (is_pointer ty) (is_void ty) (is_struct ty) (promoted_holds (common s u) (common_promoted s u))) (plain_integer (common s u))
   choice_of_typed at x a b na nb (Some s) None tested h g m n k l =
       choice_apart_typed at x a b na nb tested h g m n (λ z. ap integer_of (same (type_view a.ty) (type_view b.ty) z) ∙ l)
   choice_of_typed at x a b na nb None q tested h g m n k l = choice_apart_typed at x a b na nb tested h g m n (λ z. k)

@@ -27,7 +27,7 @@ use Rattle.c_place_rules.specs.declared.members.FoundMember.{FoundMember}
 use Rattle.c_place_rules.specs.Places.{target, pointed_place, object_of, dereference_of, dereference, element_at, element_by_index, index, is_somewhere, address, is_assignable, is_steppable, step_before, postfix_rvalue, step_behind}
 use Rattle.c_place_rules.specs.Members.{place_of_member, field_found, is_struct_place, field, arrow_found, arrow, number_rvalue, size}
 use Rattle.c_type_laws.specs.Typed.{is_memory, IsTypedIn, AreKnown, IsMemberOf}
-use Rattle.c_type_laws.proofs.Truth.{no_true, also, three, four, along, either, either_left, either_right, given, given_some, if_true}
+use Rattle.c_type_laws.proofs.Truth.{no_true, also, three, four, along, either, either_left, either_right, given_true, given_some, if_true}
 use Rattle.c_type_laws.proofs.Types.{alike, equal, integer_known, integer_fits, fit_type, pointer_fits, target_depth, target_fits, scalar_no_array, struct_no_array, known_object, known_pointer}
 use Rattle.c_type_laws.proofs.Values.{fit_in, value_typed, unary_made}
 use Rattle.c_type_laws.proofs.Arithmetic.{plain_integer}
@@ -147,7 +147,7 @@ module _ (c : Context) where
   element_left ds at a b (Some x) known h g k =
       let left = type_view a.ty in
       let right = type_view b.ty in
-      given (IsTypedIn c) (is_integer right) _ _
+      given_true (IsTypedIn c) (is_integer right) _ _
       (λ n. element_made at x a b h g
       (either_left (points_to c.structs (type_view x) left && is_integer right) (is_integer left && points_to c.structs (type_view x) right)
       (also (points_to c.structs (type_view x) left) (is_integer right) (led_points ds a x known k) n))
@@ -160,7 +160,7 @@ module _ (c : Context) where
   element_right ds at a b (Some x) known h g k =
       let left = type_view a.ty in
       let right = type_view b.ty in
-      given (IsTypedIn c) (is_integer left) _ _
+      given_true (IsTypedIn c) (is_integer left) _ _
       (λ n. element_made at x a b h g
       (either_right (points_to c.structs (type_view x) left && is_integer right) (is_integer left && points_to c.structs (type_view x) right)
       (also (is_integer left) (points_to c.structs (type_view x) right) n (led_points ds b x known k)))
@@ -169,7 +169,7 @@ module _ (c : Context) where
 
   pub index_typed : (ds : List StructDef) (at : ℕ) (a b : TypedExpression) → AreKnown ds c.structs → IsTypedIn c a → IsTypedIn c b → IfOk (index ds at a b) (IsTypedIn c)
   index_typed ds at a b known h g =
-      given (IsTypedIn c) (points_to_object ds (type_view a.ty)) _ _
+      given_true (IsTypedIn c) (points_to_object ds (type_view a.ty)) _ _
       (λ s. element_left ds at a b (object_of ds a.ty) known h g (object_says ds a.ty))
       (λ s. element_right ds at a b (object_of ds b.ty) known h g (object_says ds b.ty))
 
@@ -179,7 +179,7 @@ module _ (c : Context) where
   unfolding opens
   address_typed at a h memory =
       let own = type_view a.ty in
-      given (IsTypedIn c) (is_somewhere a.place) _ _
+      given_true (IsTypedIn c) (is_somewhere a.place) _ _
       (λ s. let placed = h.place s in
       unary_made c at (t.Pointer a.ty) Address a.tree h.tree
       (pointer_fits c.structs own (fit_type c.structs own (fit_in c a h)) (along (λ o. nat_le (depth_behind o) most_depth) (sym h.type) placed.depth))
@@ -202,8 +202,8 @@ module _ (c : Context) where
 
   pub step_before_typed : (ds : List StructDef) (at : ℕ) (op : UnaryOp) (a : TypedExpression) → Steps op → AreKnown ds c.structs → IsTypedIn c a → IfOk (step_before ds at op a) (IsTypedIn c)
   step_before_typed ds at op a steps known h =
-      given (IsTypedIn c) (is_assignable a) _ _
-      (λ s. given (IsTypedIn c) (is_steppable ds a) _ _
+      given_true (IsTypedIn c) (is_assignable a) _ _
+      (λ s. given_true (IsTypedIn c) (is_steppable ds a) _ _
       (λ k. unary_made c at a.ty op a.tree h.tree (fit_in c a h) (steps c.structs c.locals (type_view a.ty) (expr_view a.tree) (step_rule ds a known h s k)) (assignable_plain a s))
       (λ k. tt))
       (λ s. tt)
@@ -216,8 +216,8 @@ module _ (c : Context) where
 
   pub step_behind_typed : (ds : List StructDef) (at : ℕ) (op : StepOp) (a : TypedExpression) → AreKnown ds c.structs → IsTypedIn c a → IfOk (step_behind ds at op a) (IsTypedIn c)
   step_behind_typed ds at op a known h =
-      given (IsTypedIn c) (is_assignable a) _ _
-      (λ s. given (IsTypedIn c) (is_steppable ds a) _ _
+      given_true (IsTypedIn c) (is_assignable a) _ _
+      (λ s. given_true (IsTypedIn c) (is_steppable ds a) _ _
       (λ k. postfix_made at a.ty op a.tree h.tree (fit_in c a h) (step_rule ds a known h s k) (assignable_plain a s))
       (λ k. tt))
       (λ s. tt)
@@ -239,9 +239,9 @@ module _ (c : Context) where
       }
 
   pub field_typed : (at : ℕ) (a : TypedExpression) (o : Option FoundMember) → IsTypedIn c a → IfSome o (IsMemberOf c (type_view a.ty)) → IfOk (field at a o) (IsTypedIn c)
-  field_typed at a None h found = given (IsTypedIn c) (is_struct_place a) _ _ (λ s. tt) (λ s. tt)
+  field_typed at a None h found = given_true (IsTypedIn c) (is_struct_place a) _ _ (λ s. tt) (λ s. tt)
   field_typed at a (Some m) h found =
-      given (IsTypedIn c) (is_struct_place a) _ _
+      given_true (IsTypedIn c) (is_struct_place a) _ _
       (λ s. field_made at a m h found (if_true (is_somewhere a.place) (is_struct (type_view a.ty)) false (λ q w. q) (λ q w. no_true w) s))
       (λ s. tt)
 
@@ -255,8 +255,8 @@ module _ (c : Context) where
       refl refl refl found.depth
 
   pub arrow_typed : (ds : List StructDef) (at : ℕ) (a : TypedExpression) (o : Option FoundMember) → IsTypedIn c a → IfSome o (IsMemberOf c (target_of (type_view a.ty))) → IfOk (arrow ds at a o) (IsTypedIn c)
-  arrow_typed ds at a None h found = given (IsTypedIn c) (points_to_struct ds (type_view a.ty)) _ _ (λ s. tt) (λ s. tt)
-  arrow_typed ds at a (Some m) h found = given (IsTypedIn c) (points_to_struct ds (type_view a.ty)) _ _ (λ s. arrow_made at a m h found) (λ s. tt)
+  arrow_typed ds at a None h found = given_true (IsTypedIn c) (points_to_struct ds (type_view a.ty)) _ _ (λ s. tt) (λ s. tt)
+  arrow_typed ds at a (Some m) h found = given_true (IsTypedIn c) (points_to_struct ds (type_view a.ty)) _ _ (λ s. arrow_made at a m h found) (λ s. tt)
 
   -- ---- numbers, and sizes
 
@@ -268,5 +268,5 @@ module _ (c : Context) where
 
   pub size_typed : (ds : List StructDef) (at : ℕ) (ty : t.CType) → (IsTrue (is_object ds (type_view ty)) → size_of ds (type_view ty) < 2 ^ 64) → IfOk (size ds at ty) (IsTypedIn c)
   size_typed ds at ty small =
-      given (IsTypedIn c) (is_object ds (type_view ty)) _ _
+      given_true (IsTypedIn c) (is_object ds (type_view ty)) _ _
       (λ s. number_typed at UnsignedLong (size_of ds (type_view ty)) (eq-eqb _ _ (mod-eq_of_lt (small s)))) (λ s. tt)

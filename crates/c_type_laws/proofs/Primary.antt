@@ -40,7 +40,7 @@ use Rattle.c_primary_rules.specs.Switches.{switch_value, switch_operand}
 use Rattle.c_primary_rules.specs.declared.commas.CommaOperands.{CommaOperands}
 use Rattle.c_type_laws.specs.Typed.{may_be_memory, IsTypedIn, AreTypedIn, AreOfTypes, IsFunctionOf, IsSwitched}
 use Rattle.c_type_laws.proofs.Truth.{no_true, also, three, along}
-use Rattle.c_type_laws.proofs.Types.{alike, equal, promote_promoted, promoted}
+use Rattle.c_type_laws.proofs.Types.{alike, equal, promote_promoted, promoted_holds}
 use Rattle.c_type_laws.proofs.Values.{IsValueIn, fit_in, value_typed, integer_operand, decay_typed}
 use Rattle.c_type_laws.proofs.Places.{number_typed}
 
@@ -260,7 +260,7 @@ module _ (c : Context) where
 
   switched_typed : (a : TypedExpression) (q : Option IntegerType) → IsTypedIn c a → integer a ≡ q → IfOk (switch_value a q) (IsSwitched c)
   switched_typed a None h k = tt
-  switched_typed a (Some s) h k = record { value = integer_operand c (promote s) a s h k; promoted = promoted (promote s) (promote_promoted s) }
+  switched_typed a (Some s) h k = record { value = integer_operand c (promote s) a s h k; promoted = promoted_holds (promote s) (promote_promoted s) }
 
   pub switch_typed : (a : TypedExpression) → IsTypedIn c a → IfOk (switch_operand a) (IsSwitched c)
   switch_typed a h = switched_typed a (integer a) h refl

@@ -42,9 +42,9 @@ pub along : {A : Type 0} (test : A → Bool) {x y : A} → x ≡ y → IsTrue (t
 along test e h = ap test e ∙ h
 
 -- what a choice gives, where either is given under the test
-pub given : {A E : Type 0} (P : A → Type 0) (b : Bool) (x y : Result A E) → (IsTrue b → IfOk x P) → (b ≡ false → IfOk y P) → IfOk (if b then x else y) P
-given P true x y h g = h refl
-given P false x y h g = g refl
+pub given_true : {A E : Type 0} (P : A → Type 0) (b : Bool) (x y : Result A E) → (IsTrue b → IfOk x P) → (b ≡ false → IfOk y P) → IfOk (if b then x else y) P
+given_true P true x y h g = h refl
+given_true P false x y h g = g refl
 
 -- of two of which one is taken
 pub one_of : {A : Type 0} (P : A → Type 0) (b : Bool) (x y : A) → P x → P y → P (if b then x else y)

@@ -118,8 +118,8 @@ longer_is P s u h g =
 pub common_promoted : (s u : IntegerType) → IsPromoted (common s u)
 common_promoted s u = longer_is IsPromoted (promote s) (promote u) (promote_promoted s) (promote_promoted u)
 
-pub promoted : (u : IntegerType) → IsPromoted u → IsTrue (is_promoted (type_view (type_of_integer u)))
-promoted u h = ap is_promoted_integer (integer_known u) ∙ h
+pub promoted_holds : (u : IntegerType) → IsPromoted u → IsTrue (is_promoted (type_view (type_of_integer u)))
+promoted_holds u h = ap is_promoted_integer (integer_known u) ∙ h
 
 pub common_again : (s u : IntegerType) → IsTrue (is_same_integer (common s (common s u)) (common s u))
 common_again i.Char i.Char = refl

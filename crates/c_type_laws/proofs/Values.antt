@@ -128,10 +128,10 @@ module _ (c : Context) where
   converted_where to a true s h fit rule = record { typed = h.tree; type = h.type ∙ sym (same (type_view to) (type_view a.ty) s) }
   converted_where to a false s h fit rule = convert_made to a h fit rule
 
-  pub converted : (to : t.CType) (a : TypedExpression) → IsTypedIn c a → IsTrue (is_fit c.structs (type_view to))
+  pub converted_fit : (to : t.CType) (a : TypedExpression) → IsTypedIn c a → IsTrue (is_fit c.structs (type_view to))
       → IsTrue (is_conversion (type_view to) (type_view a.ty) (is_null_constant (expr_view a.tree)) (is_place (expr_view a.tree)))
       → IsOfType c (type_view to) (convert_tree to a)
-  converted to a h fit rule = converted_where to a (is_same to a.ty) refl h fit rule
+  converted_fit to a h fit rule = converted_where to a (is_same to a.ty) refl h fit rule
 
   pub same_operand : (to : t.CType) (a : TypedExpression) → IsTypedIn c a → IsTrue (is_same to a.ty) → IsOfType c (type_view to) (convert_tree to a)
   same_operand to a h s =
@@ -141,7 +141,7 @@ module _ (c : Context) where
   -- an integer in an integer type
   pub integer_operand : (u : IntegerType) (a : TypedExpression) (s : IntegerType) → IsTypedIn c a → integer a ≡ Some s → IsOfType c (type_view (type_of_integer u)) (convert_tree (type_of_integer u) a)
   integer_operand u a s h known =
-      converted (type_of_integer u) a h (integer_fits c.structs u)
+      converted_fit (type_of_integer u) a h (integer_fits c.structs u)
       (integer_conversion (type_view (type_of_integer u)) (type_view a.ty) (is_null_constant (expr_view a.tree)) (is_place (expr_view a.tree))
       (integer_from (type_view (type_of_integer u)) u (integer_known u)) (integer_from (type_view a.ty) s known))
 

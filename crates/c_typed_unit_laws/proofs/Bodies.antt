@@ -28,7 +28,7 @@ use Rattle.c_unit_object_laws.proofs.Statements.{function_steps}
 use Rattle.c_unit_object_laws.specs.Notes.{IsWellDeclared}
 use Rattle.c_object_count_laws.specs.Steps.{declared_as}
 use Rattle.c_unit_object_laws.specs.Walks.{IsGivenType, WalkSteps, Stays, Follows, AddsConstant, AddsNotes, DeclaresType, DeclaresFunction, DefinesFunction, DeclaresObject, InitialisesObject}
-use Rattle.c_unit_object_laws.proofs.Goes.{goes_steps, declared, function_plain, steps_go}
+use Rattle.c_unit_object_laws.proofs.Goes.{goes_steps, declared_name_leads, function_plain, steps_go}
 use Rattle.c_unit_object_laws.proofs.Types.{callable_stays}
 use Rattle.c_typed_unit_laws.proofs.Contexts.{context_with}
 use Rattle.c_typed_unit_laws.proofs.Cells.{LeadsToEnd, end_before, walk_before, texts_before, scope_before, known_before}
@@ -92,7 +92,7 @@ module _ (ds : Definitions) (es : List External) (typed : TypedUnit) (end : Judg
   steps_bodies (DeclaresType name ty k r) well h g = g
   steps_bodies (DeclaresFunction name of k r) well h g = g
   steps_bodies (DefinesFunction {u = u} {n = n} {names = names} {later = later} e of list f k counted r made) well h g =
-      let there = (declared ds e.name (function_declared true (declared_as of)) n (function_plain ds e.name true of n) r).declared well in
+      let there = (declared_name_leads ds e.name (function_declared true (declared_as of)) n (function_plain ds e.name true of n) r).declared well in
       kept_typed typed (function_at later e.name) f (with_names names (main_seen e.name (declared_as of) u)) (λ number. body_typed e of list f later n k made there h) g
   steps_bodies (DeclaresObject {u = u} {names = names} {later = later} name ty k r) well h g = object_typed typed (object_number later name) name ty (with_names names u) g
   steps_bodies (InitialisesObject {u = u} {names = names} {later = later} name ty x cells k r made listed) well h g =

@@ -49,7 +49,7 @@ use Rattle.c_unit_object_laws.proofs.Names.{none_some, some_same, keeps_then, st
 use Rattle.c_unit_object_laws.proofs.CUnitMeaningLawsTypes.{declared_types, steps_types}
 use Rattle.c_unit_object_laws.proofs.Functions.{agrees_here}
 use Rattle.c_unit_object_laws.specs.Meant.{GoesTo, ObjectIsOfType, HasObjects}
-use Rattle.c_unit_object_laws.proofs.Goes.{goes_steps, declared, object_plain, steps_go}
+use Rattle.c_unit_object_laws.proofs.Goes.{goes_steps, declared_name_leads, object_plain, steps_go}
 use Rattle.c_unit_object_laws.proofs.Types.{object_stays}
 use Rattle.c_unit_object_laws.proofs.Objects.{declared_object, steps_objects}
 use Rattle.c_typed_unit_laws.proofs.Contexts.{context_with, names_before, first_texts}
@@ -189,7 +189,7 @@ module _ (ds : Definitions) (es : List External) (typed : TypedUnit) (end : Judg
       let behind = (object_cells ty x (later, n)).1.1 in
       let goes = goes_steps later n behind (cells_steps ty x (later, n)) in
       let grow = grow_then n.structs behind.structs typed.structs goes.grow h.grow in
-      let there = (declared ds name (object_declared ty true) n (object_plain ds name ty true n) r).declared well in
+      let there = (declared_name_leads ds name (object_declared ty true) n (object_plain ds name ty true n) r).declared well in
       let added = added_lawful typed.structs typed.globals (object_number later name) name ty (with_names names u) (new_lawful n.structs typed.structs typed.globals name ty grow k) g in
       let objects = declared_object ds name ty true u r os in
       filled_lawful typed.structs typed.globals ty cells (add_object later name ty (with_names names u)) (meaning_of later name) (λ j of e. objects.objects name j of e) (agrees_here ds name (object_declared ty true) r (declared_types ds name (object_declared ty true) r types))

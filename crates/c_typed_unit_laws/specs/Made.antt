@@ -11,7 +11,7 @@ use Rattle.c_declarations.specs.declared.walk.UnitFunction.{UnitFunction}
 use Rattle.c_declarations.specs.declared.walk.UnitSoFar.{UnitSoFar}
 use Rattle.c_unit_object_laws.specs.Units.{whole_unit}
 use Rattle.c_function_name_laws.specs.Laws.{passes}
-use Rattle.c_initial_value_laws.specs.Cells.{AreBytes}
+use Rattle.mem_model.specs.Bytes.{AreBytes}
 use Rattle.c_initialiser_laws.specs.Laws.{HoldsBytes}
 use Rattle.c_unit_object_laws.specs.Walks.{IsInitialiserIn}
 

@@ -10,7 +10,7 @@ use Rattle.c_tag_bodies.specs.Bodies.{TagScope}
 use Rattle.c_declarations.specs.declared.walk.UnitSoFar.{UnitSoFar}
 use Rattle.c_units.specs.Units.{whole_unit}
 use Rattle.unit_counts.specs.Counts.{CanBeCounted}
-use Rattle.c_text_bytes.specs.Cells.{AreBytes}
+use Rattle.c_text_bytes.specs.Bytes.{AreBytes}
 use Rattle.c_typed_unit_laws.specs.Made.{HaveBytes, IsSpelled}
 use Rattle.c_typed_unit_laws.proofs.Units.{unit_typed}
 use Rattle.c_types.specs.Spellings.{HasSpellings}

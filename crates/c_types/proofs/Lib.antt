@@ -1,4 +1,4 @@
 pub mod Trees
-mod Made
+pub mod Made
 mod Lawful
 mod Heights

@@ -19,7 +19,8 @@ use Rattle.c_declarations.specs.Functions.{main_seen, function_declared}
 use Rattle.c_declarations.specs.Objects.{object_declared}
 use Rattle.c_units.specs.Externals.{typedef_of}
 use Rattle.c_type_laws.proofs.Truth.{no_true, front, back, also}
-use Rattle.c_unit_walk_laws.specs.Steps.{DeclaresName, First, Again, declared_as, is_function_type}
+use Rattle.c_found_unit_laws.specs.model.Bodies.{is_function_type}
+use Rattle.c_unit_walk_laws.specs.Steps.{DeclaresName, First, Again, declared_as}
 use Rattle.c_unit_walk_laws.specs.Walks.{WalkSteps, Stays, Follows, AddsConstant, AddsNotes, DeclaresType, DeclaresFunction, DefinesFunction, DeclaresObject, InitialisesObject}
 use Rattle.c_unit_meaning_laws.proofs.Names.{by_name, own_meaning, other_meaning, same_declared, declared_by, kept_names, object_names, cells_names}
 use Rattle.c_unit_meaning_laws.proofs.Types.{same_kind}

@@ -68,9 +68,9 @@ named name x env n h = record {
   sized = λ k. k;
 }
 
-pub declared : (ds : Definitions) (name : List ℕ) (new : NameDeclaration) (n : Notes) {u names : UnitNames} {env later : Env} → ((u : UnitNames) → IsTypedefIn (of_structs n.structs) (first_meaning ds name new u).0) → DeclaresName ds name new u env names later → GoesTo (env, n) (later, n)
-declared ds name new n h (First {u = u} {env = env} e free) = named name (first_meaning ds name new u).0 env n (h u)
-declared ds name new n h (Again {env = env} old e may) = goes_itself (env, n)
+pub declared_name_leads : (ds : Definitions) (name : List ℕ) (new : NameDeclaration) (n : Notes) {u names : UnitNames} {env later : Env} → ((u : UnitNames) → IsTypedefIn (of_structs n.structs) (first_meaning ds name new u).0) → DeclaresName ds name new u env names later → GoesTo (env, n) (later, n)
+declared_name_leads ds name new n h (First {u = u} {env = env} e free) = named name (first_meaning ds name new u).0 env n (h u)
+declared_name_leads ds name new n h (Again {env = env} old e may) = goes_itself (env, n)
 
 pub function_plain : (ds : Definitions) (name : List ℕ) (has_body : Bool) (of : FunctionType) (n : Notes) (u : UnitNames) → IsTypedefIn (of_structs n.structs) (first_meaning ds name (function_declared has_body (declared_as of)) u).0
 function_plain ds name has_body of n u = choose (is_some (find name ds.functions))
@@ -91,12 +91,12 @@ steps_go ds (Stays {w = w}) = goes_itself w.1
 steps_go ds (Follows {w = w} {x = x} {v = v} h g) = goes_then w.1 x.1 v.1 (steps_go ds h) (steps_go ds g)
 steps_go ds (AddsConstant {env = env} {n = n} name word e g) = named name (m.Constant word) env n tt
 steps_go ds (AddsNotes g) = record { grow = g.leads.grow; declared = g.leads.sound; texts = g.texts; first = g.first; sized = g.sized }
-steps_go ds (DeclaresType {n = n} name ty g h) = declared ds name (typedef_of ty) n (λ u. g.there) h
-steps_go ds (DeclaresFunction {n = n} name of g h) = declared ds name (function_declared false (declared_as of)) n (function_plain ds name false of n) h
+steps_go ds (DeclaresType {n = n} name ty g h) = declared_name_leads ds name (typedef_of ty) n (λ u. g.there) h
+steps_go ds (DeclaresFunction {n = n} name of g h) = declared_name_leads ds name (function_declared false (declared_as of)) n (function_plain ds name false of n) h
 steps_go ds (DefinesFunction {env = env} {n = n} {later = later} e of list f g counted h made) =
     let end = (judge_function e (Some of) list (later, n)).1.1 in
-    goes_then (env, n) (later, n) (later, end) (declared ds e.name (function_declared true (declared_as of)) n (function_plain ds e.name true of n) h) (goes_steps later n end (function_steps e (Some of) list (later, n)))
-steps_go ds (DeclaresObject {n = n} name ty g h) = declared ds name (object_declared ty false) n (object_plain ds name ty false n) h
+    goes_then (env, n) (later, n) (later, end) (declared_name_leads ds e.name (function_declared true (declared_as of)) n (function_plain ds e.name true of n) h) (goes_steps later n end (function_steps e (Some of) list (later, n)))
+steps_go ds (DeclaresObject {n = n} name ty g h) = declared_name_leads ds name (object_declared ty false) n (object_plain ds name ty false n) h
 steps_go ds (InitialisesObject {env = env} {n = n} {later = later} name ty x cells g h made listed) =
     let end = (object_cells ty x (later, n)).1.1 in
-    goes_then (env, n) (later, n) (later, end) (declared ds name (object_declared ty true) n (object_plain ds name ty true n) h) (goes_steps later n end (cells_steps ty x (later, n)))
+    goes_then (env, n) (later, n) (later, end) (declared_name_leads ds name (object_declared ty true) n (object_plain ds name ty true n) h) (goes_steps later n end (cells_steps ty x (later, n)))

@@ -73,10 +73,10 @@ steps_meant ds structs {es = es} (InitialisesObject {u = u} {env = env} {n = n} 
 
 -- ---- before the first declaration
 
-record Meant (structs : List StructDef) (env : Env) : Type 0 where
+record EnvIsMeant (structs : List StructDef) (env : Env) : Type 0 where
   meant : AreMeant structs env
 
-builtin_meant : (structs : List StructDef) (name : List ℕ) (callee : Callee) (of : CType) (tys : List CType) (env : Env) → IsMeant structs (m.Function callee of tys) → Meant structs env → Meant structs (with_meaning name (m.Function callee of tys) env)
+builtin_meant : (structs : List StructDef) (name : List ℕ) (callee : Callee) (of : CType) (tys : List CType) (env : Env) → IsMeant structs (m.Function callee of tys) → EnvIsMeant structs env → EnvIsMeant structs (with_meaning name (m.Function callee of tys) env)
 builtin_meant structs name callee of tys env own h = record { meant = more_meant structs name (m.Function callee of tys) env own h.meant }
 
 exit_meant : (structs : List StructDef) → IsMeant structs (m.Function (c.Builtin b.Exit) t.Void (int ∷ []))
@@ -95,10 +95,10 @@ putchar_meant : (structs : List StructDef) → IsMeant structs (m.Function (c.Bu
 unfolding opens
 putchar_meant structs = (record { result = refl; parameters = refl }, refl)
 
-nothing_meant : (structs : List StructDef) → Meant structs (record { names = []; outside = 0 })
+nothing_meant : (structs : List StructDef) → EnvIsMeant structs (record { names = []; outside = 0 })
 nothing_meant structs = record { meant = λ q x e. none_some e }
 
-all_meant : (structs : List StructDef) → Meant structs builtins.1
+all_meant : (structs : List StructDef) → EnvIsMeant structs builtins.1
 all_meant structs =
     builtin_meant structs _ _ _ _ _ (exit_meant structs) (builtin_meant structs _ _ _ _ _ (abort_meant structs)
     (builtin_meant structs _ _ _ _ _ (getchar_meant structs) (builtin_meant structs _ _ _ _ _ (putchar_meant structs) (nothing_meant structs))))

@@ -46,7 +46,7 @@ use Rattle.c_struct_laws.proofs.Growth.{grow_then}
 use Rattle.c_body_laws.specs.Notes.{of_structs, LeadsOn}
 use Rattle.c_body_laws.proofs.Notes.{type_grows, steps_keep}
 use Rattle.c_body_laws.proofs.Types.{leads_itself, leads_then, leads_steps}
-use Rattle.c_unit_struct_laws.proofs.Names.{LeadsWhere, Given, declaration_leads}
+use Rattle.c_unit_struct_laws.proofs.Names.{LeadsWhere, GivenHasType, declaration_leads}
 
 -- ---- what is judged on the way
 
@@ -91,7 +91,7 @@ main_leads storage at name s = leads_steps s (s.0, main_checked storage at name 
 abbrev IsValue : Option NameDeclaration → Type 0
 IsValue new = IfSome new (λ d. d.is_typedef ≡ false)
 
-value_given : (s : JudgementState) (new : Option NameDeclaration) → IsValue new → Given s.1.structs new
+value_given : (s : JudgementState) (new : Option NameDeclaration) → IsValue new → GivenHasType s.1.structs new
 value_given s None h = tt
 value_given s (Some new) h = λ typedef. absurd (clash new.is_typedef h typedef)
   where
@@ -113,7 +113,7 @@ named_type_in at (Some x) n P h = choose (is_declarable n.structs x)
     choose true = h
     choose false = tt
 
-typedef_given : (s : JudgementState) (o : Option DeclaredType) → IfSome o (IsTypeIn (of_structs s.1.structs)) → Given s.1.structs (option_map typedef_of o)
+typedef_given : (s : JudgementState) (o : Option DeclaredType) → IfSome o (IsTypeIn (of_structs s.1.structs)) → GivenHasType s.1.structs (option_map typedef_of o)
 typedef_given s None h = tt
 typedef_given s (Some x) h = λ typedef. h
 

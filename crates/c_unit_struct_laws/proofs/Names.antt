@@ -89,9 +89,9 @@ faulty_leads (Some (m.Constant word)) name given s = leads_where given s s (lead
 faulty_leads (Some (m.Function callee ty parameters)) name given s = leads_where given s s (leads_itself s)
 faulty_leads (Some (m.Typedef ty)) name given s = leads_where given s s (leads_itself s)
 
-abbrev pub Given : List StructDef → Option NameDeclaration → Type 0
-Given structs new = IfSome new (HasType structs)
+abbrev pub GivenHasType : List StructDef → Option NameDeclaration → Type 0
+GivenHasType structs new = IfSome new (HasType structs)
 
-pub declaration_leads : (ds : Definitions) (at : ℕ) (name : List ℕ) (new : Option NameDeclaration) (u : UnitNames) (s : JudgementState) → LeadsWhere (Given s.1.structs new) s (judge_declaration ds at name new u s).1
+pub declaration_leads : (ds : Definitions) (at : ℕ) (name : List ℕ) (new : Option NameDeclaration) (u : UnitNames) (s : JudgementState) → LeadsWhere (GivenHasType s.1.structs new) s (judge_declaration ds at name new u s).1
 declaration_leads ds at name None u s = faulty_leads (meaning_of s.0 name) name (Unit {0}) s
 declaration_leads ds at name (Some new) u s = known_leads (follows (find name u.declared) new) ds at name new u s

@@ -53,8 +53,8 @@ use Rattle.c_unit_walk_laws.proofs.Names.{declaration_tells, checked_declaration
 abbrev pub IsThere : List StructDef → DeclaredType → Type 0
 IsThere structs ty = IsTypeIn (of_structs structs) ty × IsTrue (is_shaped ty)
 
-pub given : (structs : List StructDef) (ty : DeclaredType) → IsThere structs ty → IsTrue (is_declarable structs ty) → IsGivenType structs ty
-given structs ty h e = record { there = h.0; declarable = e; shape = h.1 }
+pub given_type : (structs : List StructDef) (ty : DeclaredType) → IsThere structs ty → IsTrue (is_declarable structs ty) → IsGivenType structs ty
+given_type structs ty h e = record { there = h.0; declarable = e; shape = h.1 }
 
 -- the same notes
 pub at_notes : {ds : Definitions} {es : List External} {w : UnitWalk} {u : UnitSoFar} {later : Env} {n k : Notes} → k ≡ n → WalkSteps ds es w (u, (later, n)) → WalkSteps ds es w (u, (later, k))
@@ -83,7 +83,7 @@ typedef_after ds es G at name (Some ty) s w f h = choose (is_declarable w.1.1.st
     choose : (b : Bool) → is_declarable w.1.1.structs ty ≡ b → Tells (G → WalkSteps ds es w (after b)) s (after b).1
     choose true e =
         let r = judge_declaration ds at name (Some (typedef_of ty)) w.0.names w.1 in
-        tells_both s w.1 r.1 (λ x y g. at_notes y.1 (DeclaresType name ty (given w.1.1.structs ty (f g) e) y.0)) h (declaration_tells ds at name (typedef_of ty) w.0.names w.1 refl)
+        tells_both s w.1 r.1 (λ x y g. at_notes y.1 (DeclaresType name ty (given_type w.1.1.structs ty (f g) e) y.0)) h (declaration_tells ds at name (typedef_of ty) w.0.names w.1 refl)
     choose false e = fault_tells s w.1.0 (after false).1.0 at w.1.1 (anything s w.1 h)
 
 -- ---- objects
@@ -217,7 +217,7 @@ module _ (ds : Definitions) (es : List External) (G : Type 0) where
       choose : (b : Bool) → is_declarable w.1.1.structs (d.Function of tys) ≡ b → Tells (G → WalkSteps ds es w (after b)) s (after b).1
       choose true e =
           let new = function_declared false (d.Function of tys) in
-          tells_both s w.1 (after true).1 (λ x y g. at_notes y.1 (DeclaresFunction name (type_with of tys) (given w.1.1.structs (d.Function of tys) (f g) e) y.0)) h
+          tells_both s w.1 (after true).1 (λ x y g. at_notes y.1 (DeclaresFunction name (type_with of tys) (given_type w.1.1.structs (d.Function of tys) (f g) e) y.0)) h
           (checked_declaration_tells ds at name storage new w.0.names w.1.0 w.1.1 (function_sound (is_some (find name ds.functions)) of tys w.0.names))
       choose false e = fault_tells s w.1.0 (after false).1.0 at w.1.1 h
 

@@ -62,7 +62,7 @@ use Rattle.c_unit_walk_laws.proofs.Counted.{IsCounted, IsCountedIn, AreCounted, 
 use Rattle.c_unit_walk_laws.proofs.Texts.{declared_texts}
 use Rattle.c_unit_walk_laws.proofs.Shapes.{shapes_after, declared_shape}
 use Rattle.c_unit_walk_laws.proofs.Names.{checked_declaration_tells}
-use Rattle.c_unit_walk_laws.proofs.Declarations.{IsThere, given, anything, typedef_after, function_sound, prototype_after, object_after, refused_never}
+use Rattle.c_unit_walk_laws.proofs.Declarations.{IsThere, given_type, anything, typedef_after, function_sound, prototype_after, object_after, refused_never}
 
 -- ---- definitions: the parameters have names, and nothing is noted
 
@@ -176,7 +176,7 @@ module _ (ds : Definitions) (es : List External) (G : Type 0) (e : Declaration) 
       choose : (b : Bool) → is_declarable w.1.1.structs (declared_as of) ≡ b → Tells (G → WalkSteps ds es w (after b)) s (after b).1
       choose true g =
           let r = defined_type e.at e.ty (declared_as of) w.1.1 in
-          body_by of r.0 s w.0 w.1.0 w.1.1 r.1 (λ z. given w.1.1.structs (declared_as of) (there z) g) (defined_or e.at e.ty of w.1.1 fit)
+          body_by of r.0 s w.0 w.1.0 w.1.1 r.1 (λ z. given_type w.1.1.structs (declared_as of) (there z) g) (defined_or e.at e.ty of w.1.1 fit)
           (tells_both s w.1 (w.1.0, r.1) (λ x y. y) h (defined_tells w.1.0 e.at e.ty (declared_as of) w.1.1))
       choose false g = body_none ds e storage list s (w.0, (w.1.0, with_fault e.at BadType w.1.1)) (tells_both s w.1 (w.1.0, with_fault e.at BadType w.1.1) (λ x y. y) h (tells_fault w.1.0 e.at BadType w.1.1))
 

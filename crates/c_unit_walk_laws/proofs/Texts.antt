@@ -26,7 +26,7 @@ use Rattle.c_tag_bodies.specs.Structs.{DefinedTags, enum_begun, number_for_tag, 
 use Rattle.c_tag_bodies.specs.Bodies.{TagScope, enum_entered, struct_entered, type_behind, member_entered, bodies, judge_constants_held, judge_members_held, judge_member_row, declared_type}
 use Rattle.c_note_laws.specs.Steps.{is_sized, NoteSteps}
 use Rattle.c_note_laws.specs.Laws.{StandsFirst}
-use Rattle.c_note_laws.proofs.Forms.{ruled, each_adds, enum_adds, struct_adds, leaf_adds}
+use Rattle.c_note_laws.proofs.Forms.{ruled_steps, each_adds, enum_adds, struct_adds, leaf_adds}
 use Rattle.c_note_laws.proofs.Walks.{judge_adds, derive_adds}
 use Rattle.c_note_laws.proofs.Added.{steps_add}
 
@@ -59,10 +59,10 @@ steps_texts steps = let a = steps_add steps in record { texts = a.texts; first =
 
 value_texts : (at : ℕ) (value : k.Held-Constant-value) (before : Option (Option ℕ)) (s : JudgementState) → AddsTexts s.1 (judge_value_held at value before s).1.1
 value_texts at k.Constant-value-None' None s = steps_texts NoteSteps.Stays
-value_texts at k.Constant-value-None' (Some before) s = steps_texts (each_adds before (one_above at) s.1 (λ word. ruled (next_value at word) s.1))
+value_texts at k.Constant-value-None' (Some before) s = steps_texts (each_adds before (one_above at) s.1 (λ word. ruled_steps (next_value at word) s.1))
 value_texts at (k.Constant-value-Some' x) before s =
     let a = judge x s in
-    steps_texts (NoteSteps.Follows (judge_adds x s) (each_adds a.0 explicit_value a.1.1 (λ v. ruled (given_value v) a.1.1)))
+    steps_texts (NoteSteps.Follows (judge_adds x s) (each_adds a.0 explicit_value a.1.1 (λ v. ruled_steps (given_value v) a.1.1)))
 
 constant_texts : (at : ℕ) (name : List ℕ) (value : Option ℕ) (s : JudgementState) → AddsTexts s.1 (constant_declared at name value s).1
 constant_texts at name value s = choose (stands_here s.0 (find name s.0.names))

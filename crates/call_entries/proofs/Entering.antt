@@ -36,7 +36,7 @@ use Rattle.call_parts.specs.Items.{entry_part}
 use Rattle.call_parts.specs.Laws.{IsFrameAt, EntryDone}
 use Rattle.call_parts.proofs.Entries.{entries_are_done}
 use Rattle.call_stacks.specs.InstructionItemsLaws.{is_usable, IsHeldArgument, ArgumentIs, HasOuter}
-use Rattle.call_stacks.specs.Stacks.{Waiting, view_above, WaitsAt, Start, CallersAre, StackIs, KeepsCallers}
+use Rattle.call_stacks.specs.Stacks.{WaitingCall, view_above, WaitsAt, Start, CallersAre, StackIs, KeepsCallers}
 use Rattle.call_stacks.proofs.Stays.{frame-stays, argument-stays, saved-stays, callers_stay}
 use Rattle.call_entries.specs.Entering.{call_contents, entry_places, extents_from, called_sp, called_owner, called_frame, waiting_call, HasRoom, EntryIs}
 use Rattle.call_entries.proofs.Passing.{GivenOrUnset, entry-given}
@@ -73,7 +73,7 @@ module _ (c : CallAt) (s : FrameShape) (own bottom : ℕ) (room : bottom + frame
 
 -- ---- the stack
 
-below-top : (p : Program) (there : Labels) (start : Start) (xs : Extents) (owner : Owners) (m : Bytes) (gs : List Waiting) (view : ℕ → ℕ) (sp : ℕ) (s : FrameShape) → CallersAre p there start xs owner m view sp s gs → sp + frame_size s ≤ start.top
+below-top : (p : Program) (there : Labels) (start : Start) (xs : Extents) (owner : Owners) (m : Bytes) (gs : List WaitingCall) (view : ℕ → ℕ) (sp : ℕ) (s : FrameShape) → CallersAre p there start xs owner m view sp s gs → sp + frame_size s ≤ start.top
 below-top p there start xs owner m [] view sp s a = let e = a.0 in omega (arith, e)
 below-top p there start xs owner m (g ∷ gs) view sp s a =
     let h = below-top p there start xs owner m gs (view_above m (sp + frame_size s) g.shape view) (sp + frame_size s) g.shape a.3 in
@@ -96,7 +96,7 @@ held-argument c k (Bundle cells) m h = h
 unset-content : (xs : Extents) (content : Content) (w : ℕ) → content ≡ unset_content → ContentIs xs content w
 unset-content xs content w e = subst (λ z. ContentIs xs z w) (sym e) tt
 
-module _ (p : Program) (there : Labels) (start : Start) (c : CallAt) (gs : List Waiting) (o : Outer) (held : Places) (rest : List AsmItem) (end : ℕ) (s : State) (call : FitsTheStack c) (stack : StackIs p there start c gs held s) (outer : HasOuter o s) (l function arguments : ℕ) (shape : FrameShape) (body : List AsmItem) (last : ℕ) (at : ItemsAt p there (there l) (entry_part shape shape.saves body) last) (room : HasRoom p c shape) (few : arguments ≤ c.shape.outgoing + 6) (h : StandsFor p there (Branch Bsr 26 l ∷ rest) end c o.memory is_usable held s) where
+module _ (p : Program) (there : Labels) (start : Start) (c : CallAt) (gs : List WaitingCall) (o : Outer) (held : Places) (rest : List AsmItem) (end : ℕ) (s : State) (call : FitsTheStack c) (stack : StackIs p there start c gs held s) (outer : HasOuter o s) (l function arguments : ℕ) (shape : FrameShape) (body : List AsmItem) (last : ℕ) (at : ItemsAt p there (there l) (entry_part shape shape.saves body) last) (room : HasRoom p c shape) (few : arguments ≤ c.shape.outgoing + 6) (h : StandsFor p there (Branch Bsr 26 l ∷ rest) end c o.memory is_usable held s) where
   abbrev sp : ℕ
   sp = called_sp c shape
 
@@ -117,7 +117,7 @@ module _ (p : Program) (there : Labels) (start : Start) (c : CallAt) (gs : List 
 
   -- ---- the branch
 
-  record Branched : Type 0 where
+  record HasBranched : Type 0 where
     to : State
     comes : Comes p s to
     some : 1 ≤ comes.steps
@@ -131,7 +131,7 @@ module _ (p : Program) (there : Labels) (start : Start) (c : CallAt) (gs : List 
     input : to.input ≡ s.input
     output : to.output ≡ s.output
 
-  branched : Branched
+  branched : HasBranched
   branched =
       let d = branches_step p there h.word Bsr 26 l rest end s (stands p there h.word (Branch Bsr 26 l) rest end s h.is_at) (omega arith) in
       let bytes = bytes-same p s d.to d.same in
@@ -161,7 +161,7 @@ module _ (p : Program) (there : Labels) (start : Start) (c : CallAt) (gs : List 
 
   -- ---- the entry part
 
-  frame-at : (b : Branched) → IsFrameAt p b.to shape sp
+  frame-at : (b : HasBranched) → IsFrameAt p b.to shape sp
   frame-at b =
       let even = h.frame.frame.aligned in
       let whole = (frames_are_small shape).whole in
@@ -177,13 +177,13 @@ module _ (p : Program) (there : Labels) (start : Start) (c : CallAt) (gs : List 
         reached = λ i lt. b.reached (sp + i) ∙ stack.reached (sp + i) (omega (arith, low)) (omega (arith, lt, e, high));
       }
 
-  entered : (b : Branched) → EntryDone p there body last shape shape.saves sp b.to
+  entered : (b : HasBranched) → EntryDone p there body last shape shape.saves sp b.to
   entered b =
       let e = up in
       let st : register b.to 30 ≡ sp + frame_size shape = b.registers 30 (λ f. omega (arith, f)) (λ f. omega (arith, f)) ∙ h.stack ∙ sym e in
       entries_are_done p there (there l) body last shape shape.saves sp b.to b.is_at st (frame-at b)
 
-  module _ (b : Branched) (x : EntryDone p there body last shape shape.saves sp b.to) where
+  module _ (b : HasBranched) (x : EntryDone p there body last shape shape.saves sp b.to) where
     same-register : (q : ℕ) → is_usable q ≡ true → register x.to q ≡ register s q
     same-register q e = ⊎_elim
         (λ lt. x.others q (λ f. omega (arith, f, lt)) (λ f. omega (arith, f, lt)) ∙ b.registers q (λ f. omega (arith, f, lt)) (λ f. omega (arith, f, lt)))
@@ -404,7 +404,7 @@ module _ (p : Program) (there : Labels) (start : Start) (c : CallAt) (gs : List 
           };
         }
 
-pub calls_are_entered : (p : Program) (there : Labels) (start : Start) (c : CallAt) (gs : List Waiting) (o : Outer) (held : Places) (rest : List AsmItem) (end : ℕ) (s : State) → FitsTheStack c → StackIs p there start c gs held s → HasOuter o s → (l function arguments : ℕ) (shape : FrameShape) (body : List AsmItem) (last : ℕ) → ItemsAt p there (there l) (entry_part shape shape.saves body) last → HasRoom p c shape → arguments ≤ c.shape.outgoing + 6 → StandsFor p there (Branch Bsr 26 l ∷ rest) end c o.memory is_usable held s → EntryIs p there start body last c (called_frame c shape (length o.memory)) gs o held (entry_places (call_contents function arguments held)) rest end s
+pub calls_are_entered : (p : Program) (there : Labels) (start : Start) (c : CallAt) (gs : List WaitingCall) (o : Outer) (held : Places) (rest : List AsmItem) (end : ℕ) (s : State) → FitsTheStack c → StackIs p there start c gs held s → HasOuter o s → (l function arguments : ℕ) (shape : FrameShape) (body : List AsmItem) (last : ℕ) → ItemsAt p there (there l) (entry_part shape shape.saves body) last → HasRoom p c shape → arguments ≤ c.shape.outgoing + 6 → StandsFor p there (Branch Bsr 26 l ∷ rest) end c o.memory is_usable held s → EntryIs p there start body last c (called_frame c shape (length o.memory)) gs o held (entry_places (call_contents function arguments held)) rest end s
 calls_are_entered p there start c gs o held rest end s call stack outer l function arguments shape body last at room few h =
     let b = branched p there start c gs o held rest end s call stack outer l function arguments shape body last at room few h in
     entry-is p there start c gs o held rest end s call stack outer l function arguments shape body last at room few h b (entered p there start c gs o held rest end s call stack outer l function arguments shape body last at room few h b)

@@ -18,25 +18,25 @@ place-true (Out a) (Out b) e = ap Out (eqb-true a b e)
 place-true p q e = absurd (cc)
 
 -- what is given at a place: a register's content, or that of an argument place of the caller
-abbrev pub Given : (held : Places) → (count : ℕ) → Place → Content → Type 0
-Given held count (Reg r) c = c ≡ held (Reg r)
-Given held count (In k) c = (k < count) × (c ≡ held (Out k))
-Given held count (Slot t) c = ⊥
-Given held count (Out k) c = ⊥
+abbrev pub IsGivenAt : (held : Places) → (count : ℕ) → Place → Content → Type 0
+IsGivenAt held count (Reg r) c = c ≡ held (Reg r)
+IsGivenAt held count (In k) c = (k < count) × (c ≡ held (Out k))
+IsGivenAt held count (Slot t) c = ⊥
+IsGivenAt held count (Out k) c = ⊥
 
 abbrev pub GivenOrUnset : (held : Places) → (count : ℕ) → Place → Content → Type 0
-GivenOrUnset held count q c = (c ≡ unset_content) ⊎ Given held count q c
+GivenOrUnset held count q c = (c ≡ unset_content) ⊎ IsGivenAt held count q c
 
 -- lists of places with what they are given
 abbrev AllGiven : (held : Places) → (count : ℕ) → List Place → List Content → Type 0
 AllGiven held count [] cs = Unit {0}
-AllGiven held count (p ∷ ps) cs = Given held count p (first_or_unset cs) × AllGiven held count ps (drop 1 cs)
+AllGiven held count (p ∷ ps) cs = IsGivenAt held count p (first_or_unset cs) × AllGiven held count ps (drop 1 cs)
 
-put-given : (held : Places) (count : ℕ) (p : Place) (c : Content) (s : Places) → Given held count p c → ((q : Place) → GivenOrUnset held count q (s q)) → (q : Place) → GivenOrUnset held count q (put place_eq p c s q)
+put-given : (held : Places) (count : ℕ) (p : Place) (c : Content) (s : Places) → IsGivenAt held count p c → ((q : Place) → GivenOrUnset held count q (s q)) → (q : Place) → GivenOrUnset held count q (put place_eq p c s q)
 put-given held count p c s is h q = by_test (place_eq q p) refl
   where
     by_test : (b : Bool) → place_eq q p ≡ b → GivenOrUnset held count q (if b then c else s q)
-    by_test true e = inr (subst (λ z. Given held count z c) (sym (place-true q p e)) is)
+    by_test true e = inr (subst (λ z. IsGivenAt held count z c) (sym (place-true q p e)) is)
     by_test false e = h q
 
 all-given : (held : Places) (count : ℕ) (ps : List Place) (cs : List Content) (s : Places) → AllGiven held count ps cs → ((q : Place) → GivenOrUnset held count q (s q)) → (q : Place) → GivenOrUnset held count q (put_all place_eq ps cs s q)

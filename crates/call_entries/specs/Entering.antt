@@ -20,7 +20,7 @@ use Rattle.flat_frames.specs.Shapes.{FrameShape, objects_at, frame_size, owner_a
 use Rattle.frame_transfers.specs.Laws.{CallAt, FitsTheStack, StandsFor}
 use Rattle.call_parts.specs.Items.{entry_part}
 use Rattle.call_stacks.specs.InstructionItemsLaws.{is_usable, HasOuter}
-use Rattle.call_stacks.specs.Stacks.{Waiting, Start, StackIs}
+use Rattle.call_stacks.specs.Stacks.{WaitingCall, Start, StackIs}
 
 -- what a call hands over, and what the called function holds at its start
 abbrev pub call_contents : (function arguments : ℕ) → Places → List Content
@@ -54,7 +54,7 @@ called_frame c s own = record {
 }
 
 -- the call that waits meanwhile
-abbrev pub waiting_call : CallAt → (held : Places) → (behind : List AsmItem) → (end : ℕ) → Waiting
+abbrev pub waiting_call : CallAt → (held : Places) → (behind : List AsmItem) → (end : ℕ) → WaitingCall
 waiting_call c held behind end = record { shape = c.shape; own = c.own; held = held; behind = behind; end = end }
 
 -- the stack has room for the frame, and an argument place of the caller is near from it
@@ -64,7 +64,7 @@ pub record HasRoom (p : Program) (c : CallAt) (s : FrameShape) : Type 0 where
 
 -- the machine stands at the first item of the called function, for the called function
 pub record EntryIs (p : Program) (there : Labels) (start : Start) (body : List AsmItem) (last : ℕ) (c d : CallAt)
-    (gs : List Waiting) (o : Outer) (held entry : Places) (rest : List AsmItem) (end : ℕ) (s : State) : Type 0 where
+    (gs : List WaitingCall) (o : Outer) (held entry : Places) (rest : List AsmItem) (end : ℕ) (s : State) : Type 0 where
   pub to : State
   pub comes : Comes p s to
   pub some : 1 ≤ comes.steps
@@ -75,7 +75,7 @@ pub record EntryIs (p : Program) (there : Labels) (start : Start) (body : List A
 
 abbrev pub CallsAreEntered : Type 0
 CallsAreEntered =
-    (p : Program) (there : Labels) (start : Start) (c : CallAt) (gs : List Waiting) (o : Outer) (held : Places)
+    (p : Program) (there : Labels) (start : Start) (c : CallAt) (gs : List WaitingCall) (o : Outer) (held : Places)
     (rest : List AsmItem) (end : ℕ) (s : State) → FitsTheStack c → StackIs p there start c gs held s → HasOuter o s →
     (l function arguments : ℕ) (shape : FrameShape) (body : List AsmItem) (last : ℕ) →
     ItemsAt p there (there l) (entry_part shape shape.saves body) last → HasRoom p c shape →

@@ -29,7 +29,7 @@ use Rattle.call_parts.specs.Items.{exit_part}
 use Rattle.call_stacks.specs.InstructionItemsLaws.{is_usable, HasOuter, RunIsOver}
 use Rattle.call_stacks.specs.Stacks.{Start, StackIs}
 use Rattle.call_exits.specs.Leaving.{result_contents, ending_items}
-use Rattle.call_exits.proofs.Leaving.{returned-is, left}
+use Rattle.call_exits.proofs.Leaving.{returned-is, left_call}
 
 -- the word of a status
 status-word : (xs : Extents) (content : Content) (w status : ℕ) → ContentIs xs content w → content_status content ≡ Some status → w % 256 ≡ status
@@ -68,7 +68,7 @@ ends p there w end s h =
 
 pub runs_are_ended : (p : Program) (there : Labels) (start : Start) (c : CallAt) (o : Outer) (held : Places) (rest : List AsmItem) (end : ℕ) (s : State) → FitsTheStack c → StackIs p there start c [] held s → HasOuter o s → start.behind ≡ ending_items → (with_value : Bool) (status : ℕ) → result_status (result_contents with_value held) ≡ Some status → StandsFor p there (exit_part c.shape c.shape.saves rest) end c o.memory is_usable held s → RunIsOver p (end_locals o c.own (length c.shape.sizes)) (Done status) s
 runs_are_ended p there start c o held rest end s call stack outer items with_value status e h =
-    let x = left p there c o held rest end s call h in
+    let x = left_call p there c o held rest end s call h in
     let back = stack.callers_are.1 in
     let whole : word_address back.place / 4 * 4 ≡ word_address back.place = omega arith in
     let pc : x.to.pc ≡ word_address back.place = x.pc ∙ ap (λ n. n / 4 * 4) back.is ∙ whole in

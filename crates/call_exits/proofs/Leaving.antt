@@ -27,7 +27,7 @@ use Rattle.call_parts.specs.Laws.{ExitDone}
 use Rattle.call_parts.proofs.Exits.{exits_are_done}
 use Rattle.call_stacks.specs.InstructionItemsLaws.{is_usable, HasOuter, ArgumentsAre}
 use Rattle.call_stacks.proofs.Runs.{usable-low}
-use Rattle.call_stacks.specs.Stacks.{Waiting, call_frame, view_above, Start, CallersAre, StackIs, KeepsCallers}
+use Rattle.call_stacks.specs.Stacks.{WaitingCall, call_frame, view_above, Start, CallersAre, StackIs, KeepsCallers}
 use Rattle.call_stacks.proofs.Stays.{frame-owned, frame-stays, argument-stays, saved-stays, callers_stay}
 use Rattle.call_exits.specs.Leaving.{result_contents, resumed_places, left_owner, caller_of, ExitIs}
 use Rattle.call_exits.proofs.Owners.{frame-own, own-ended, left-below, left-in, left-above, not-ended}
@@ -38,8 +38,8 @@ returned-is xs held w true h = h
 returned-is xs held w false h = tt
 
 -- the exit part of a call
-pub left : (p : Program) (there : Labels) (c : CallAt) (o : Outer) (held : Places) (rest : List AsmItem) (end : ℕ) (s : State) → FitsTheStack c → StandsFor p there (exit_part c.shape c.shape.saves rest) end c o.memory is_usable held s → ExitDone p there c.shape c.shape.saves c.sp s
-left p there c o held rest end s call h =
+pub left_call : (p : Program) (there : Labels) (c : CallAt) (o : Outer) (held : Places) (rest : List AsmItem) (end : ℕ) (s : State) → FitsTheStack c → StandsFor p there (exit_part c.shape c.shape.saves rest) end c o.memory is_usable held s → ExitDone p there c.shape c.shape.saves c.sp s
+left_call p there c o held rest end s call h =
     exits_are_done p there h.word rest end c.shape c.shape.saves c.sp s h.is_at h.stack (record {
       aligned = h.frame.frame.aligned;
       small = call.small;
@@ -65,7 +65,7 @@ ended-memory p there c o held items end s t h same =
         (cases_lt y (c.sp + frame_size c.shape)))
         (cases_lt y c.sp)
 
-module _ (p : Program) (there : Labels) (start : Start) (c : CallAt) (g : Waiting) (gs : List Waiting) (o : Outer) (held : Places) (rest : List AsmItem) (end : ℕ) (s : State) (call : FitsTheStack c) (stack : StackIs p there start c (g ∷ gs) held s) (outer : HasOuter o s) (function arguments : ℕ) (with_value : Bool) (h : StandsFor p there (exit_part c.shape c.shape.saves rest) end c o.memory is_usable held s) (x : ExitDone p there c.shape c.shape.saves c.sp s) where
+module _ (p : Program) (there : Labels) (start : Start) (c : CallAt) (g : WaitingCall) (gs : List WaitingCall) (o : Outer) (held : Places) (rest : List AsmItem) (end : ℕ) (s : State) (call : FitsTheStack c) (stack : StackIs p there start c (g ∷ gs) held s) (outer : HasOuter o s) (function arguments : ℕ) (with_value : Bool) (h : StandsFor p there (exit_part c.shape c.shape.saves rest) end c o.memory is_usable held s) (x : ExitDone p there c.shape c.shape.saves c.sp s) where
   abbrev up : ℕ
   up = c.sp + frame_size c.shape
 
@@ -170,6 +170,6 @@ module _ (p : Program) (there : Labels) (start : Start) (c : CallAt) (g : Waitin
     outer = record { input = x.input ∙ outer.input; output = x.output ∙ outer.output; bytes = outer.bytes };
   }
 
-pub calls_are_left : (p : Program) (there : Labels) (start : Start) (c : CallAt) (g : Waiting) (gs : List Waiting) (o : Outer) (held : Places) (rest : List AsmItem) (end : ℕ) (s : State) → FitsTheStack c → StackIs p there start c (g ∷ gs) held s → HasOuter o s → (function arguments : ℕ) (with_value : Bool) → StandsFor p there (exit_part c.shape c.shape.saves rest) end c o.memory is_usable held s → ExitIs p there start g gs (caller_of c (length gs) g) (end_locals o c.own (length c.shape.sizes)) (resumed_places function arguments g (result_contents with_value held)) s
+pub calls_are_left : (p : Program) (there : Labels) (start : Start) (c : CallAt) (g : WaitingCall) (gs : List WaitingCall) (o : Outer) (held : Places) (rest : List AsmItem) (end : ℕ) (s : State) → FitsTheStack c → StackIs p there start c (g ∷ gs) held s → HasOuter o s → (function arguments : ℕ) (with_value : Bool) → StandsFor p there (exit_part c.shape c.shape.saves rest) end c o.memory is_usable held s → ExitIs p there start g gs (caller_of c (length gs) g) (end_locals o c.own (length c.shape.sizes)) (resumed_places function arguments g (result_contents with_value held)) s
 calls_are_left p there start c g gs o held rest end s call stack outer function arguments with_value h =
-    exit-is p there start c g gs o held rest end s call stack outer function arguments with_value h (left p there c o held rest end s call h)
+    exit-is p there start c g gs o held rest end s call stack outer function arguments with_value h (left_call p there c o held rest end s call h)

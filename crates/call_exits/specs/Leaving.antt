@@ -22,13 +22,13 @@ use Rattle.flat_frames.specs.Shapes.{frame_size}
 use Rattle.frame_transfers.specs.Laws.{CallAt, FitsTheStack, StandsFor}
 use Rattle.call_parts.specs.Items.{exit_part}
 use Rattle.call_stacks.specs.InstructionItemsLaws.{is_usable, HasOuter, RunIsOver, store_behind}
-use Rattle.call_stacks.specs.Stacks.{Waiting, call_frame, Start, StackIs}
+use Rattle.call_stacks.specs.Stacks.{WaitingCall, call_frame, Start, StackIs}
 
 -- what a call returns, and what the call that waited holds then
 abbrev pub result_contents : (with_value : Bool) → Places → List Content
 result_contents with_value held = map held (places_read_at [] (i.Return with_value))
 
-abbrev pub resumed_places : (function arguments : ℕ) → Waiting → List Content → Places
+abbrev pub resumed_places : (function arguments : ℕ) → WaitingCall → List Content → Places
 resumed_places function arguments g cs = store_behind [] (i.Call function arguments) g.held cs
 
 -- the frame is nobody's any more
@@ -36,11 +36,11 @@ abbrev pub left_owner : CallAt → Owners
 left_owner c y =
     if nat_lt y c.sp then c.owner y else if nat_lt y (c.sp + frame_size c.shape) then Nobody else c.owner y
 
-abbrev pub caller_of : CallAt → (depth : ℕ) → Waiting → CallAt
+abbrev pub caller_of : CallAt → (depth : ℕ) → WaitingCall → CallAt
 caller_of c depth g = call_frame c.extents (left_owner c) (c.sp + frame_size c.shape) depth g
 
 -- the machine stands behind the call, for the call that waited
-pub record ExitIs (p : Program) (there : Labels) (start : Start) (g : Waiting) (gs : List Waiting) (d : CallAt)
+pub record ExitIs (p : Program) (there : Labels) (start : Start) (g : WaitingCall) (gs : List WaitingCall) (d : CallAt)
     (o : Outer)
     (held : Places) (s : State) : Type 0 where
   pub to : State
@@ -52,7 +52,7 @@ pub record ExitIs (p : Program) (there : Labels) (start : Start) (g : Waiting) (
 
 abbrev pub CallsAreLeft : Type 0
 CallsAreLeft =
-    (p : Program) (there : Labels) (start : Start) (c : CallAt) (g : Waiting) (gs : List Waiting) (o : Outer)
+    (p : Program) (there : Labels) (start : Start) (c : CallAt) (g : WaitingCall) (gs : List WaitingCall) (o : Outer)
     (held : Places) (rest : List AsmItem) (end : ℕ) (s : State) → FitsTheStack c →
     StackIs p there start c (g ∷ gs) held s →
     HasOuter o s → (function arguments : ℕ) (with_value : Bool) →

@@ -39,13 +39,13 @@ module _ (p : Program) (there : Labels) (shape : FrameShape) (saves : ℕ → Bo
       })
 
   -- a register is stored in the frame
-  record Stored (r k : ℕ) (rest : List AsmItem) (end : ℕ) (t : State) : Type 0 where
+  record RegisterIsStored (r k : ℕ) (rest : List AsmItem) (end : ℕ) (t : State) : Type 0 where
     to : State
     come : HasCome p there rest end t to
     others : (q : ℕ) → q ≢ 29 → register to q ≡ register t q
     bytes : memory_bytes p to ≡ put_word (memory_bytes p t) (sp + k) (register t r)
 
-  stored : (r k w : ℕ) (rest : List AsmItem) (end : ℕ) (t : State) → r < 29 → k % 8 ≡ 0 → k + 8 ≤ frame_size shape → register t 30 ≡ sp → ((y : ℕ) → is_reached p t y ≡ is_reached p s y) → IsAt p there w (frame_store r k ++ rest) end t → Stored r k rest end t
+  stored : (r k w : ℕ) (rest : List AsmItem) (end : ℕ) (t : State) → r < 29 → k % 8 ≡ 0 → k + 8 ≤ frame_size shape → register t 30 ≡ sp → ((y : ℕ) → is_reached p t y ≡ is_reached p s y) → IsAt p there w (frame_store r k ++ rest) end t → RegisterIsStored r k rest end t
   stored r k w rest end t lt even within stack reach h =
       let small = frame.small in
       let near = frame.near in
@@ -59,7 +59,7 @@ module _ (p : Program) (there : Labels) (shape : FrameShape) (saves : ℕ → Bo
       }
 
   -- the return address and the registers below one are saved
-  record Saved (r : ℕ) (t : State) : Type 0 where
+  record AreSavedBelow (r : ℕ) (t : State) : Type 0 where
     stack : register t 30 ≡ sp
     others : (q : ℕ) → q ≢ 29 → q ≢ 30 → register t q ≡ register s q
     back : word_in (memory_bytes p t) (sp + return_at shape) ≡ register s 26
@@ -71,7 +71,7 @@ module _ (p : Program) (there : Labels) (shape : FrameShape) (saves : ℕ → Bo
   outside : (k y : ℕ) → k + 8 ≤ frame_size shape → (y < sp) ⊎ (sp + frame_size shape ≤ y) → (y < sp + k) ⊎ (sp + k + 8 ≤ y)
   outside k y within h = ⊎_elim (λ lt. inl (omega (arith, lt))) (λ le. inr (omega (arith, le, within))) h
 
-  save-one : (r : ℕ) (t u : State) → 9 ≤ r → r < 16 → Saved r t → (word : ℕ) → register t r ≡ word → word < 2 ^ 64 → ((q : ℕ) → q ≢ 29 → register u q ≡ register t q) → memory_bytes p u ≡ put_word (memory_bytes p t) (sp + saved_at shape r) word → ((y : ℕ) → is_reached p u y ≡ is_reached p t y) → Saved (suc r) u
+  save-one : (r : ℕ) (t u : State) → 9 ≤ r → r < 16 → AreSavedBelow r t → (word : ℕ) → register t r ≡ word → word < 2 ^ 64 → ((q : ℕ) → q ≢ 29 → register u q ≡ register t q) → memory_bytes p u ≡ put_word (memory_bytes p t) (sp + saved_at shape r) word → ((y : ℕ) → is_reached p u y ≡ is_reached p t y) → AreSavedBelow (suc r) u
   save-one r t u from to h word is small others bytes reached =
       let a = sp + saved_at shape r in
       let m = memory_bytes p t in
@@ -89,7 +89,7 @@ module _ (p : Program) (there : Labels) (shape : FrameShape) (saves : ℕ → Bo
         reached = λ y. reached y ∙ h.reached y;
       }
 
-  save-none : (r : ℕ) (t : State) → saves r ≡ false → Saved r t → Saved (suc r) t
+  save-none : (r : ℕ) (t : State) → saves r ≡ false → AreSavedBelow r t → AreSavedBelow (suc r) t
   save-none r t e h = record {
     stack = h.stack;
     others = h.others;
@@ -108,29 +108,29 @@ module _ (p : Program) (there : Labels) (shape : FrameShape) (saves : ℕ → Bo
   record AllSaved (rest : List AsmItem) (end : ℕ) (t : State) : Type 0 where
     to : State
     come : HasCome p there rest end t to
-    is : Saved 16 to
+    is : AreSavedBelow 16 to
 
-  save-if : (r n w : ℕ) (rest : List AsmItem) (end : ℕ) (t : State) (b : Bool) → saves r ≡ b → 9 ≤ r → r < 16 → IsAt p there w (save_if shape b r (save_registers shape saves (suc r) n rest)) end t → Saved r t → ((w : ℕ) (u : State) → IsAt p there w (save_registers shape saves (suc r) n rest) end u → Saved (suc r) u → AllSaved rest end u) → AllSaved rest end t
+  save-if : (r n w : ℕ) (rest : List AsmItem) (end : ℕ) (t : State) (b : Bool) → saves r ≡ b → 9 ≤ r → r < 16 → IsAt p there w (save_if shape b r (save_registers shape saves (suc r) n rest)) end t → AreSavedBelow r t → ((w : ℕ) (u : State) → IsAt p there w (save_registers shape saves (suc r) n rest) end u → AreSavedBelow (suc r) u → AllSaved rest end u) → AllSaved rest end t
   save-if r n w rest end t false e from to h is go = go w t h (save-none r t e is)
   save-if r n w rest end t true e from to h is go =
       let x = stored r (saved_at shape r) w (save_registers shape saves (suc r) n rest) end t (omega (arith, to)) (omega arith) (saved-within shape r from to) is.stack is.reached h in
       let y = go x.come.next x.to x.come.is_at (save-one r t x.to from to is (register t r) refl (h.words r) x.others x.bytes x.come.reached) in
       record { to = y.to; come = come-through p there (save_registers shape saves (suc r) n rest) rest end t x.to y.to x.come y.come; is = y.is }
 
-  save-all : (n r w : ℕ) (rest : List AsmItem) (end : ℕ) (t : State) → r + n ≡ 16 → 9 ≤ r → IsAt p there w (save_registers shape saves r n rest) end t → Saved r t → AllSaved rest end t
+  save-all : (n r w : ℕ) (rest : List AsmItem) (end : ℕ) (t : State) → r + n ≡ 16 → 9 ≤ r → IsAt p there w (save_registers shape saves r n rest) end t → AreSavedBelow r t → AllSaved rest end t
   save-all zero r w rest end t e from h is =
       let last : r ≡ 16 = omega (arith, e) in
       record {
         to = t;
         come = record { comes = stays p t; next = w; is_at = h; input = refl; output = refl; reached = λ y. refl };
-        is = subst (λ k. Saved k t) last is;
+        is = subst (λ k. AreSavedBelow k t) last is;
       }
   save-all (suc n) r w rest end t e from h is =
       save-if r n w rest end t (saves r) refl from (omega (arith, e)) h is
       (λ w u h is. save-all n (suc r) w rest end u (omega (arith, e)) (omega (arith, from)) h is)
 
-  pub entered : (w : ℕ) (rest : List AsmItem) (end : ℕ) → IsAt p there w (entry_part shape saves rest) end s → register s 30 ≡ sp + frame_size shape → EntryDone p there rest end shape saves sp s
-  entered w rest end h e =
+  pub entered_part : (w : ℕ) (rest : List AsmItem) (end : ℕ) → IsAt p there w (entry_part shape saves rest) end s → register s 30 ≡ sp + frame_size shape → EntryDone p there rest end shape saves sp s
+  entered_part w rest end h e =
       let mid = save_registers shape saves 9 7 rest in
       let first = frame_store 26 (return_at shape) ++ mid in
       let k = stack-lowered p there w (frame_size shape) sp first end s h e frame.small frame.near in
@@ -158,4 +158,4 @@ module _ (p : Program) (there : Labels) (shape : FrameShape) (saves : ℕ → Bo
       }
 
 pub entries_are_done : (p : Program) (there : Labels) (w : ℕ) (rest : List AsmItem) (end : ℕ) (shape : FrameShape) (saves : ℕ → Bool) (sp : ℕ) (s : State) → IsAt p there w (entry_part shape saves rest) end s → register s 30 ≡ sp + frame_size shape → IsFrameAt p s shape sp → EntryDone p there rest end shape saves sp s
-entries_are_done p there w rest end shape saves sp s h e frame = entered p there shape saves sp s frame w rest end h e
+entries_are_done p there w rest end shape saves sp s h e frame = entered_part p there shape saves sp s frame w rest end h e

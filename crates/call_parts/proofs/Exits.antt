@@ -36,7 +36,7 @@ unfolding one-step
 one-some p s t i e f = omega arith
 
 -- a return goes to the address in register 26
-record Gone (p : Program) (there : Labels) (s : State) : Type 0 where
+record HasReturned (p : Program) (there : Labels) (s : State) : Type 0 where
   to : State
   comes : Comes p s to
   some : 1 ≤ comes.steps
@@ -45,7 +45,7 @@ record Gone (p : Program) (there : Labels) (s : State) : Type 0 where
   is_at : (w : ℕ) (items : List AsmItem) (last : ℕ) → to.pc ≡ word_address w → ItemsAt p there w items last → IsAt p there w items last to
   same : SameElse s to
 
-gone : (p : Program) (there : Labels) (w : ℕ) (rest : List AsmItem) (end : ℕ) (s : State) → IsAt p there w (Plain (Jump Ret 31 26) ∷ rest) end s → Gone p there s
+gone : (p : Program) (there : Labels) (w : ℕ) (rest : List AsmItem) (end : ℕ) (s : State) → IsAt p there w (Plain (Jump Ret 31 26) ∷ rest) end s → HasReturned p there s
 gone p there w rest end s h =
     let t = record s { pc = register s 26 / 4 * 4 } in
     let none : w ≡ w + 0 = omega arith in
@@ -72,14 +72,14 @@ gone p there w rest end s h =
 
 module _ (p : Program) (there : Labels) (shape : FrameShape) (saves : ℕ → Bool) (sp : ℕ) (s : State) (frame : IsFrameAt p s shape sp) where
   -- a register is loaded from the frame
-  record Loaded (r k : ℕ) (rest : List AsmItem) (end : ℕ) (t : State) : Type 0 where
+  record RegisterIsLoaded (r k : ℕ) (rest : List AsmItem) (end : ℕ) (t : State) : Type 0 where
     to : State
     come : HasCome p there rest end t to
     here : register to r ≡ word_in (memory_bytes p s) (sp + k)
     others : (q : ℕ) → q ≢ r → q ≢ 29 → register to q ≡ register t q
     bytes : memory_bytes p to ≡ memory_bytes p s
 
-  loaded : (r k w : ℕ) (rest : List AsmItem) (end : ℕ) (t : State) → r < 29 → k % 8 ≡ 0 → k + 8 ≤ frame_size shape → register t 30 ≡ sp → ((y : ℕ) → is_reached p t y ≡ is_reached p s y) → memory_bytes p t ≡ memory_bytes p s → IsAt p there w (frame_load r k ++ rest) end t → Loaded r k rest end t
+  loaded : (r k w : ℕ) (rest : List AsmItem) (end : ℕ) (t : State) → r < 29 → k % 8 ≡ 0 → k + 8 ≤ frame_size shape → register t 30 ≡ sp → ((y : ℕ) → is_reached p t y ≡ is_reached p s y) → memory_bytes p t ≡ memory_bytes p s → IsAt p there w (frame_load r k ++ rest) end t → RegisterIsLoaded r k rest end t
   loaded r k w rest end t lt even within stack reach same h =
       let small = frame.small in
       let near = frame.near in
@@ -94,13 +94,13 @@ module _ (p : Program) (there : Labels) (shape : FrameShape) (saves : ℕ → Bo
       }
 
   -- the registers below one are given back
-  record Restored (r : ℕ) (t : State) : Type 0 where
+  record AreGivenBack (r : ℕ) (t : State) : Type 0 where
     others : (q : ℕ) → (q < 9) ⊎ (r ≤ q) → q ≢ 29 → register t q ≡ register s q
     back : (q : ℕ) → 9 ≤ q → q < r → register t q ≡ given_back shape saves sp p s q
     bytes : memory_bytes p t ≡ memory_bytes p s
     reached : (y : ℕ) → is_reached p t y ≡ is_reached p s y
 
-  restore-one : (r : ℕ) (t u : State) → saves r ≡ true → 9 ≤ r → r < 16 → Restored r t → register u r ≡ word_in (memory_bytes p s) (sp + saved_at shape r) → ((q : ℕ) → q ≢ r → q ≢ 29 → register u q ≡ register t q) → memory_bytes p u ≡ memory_bytes p s → ((y : ℕ) → is_reached p u y ≡ is_reached p t y) → Restored (suc r) u
+  restore-one : (r : ℕ) (t u : State) → saves r ≡ true → 9 ≤ r → r < 16 → AreGivenBack r t → register u r ≡ word_in (memory_bytes p s) (sp + saved_at shape r) → ((q : ℕ) → q ≢ r → q ≢ 29 → register u q ≡ register t q) → memory_bytes p u ≡ memory_bytes p s → ((y : ℕ) → is_reached p u y ≡ is_reached p t y) → AreGivenBack (suc r) u
   restore-one r t u e from to h here others bytes reached = record {
     others = λ q side nf. others q (λ f. ⊎_elim (λ lt. omega (arith, f, lt, from)) (λ le. omega (arith, f, le)) side) nf ∙ h.others q (⊎_elim inl (λ le. inr (omega (arith, le))) side) nf;
     back = λ q fq tq. ⊎_elim
@@ -113,7 +113,7 @@ module _ (p : Program) (there : Labels) (shape : FrameShape) (saves : ℕ → Bo
     reached = λ y. reached y ∙ h.reached y;
   }
 
-  restore-none : (r : ℕ) (t : State) → saves r ≡ false → r < 16 → Restored r t → Restored (suc r) t
+  restore-none : (r : ℕ) (t : State) → saves r ≡ false → r < 16 → AreGivenBack r t → AreGivenBack (suc r) t
   restore-none r t e to h = record {
     others = λ q side nf. h.others q (⊎_elim inl (λ le. inr (omega (arith, le))) side) nf;
     back = λ q fq tq. ⊎_elim
@@ -129,22 +129,22 @@ module _ (p : Program) (there : Labels) (shape : FrameShape) (saves : ℕ → Bo
   record AllRestored (rest : List AsmItem) (end : ℕ) (t : State) : Type 0 where
     to : State
     come : HasCome p there rest end t to
-    is : Restored 16 to
+    is : AreGivenBack 16 to
 
-  restore-if : (r n w : ℕ) (rest : List AsmItem) (end : ℕ) (t : State) (b : Bool) → saves r ≡ b → register s 30 ≡ sp → 9 ≤ r → r < 16 → IsAt p there w (restore_if shape b r (restore_registers shape saves (suc r) n rest)) end t → Restored r t → ((w : ℕ) (u : State) → IsAt p there w (restore_registers shape saves (suc r) n rest) end u → Restored (suc r) u → AllRestored rest end u) → AllRestored rest end t
+  restore-if : (r n w : ℕ) (rest : List AsmItem) (end : ℕ) (t : State) (b : Bool) → saves r ≡ b → register s 30 ≡ sp → 9 ≤ r → r < 16 → IsAt p there w (restore_if shape b r (restore_registers shape saves (suc r) n rest)) end t → AreGivenBack r t → ((w : ℕ) (u : State) → IsAt p there w (restore_registers shape saves (suc r) n rest) end u → AreGivenBack (suc r) u → AllRestored rest end u) → AllRestored rest end t
   restore-if r n w rest end t false e stack from to h is go = go w t h (restore-none r t e to is)
   restore-if r n w rest end t true e stack from to h is go =
       let x = loaded r (saved_at shape r) w (restore_registers shape saves (suc r) n rest) end t (omega (arith, to)) (omega arith) (saved-within shape r from to) (is.others 30 (inr (omega (arith, to))) (λ f. omega (arith, f)) ∙ stack) is.reached is.bytes h in
       let y = go x.come.next x.to x.come.is_at (restore-one r t x.to e from to is x.here x.others x.bytes x.come.reached) in
       record { to = y.to; come = come-through p there (restore_registers shape saves (suc r) n rest) rest end t x.to y.to x.come y.come; is = y.is }
 
-  restore-all : (n r w : ℕ) (rest : List AsmItem) (end : ℕ) (t : State) → register s 30 ≡ sp → r + n ≡ 16 → 9 ≤ r → IsAt p there w (restore_registers shape saves r n rest) end t → Restored r t → AllRestored rest end t
+  restore-all : (n r w : ℕ) (rest : List AsmItem) (end : ℕ) (t : State) → register s 30 ≡ sp → r + n ≡ 16 → 9 ≤ r → IsAt p there w (restore_registers shape saves r n rest) end t → AreGivenBack r t → AllRestored rest end t
   restore-all zero r w rest end t stack e from h is =
       let last : r ≡ 16 = omega (arith, e) in
       record {
         to = t;
         come = record { comes = stays p t; next = w; is_at = h; input = refl; output = refl; reached = λ y. refl };
-        is = subst (λ k. Restored k t) last is;
+        is = subst (λ k. AreGivenBack k t) last is;
       }
   restore-all (suc n) r w rest end t stack e from h is =
       restore-if r n w rest end t (saves r) refl stack from (omega (arith, e)) h is

@@ -154,8 +154,8 @@ impl Call {
         let outcome = msc_main(alloc, words, &mut files, &mut input, &mut out, &mut err);
         let status = exit_code(&outcome);
         let mut shown = format!(in alloc; "{outcome:?}, status {status}")?.into_bytes();
-        due_output.judge(out.taken(), &mut shown)?;
-        push_part(&mut shown, "err", err.taken())?;
+        due_output.judge(out.taken_bytes(), &mut shown)?;
+        push_part(&mut shown, "err", err.taken_bytes())?;
         push_part(
             &mut shown,
             "left",
@@ -174,7 +174,7 @@ impl Call {
         let mut err = MemSink::new(alloc, ROOM, Vec::new(alloc))?;
         let words = words.as_slice();
         match msc_main(alloc, words, &mut files, &mut input, &mut out, &mut err) {
-            Outcome::Built | Outcome::Printed => Ok(Vec::from_slice(alloc, out.taken())?),
+            Outcome::Built | Outcome::Printed => Ok(Vec::from_slice(alloc, out.taken_bytes())?),
             outcome => bail!("nothing is written: {outcome:?}"),
         }
     }

@@ -111,7 +111,7 @@ pub fn answer(alloc: Global, given: &str) -> Result<Vec<u8>> {
     let mut line = MemSink::new(alloc, 256, Vec::new(alloc))?;
     put_line(&mut line, &outcome);
     let mut shown = format!(in alloc; "status {status}")?.into_bytes();
-    push_part(&mut shown, "err", line.taken())?;
+    push_part(&mut shown, "err", line.taken_bytes())?;
     shown.push(b'\n')?;
     Ok(shown)
 }

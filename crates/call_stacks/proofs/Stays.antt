@@ -22,7 +22,7 @@ use Rattle.flat_frames.specs.Frames.{word_in, FrameIs, is_written_piece, is_writ
 use Rattle.flat_frames.proofs.Shapes.{pieces_of}
 use Rattle.frame_transfers.specs.Laws.{CallAt, IsKept}
 use Rattle.instruction_items.specs.Laws.{IsHeldArgument, ArgumentIs}
-use Rattle.call_stacks.specs.Stacks.{Waiting, call_frame, view_above, Start, CallersAre, StackIs, KeepsCallers}
+use Rattle.call_stacks.specs.Stacks.{WaitingCall, call_frame, view_above, Start, CallersAre, StackIs, KeepsCallers}
 
 -- ---- owners
 
@@ -113,7 +113,7 @@ module _ (xs ys : Extents) (owner new : Owners) (m k : Bytes) (depth bound : ℕ
   argument-stays c j (contents.Plain Unset) le low h = tt
   argument-stays c j (Bundle cells) le low h = held-stays c j (Bundle cells) le low h
 
-pub callers_stay : (p : Program) (there : Labels) (start : Start) (xs ys : Extents) (owner new : Owners) (m k : Bytes) (depth bound : ℕ) → MoreExtents xs ys → KeepsCallers depth bound owner new m k → (gs : List Waiting) (u v : ℕ → ℕ) (sp own : ℕ) (s : FrameShape) (store : Places) → length gs ≤ depth → bound ≤ sp → FrameIs xs owner m sp (length gs) own s store → ((r : ℕ) → 9 ≤ r → r < 16 → v r ≡ u r) → CallersAre p there start xs owner m u sp s gs → CallersAre p there start ys new k v sp s gs
+pub callers_stay : (p : Program) (there : Labels) (start : Start) (xs ys : Extents) (owner new : Owners) (m k : Bytes) (depth bound : ℕ) → MoreExtents xs ys → KeepsCallers depth bound owner new m k → (gs : List WaitingCall) (u v : ℕ → ℕ) (sp own : ℕ) (s : FrameShape) (store : Places) → length gs ≤ depth → bound ≤ sp → FrameIs xs owner m sp (length gs) own s store → ((r : ℕ) → 9 ≤ r → r < 16 → v r ≡ u r) → CallersAre p there start xs owner m u sp s gs → CallersAre p there start ys new k v sp s gs
 callers_stay p there start xs ys owner new m k depth bound more keeps [] u v sp own s store le low f same a =
     let back = return-stays xs ys owner new m k depth bound more keeps sp 0 own s store low f in
     (a.0, record { place = a.1.place; is = back ∙ a.1.is; items_at = a.1.items_at })
@@ -135,7 +135,7 @@ callers_stay p there start xs ys owner new m k depth bound more keeps (g ∷ gs)
           a.3,
     )
 
-pub stacks_stay : (p : Program) (there : Labels) (start : Start) (c : CallAt) (gs : List Waiting) (held new : Places) (s t : State) → StackIs p there start c gs held s → FrameIs c.extents c.owner (memory_bytes p s) c.sp c.depth c.own c.shape held → ((k : ℕ) → new (In k) ≡ held (In k)) → IsKept p c s t → StackIs p there start c gs new t
+pub stacks_stay : (p : Program) (there : Labels) (start : Start) (c : CallAt) (gs : List WaitingCall) (held new : Places) (s t : State) → StackIs p there start c gs held s → FrameIs c.extents c.owner (memory_bytes p s) c.sp c.depth c.own c.shape held → ((k : ℕ) → new (In k) ≡ held (In k)) → IsKept p c s t → StackIs p there start c gs new t
 stacks_stay p there start c gs held new s t h frame ins kept =
     let m = memory_bytes p s in
     let k = memory_bytes p t in

@@ -17,7 +17,7 @@ use Rattle.instruction_items.specs.Laws.{ArgumentsAre}
 
 -- a call that waits: the shape of its frame, the number of its first object, what it holds once the transfers before
 -- its call are done, and the items behind its call
-pub record Waiting : Type 0 where
+pub record WaitingCall : Type 0 where
   pub shape : FrameShape
   pub own : ℕ
   pub held : Places
@@ -25,7 +25,7 @@ pub record Waiting : Type 0 where
   pub end : ℕ
 
 -- the frame of a call that waits, at an address, with so many calls that wait above it
-abbrev pub call_frame : Extents → Owners → (sp depth : ℕ) → Waiting → CallAt
+abbrev pub call_frame : Extents → Owners → (sp depth : ℕ) → WaitingCall → CallAt
 call_frame xs owner sp depth g =
     record { extents = xs; owner = owner; sp = sp; depth = depth; own = g.own; shape = g.shape }
 
@@ -45,7 +45,7 @@ abbrev pub KeptAre : Extents → Places → (view : ℕ → ℕ) → Type 0
 KeptAre xs held view = (r : ℕ) → 9 ≤ r → r < 16 → ContentIs xs (held (Reg r)) (view r)
 
 -- a call waits with its frame at an address
-pub record WaitsAt (xs : Extents) (owner : Owners) (m : Bytes) (sp depth : ℕ) (g : Waiting) : Type 0 where
+pub record WaitsAt (xs : Extents) (owner : Owners) (m : Bytes) (sp depth : ℕ) (g : WaitingCall) : Type 0 where
   pub frame : FrameIs xs owner m sp depth g.own g.shape g.held
   pub arguments : ArgumentsAre (call_frame xs owner sp depth g) g.held m
 
@@ -58,7 +58,7 @@ pub record Start : Type 0 where
 -- calls wait above the frame of another one, the last one first; the view is that of the registers before that one was
 -- called
 abbrev pub CallersAre : Program → Labels → Start → Extents → Owners → Bytes → (view : ℕ → ℕ) → (sp : ℕ) → FrameShape →
-    List Waiting → Type 0
+    List WaitingCall → Type 0
 CallersAre p there start xs owner m view sp s [] =
     (sp + frame_size s ≡ start.top) × IsReturn p there (word_in m (sp + return_at s)) start.behind start.end
 CallersAre p there start xs owner m view sp s (g ∷ gs) =
@@ -68,8 +68,8 @@ CallersAre p there start xs owner m view sp s (g ∷ gs) =
     × CallersAre p there start xs owner m (view_above m (sp + frame_size s) g.shape view) (sp + frame_size s) g.shape gs
 
 -- the stack of a run: the call that goes on, and those that wait
-pub record StackIs (p : Program) (there : Labels) (start : Start) (c : CallAt) (callers : List Waiting) (held : Places)
-    (s : State) : Type 0 where
+pub record StackIs (p : Program) (there : Labels) (start : Start) (c : CallAt) (callers : List WaitingCall)
+    (held : Places) (s : State) : Type 0 where
   pub depth : c.depth ≡ length callers
   pub callers_are : CallersAre p there start c.extents c.owner (memory_bytes p s)
       (view_above (memory_bytes p s) c.sp c.shape (register s)) c.sp c.shape callers

@@ -23,7 +23,7 @@ use Rattle.call_entries.specs.Items.{ItemSetting, function_label, insn_items}
 use Rattle.call_entries.specs.Laws.{is_usable, HasOuter, RunIsOver}
 use Rattle.call_entries.proofs.Runs.{jumps_are_done}
 use Rattle.call_parts.specs.Items.{exit_part}
-use Rattle.call_entries.specs.Stacks.{Waiting, Start, StackIs}
+use Rattle.call_entries.specs.Stacks.{WaitingCall, Start, StackIs}
 use Rattle.call_entries.proofs.Stays.{stacks_stay}
 use Rattle.call_entries.specs.Entering.{call_contents, entry_places, called_frame, HasRoom, EntryIs}
 use Rattle.call_entries.proofs.Entering.{calls_are_entered}
@@ -44,7 +44,7 @@ first-block a g (first ∷ blocks) insns rest e =
     let is : first ≡ insns = cc in
     ap (λ z. Label (g.block_label 0) ∷ block_items a g 0 z (blocks_items a g 1 blocks rest)) is
 
-calls-made : (p : Program) (there : Labels) (start : Start) (g : ItemSetting) (rest : List AsmItem) (end : ℕ) (c : CallAt) (gs : List Waiting) (o : Outer) (store : Places) (s : State) → FitsTheStack c → StackIs p there start c gs store s → HasOuter o s → (transfers : List Transfer) → AllMayTransfer c.shape transfers → (function arguments : ℕ) → arguments ≤ c.shape.outgoing + 6 → (a : Plan) (f : ItemSetting) (behind : List AsmItem) (last : ℕ) → FunctionStands p there a f function behind last → (insns : List TempInsn) → slice_get a.function.blocks 0 ≡ Some insns → top_transfers a 0 ≡ [] → HasRoom p c f.shape → StandsFor p there (items_of_transfers c.shape transfers (Branch Bsr 26 (function_label function) ∷ rest)) end c o.memory is_usable store s → EntryIs p there start (first_items a f insns behind) last c (called_frame c f.shape (length o.memory)) gs o (do_all transfers store) (entry_places (call_contents function arguments (do_all transfers store))) rest end s
+calls-made : (p : Program) (there : Labels) (start : Start) (g : ItemSetting) (rest : List AsmItem) (end : ℕ) (c : CallAt) (gs : List WaitingCall) (o : Outer) (store : Places) (s : State) → FitsTheStack c → StackIs p there start c gs store s → HasOuter o s → (transfers : List Transfer) → AllMayTransfer c.shape transfers → (function arguments : ℕ) → arguments ≤ c.shape.outgoing + 6 → (a : Plan) (f : ItemSetting) (behind : List AsmItem) (last : ℕ) → FunctionStands p there a f function behind last → (insns : List TempInsn) → slice_get a.function.blocks 0 ≡ Some insns → top_transfers a 0 ≡ [] → HasRoom p c f.shape → StandsFor p there (items_of_transfers c.shape transfers (Branch Bsr 26 (function_label function) ∷ rest)) end c o.memory is_usable store s → EntryIs p there start (first_items a f insns behind) last c (called_frame c f.shape (length o.memory)) gs o (do_all transfers store) (entry_places (call_contents function arguments (do_all transfers store))) rest end s
 calls-made p there start g rest end c gs o store s call stack outer transfers may function arguments few a f behind last stands insns is top room h =
     let held = do_all transfers store in
     let d = edges_are_done p there start (Branch Bsr 26 (function_label function) ∷ rest) end c gs o store s call stack outer transfers (can-transfer-all c.shape transfers may) h in
@@ -65,7 +65,7 @@ calls-made p there start g rest end c gs o store s call stack outer transfers ma
       outer = e.outer;
     }
 
-pub calls_are_done : (p : Program) (there : Labels) (start : Start) (g : ItemSetting) (rest : List AsmItem) (end : ℕ) (c : CallAt) (gs : List Waiting) (o : Outer) (store : Places) (s : State) → FitsTheStack c → StackIs p there start c gs store s → HasOuter o s → (transfers : List Transfer) → AllMayTransfer c.shape transfers → (widest function arguments : ℕ) (registers : List ℕ) → registers ≡ [] → arguments ≤ c.shape.outgoing + 6 → (a : Plan) (f : ItemSetting) (behind : List AsmItem) (last : ℕ) → FunctionStands p there a f function behind last → (insns : List TempInsn) → slice_get a.function.blocks 0 ≡ Some insns → top_transfers a 0 ≡ [] → HasRoom p c f.shape → StandsFor p there (items_of_transfers c.shape transfers (insn_items g registers (i.Call function arguments) ++ rest)) end c o.memory is_usable store s → EntryIs p there start (first_items a f insns behind) last c (called_frame c f.shape (length o.memory)) gs o (do_all transfers store) (entry_places ((placed_site widest transfers registers (i.Call function arguments)).fetch store)) rest end s
+pub calls_are_done : (p : Program) (there : Labels) (start : Start) (g : ItemSetting) (rest : List AsmItem) (end : ℕ) (c : CallAt) (gs : List WaitingCall) (o : Outer) (store : Places) (s : State) → FitsTheStack c → StackIs p there start c gs store s → HasOuter o s → (transfers : List Transfer) → AllMayTransfer c.shape transfers → (widest function arguments : ℕ) (registers : List ℕ) → registers ≡ [] → arguments ≤ c.shape.outgoing + 6 → (a : Plan) (f : ItemSetting) (behind : List AsmItem) (last : ℕ) → FunctionStands p there a f function behind last → (insns : List TempInsn) → slice_get a.function.blocks 0 ≡ Some insns → top_transfers a 0 ≡ [] → HasRoom p c f.shape → StandsFor p there (items_of_transfers c.shape transfers (insn_items g registers (i.Call function arguments) ++ rest)) end c o.memory is_usable store s → EntryIs p there start (first_items a f insns behind) last c (called_frame c f.shape (length o.memory)) gs o (do_all transfers store) (entry_places ((placed_site widest transfers registers (i.Call function arguments)).fetch store)) rest end s
 calls_are_done p there start g rest end c gs o store s call stack outer transfers may widest function arguments registers none few a f behind last stands insns is top room h =
     subst (λ rs. EntryIs p there start (first_items a f insns behind) last c (called_frame c f.shape (length o.memory)) gs o (do_all transfers store) (entry_places ((placed_site widest transfers rs (i.Call function arguments)).fetch store)) rest end s) (sym none)
     (calls-made p there start g rest end c gs o store s call stack outer transfers may function arguments few a f behind last stands insns is top room h)
@@ -73,11 +73,11 @@ calls_are_done p there start g rest end c gs o store s call stack outer transfer
 -- ---- returns
 
 -- the machine has come to the exit part
-record AtExit (p : Program) (there : Labels) (start : Start) (g : ItemSetting) (behind : List AsmItem) (last : ℕ) (c : CallAt) (gs : List Waiting) (o : Outer) (held : Places) (s : State) : Type 0 where
+record AtExit (p : Program) (there : Labels) (start : Start) (g : ItemSetting) (behind : List AsmItem) (last : ℕ) (c : CallAt) (gs : List WaitingCall) (o : Outer) (held : Places) (s : State) : Type 0 where
   left : PointIsLeft p there start g.exit_label c gs o held s
   stands : StandsFor p there (exit_part c.shape c.shape.saves behind) last c o.memory is_usable held left.to
 
-at-exit : (p : Program) (there : Labels) (start : Start) (g : ItemSetting) (rest : List AsmItem) (end : ℕ) (c : CallAt) (gs : List Waiting) (o : Outer) (store : Places) (s : State) → FitsTheStack c → g.shape ≡ c.shape → StackIs p there start c gs store s → HasOuter o s → (transfers : List Transfer) → AllMayTransfer c.shape transfers → (number : ℕ) (a : Plan) (behind : List AsmItem) (last : ℕ) → FunctionStands p there a g number behind last → StandsFor p there (items_of_transfers c.shape transfers (Branch Br 31 g.exit_label ∷ rest)) end c o.memory is_usable store s → AtExit p there start g behind last c gs o (do_all transfers store) s
+at-exit : (p : Program) (there : Labels) (start : Start) (g : ItemSetting) (rest : List AsmItem) (end : ℕ) (c : CallAt) (gs : List WaitingCall) (o : Outer) (store : Places) (s : State) → FitsTheStack c → g.shape ≡ c.shape → StackIs p there start c gs store s → HasOuter o s → (transfers : List Transfer) → AllMayTransfer c.shape transfers → (number : ℕ) (a : Plan) (behind : List AsmItem) (last : ℕ) → FunctionStands p there a g number behind last → StandsFor p there (items_of_transfers c.shape transfers (Branch Br 31 g.exit_label ∷ rest)) end c o.memory is_usable store s → AtExit p there start g behind last c gs o (do_all transfers store) s
 at-exit p there start g rest end c gs o store s call shape stack outer transfers may number a behind last stands h =
     let held = do_all transfers store in
     let d = edges_are_done p there start (Branch Br 31 g.exit_label ∷ rest) end c gs o store s call stack outer transfers (can-transfer-all c.shape transfers may) h in
@@ -94,7 +94,7 @@ at-exit p there start g rest end c gs o store s call shape stack outer transfers
       stands = subst (λ z. StandsFor p there (exit_part z z.saves behind) last c o.memory is_usable held j.to) shape (j.stands (exit_part g.shape g.shape.saves behind) last stands.exit);
     }
 
-pub returns_are_done : (p : Program) (there : Labels) (start : Start) (g : ItemSetting) (rest : List AsmItem) (end : ℕ) (c : CallAt) (w : Waiting) (gs : List Waiting) (o : Outer) (store : Places) (s : State) → FitsTheStack c → g.shape ≡ c.shape → StackIs p there start c (w ∷ gs) store s → HasOuter o s → (transfers : List Transfer) → AllMayTransfer c.shape transfers → (widest function arguments number : ℕ) (with_value : Bool) (registers : List ℕ) → registers ≡ [] → (a : Plan) (behind : List AsmItem) (last : ℕ) → FunctionStands p there a g number behind last → StandsFor p there (items_of_transfers c.shape transfers (insn_items g registers (i.Return with_value) ++ rest)) end c o.memory is_usable store s → ExitIs p there start w gs (caller_of c (length gs) w) (end_locals o c.own (length c.shape.sizes)) (resumed_places function arguments w ((placed_site widest transfers registers (i.Return with_value)).fetch store)) s
+pub returns_are_done : (p : Program) (there : Labels) (start : Start) (g : ItemSetting) (rest : List AsmItem) (end : ℕ) (c : CallAt) (w : WaitingCall) (gs : List WaitingCall) (o : Outer) (store : Places) (s : State) → FitsTheStack c → g.shape ≡ c.shape → StackIs p there start c (w ∷ gs) store s → HasOuter o s → (transfers : List Transfer) → AllMayTransfer c.shape transfers → (widest function arguments number : ℕ) (with_value : Bool) (registers : List ℕ) → registers ≡ [] → (a : Plan) (behind : List AsmItem) (last : ℕ) → FunctionStands p there a g number behind last → StandsFor p there (items_of_transfers c.shape transfers (insn_items g registers (i.Return with_value) ++ rest)) end c o.memory is_usable store s → ExitIs p there start w gs (caller_of c (length gs) w) (end_locals o c.own (length c.shape.sizes)) (resumed_places function arguments w ((placed_site widest transfers registers (i.Return with_value)).fetch store)) s
 returns_are_done p there start g rest end c w gs o store s call shape stack outer transfers may widest function arguments number with_value registers none a behind last stands h =
     let held = do_all transfers store in
     let x = at-exit p there start g rest end c (w ∷ gs) o store s call shape stack outer transfers may number a behind last stands h in

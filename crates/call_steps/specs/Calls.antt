@@ -16,7 +16,7 @@ use Rattle.frame_transfers.specs.Items.{items_of_transfers}
 use Rattle.frame_transfers.specs.Laws.{CallAt, FitsTheStack, StandsFor}
 use Rattle.call_entries.specs.Items.{ItemSetting, insn_items}
 use Rattle.call_entries.specs.Laws.{is_usable, HasOuter, RunIsOver}
-use Rattle.call_entries.specs.Stacks.{Waiting, Start, StackIs}
+use Rattle.call_entries.specs.Stacks.{WaitingCall, Start, StackIs}
 use Rattle.call_entries.specs.Entering.{entry_places, called_frame, HasRoom, EntryIs}
 use Rattle.call_exits.specs.Leaving.{caller_of, resumed_places, ending_items, ExitIs}
 use Rattle.edge_steps.specs.Points.{AllMayTransfer}
@@ -33,8 +33,8 @@ first_items a g insns behind =
 abbrev pub CallsAreDone : Type 0
 CallsAreDone =
     (p : Program) (there : Labels) (start : Start) (g : ItemSetting) (rest : List AsmItem) (end : ℕ) (c : CallAt)
-    (gs : List Waiting) (o : Outer) (store : Places) (s : State) → FitsTheStack c → StackIs p there start c gs store s →
-    HasOuter o s → (transfers : List Transfer) → AllMayTransfer c.shape transfers →
+    (gs : List WaitingCall) (o : Outer) (store : Places) (s : State) → FitsTheStack c →
+    StackIs p there start c gs store s → HasOuter o s → (transfers : List Transfer) → AllMayTransfer c.shape transfers →
     (widest function arguments : ℕ) (registers : List ℕ) → registers ≡ [] → arguments ≤ c.shape.outgoing + 6 →
     (a : Plan) (f : ItemSetting) (behind : List AsmItem) (last : ℕ) → FunctionStands p there a f function behind last →
     (insns : List TempInsn) → slice_get a.function.blocks 0 ≡ Some insns → top_transfers a 0 ≡ [] →
@@ -50,8 +50,8 @@ CallsAreDone =
 abbrev pub ReturnsAreDone : Type 0
 ReturnsAreDone =
     (p : Program) (there : Labels) (start : Start) (g : ItemSetting) (rest : List AsmItem) (end : ℕ) (c : CallAt)
-    (w : Waiting) (gs : List Waiting) (o : Outer) (store : Places) (s : State) → FitsTheStack c → g.shape ≡ c.shape →
-    StackIs p there start c (w ∷ gs) store s → HasOuter o s →
+    (w : WaitingCall) (gs : List WaitingCall) (o : Outer) (store : Places) (s : State) → FitsTheStack c →
+    g.shape ≡ c.shape → StackIs p there start c (w ∷ gs) store s → HasOuter o s →
     (transfers : List Transfer) → AllMayTransfer c.shape transfers →
     (widest function arguments number : ℕ) (with_value : Bool) (registers : List ℕ) → registers ≡ [] →
     (a : Plan) (behind : List AsmItem) (last : ℕ) → FunctionStands p there a g number behind last →

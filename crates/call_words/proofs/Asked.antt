@@ -15,10 +15,10 @@ unfolding request_of
 asked words m o is same =
     ap (λ b. if b then request_in (rows_in words) else None) is.well ∙ (ap request_in (sym is.rows) ∙ sym same)
 
-pub refused : (words : List Text) (f : WordsFault) → IsUnmatched words f → IsWordsFault words f
+pub refused_words : (words : List Text) (f : WordsFault) → IsUnmatched words f → IsWordsFault words f
 unfolding request_of
-refused words fault.Usage bad = ap (λ b. if b then request_in (rows_in words) else None) bad
-refused words fault.NoMemory short = short
+refused_words words fault.Usage bad = ap (λ b. if b then request_in (rows_in words) else None) bad
+refused_words words fault.NoMemory short = short
 
 -- what was asked for by the parse is asked for by the words
 pub when_ok : {R : Type 0} (shown : R → Command × List ℕ) (words : List Text) (m : ArgMatches) → IsMatched words m → (r : Result R WordsFault) → IfOk r (λ q. request_in (rows_of (found_of m)) ≡ Some (shown q))

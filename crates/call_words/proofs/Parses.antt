@@ -24,8 +24,8 @@ free : is_simple_and_free command_line ≡ true
 unfolding clap_on_literals
 free = refl
 
-pub matched : (app : App) (words : List Text) (m : ArgMatches) → app ≡ command_line → HasMatchesOf app words m → (is_simple_and_free app ≡ true → fault_of app words ≡ []) → IsMatched words m
-matched app words m is has kinds = record {
+pub matched_words : (app : App) (words : List Text) (m : ArgMatches) → app ≡ command_line → HasMatchesOf app words m → (is_simple_and_free app ≡ true → fault_of app words ≡ []) → IsMatched words m
+matched_words app words m is has kinds = record {
   well = ap has_none (sym (ap (λ a. fault_of a words) is) ∙ kinds (ap is_simple_and_free is ∙ free));
   rows = (has (ap is_simple is ∙ simple)).0 ∙ ap (λ a. matches_of a words) is;
 }
@@ -34,9 +34,9 @@ not_empty : (k : ErrorKind) (ks : Kinds) → IsAmong k ks → has_none ks ≡ fa
 not_empty k [] among = absurd among
 not_empty k (x ∷ xs) among = refl
 
-pub unmatched : (app : App) (words : List Text) (e : Error) (f : WordsFault) → app ≡ command_line → IsFaultBy e f → (is_simple_and_free app ≡ true → HasKind (fault_of app words) e) → IsUnmatched words f
-unmatched app words e fault.NoMemory is by kinds = by
-unmatched app words e fault.Usage is by kinds = elim (kinds (ap is_simple_and_free is ∙ free)) [
+pub unmatched_words : (app : App) (words : List Text) (e : Error) (f : WordsFault) → app ≡ command_line → IsFaultBy e f → (is_simple_and_free app ≡ true → HasKind (fault_of app words) e) → IsUnmatched words f
+unmatched_words app words e fault.NoMemory is by kinds = by
+unmatched_words app words e fault.Usage is by kinds = elim (kinds (ap is_simple_and_free is ∙ free)) [
   | inl short ↦ absurd (by short)
   | inr among ↦ ap has_none (sym (ap (λ a. fault_of a words) is)) ∙ not_empty _ (fault_of app words) among
 ]

@@ -3,12 +3,10 @@ use Rattle.std.specs.Prelude.{◌≡◌, ℕ, List, [], ◌∷◌, Option, Some,
 use Rattle.bk_memory.specs.Shortage.{MemoryIsShort}
 use Rattle.alpha_isa.specs.Behave.{IsStack}
 use Rattle.clap.specs.Words.{Row}
-use Rattle.compile_options.specs.declared.Options.{Options}
 use Rattle.call_words.specs.declared.read.WordsFault.{WordsFault}
 use Rattle.call_words.specs.declared.read.WordsFault.TheVariants as fault
 use Rattle.call_words.specs.declared.request.Command.{Command}
 use Rattle.call_words.specs.declared.request.Command.TheVariants.{Build, Run, Vm, Exec, Migrate, Assemble, Print}
-use Rattle.call_words.specs.declared.request.Request.{Request}
 use Rattle.call_words.specs.declared.request.OptionName.TheVariants.{Pass, Alloc, Stack, Budget, Seed, Size}
 use Rattle.call_words.specs.Line.{are_well, rows_in, command_in, file_in}
 use Rattle.call_words.specs.Options.{unless_given, options_in, pass_in, budget_in, limits_in}
@@ -60,10 +58,6 @@ request_in rows = with_file (file_in rows) (option_and_then (λ word. command_of
 -- options.
 unfoldable pub request_of : List (List ℕ) → Option (Command × List ℕ)
 request_of words = if are_well words then request_in (rows_in words) else None
-
--- a request of the code, as such a pair
-abbrev pub shown_request : Option Request → Option (Command × List ℕ)
-shown_request = option_map (λ r. (r.command, r.file.now))
 
 -- why the words are not read
 abbrev pub IsWordsFault : List (List ℕ) → WordsFault → Type 0

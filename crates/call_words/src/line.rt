@@ -120,7 +120,7 @@ pub(crate) fn matches_of<'a>(
 }
 
 /// The word in the place of the command.
-#[tactic(auto, using(crate::proofs::Gives::given))]
+#[tactic(auto, using(crate::proofs::Gives::given_first))]
 pub(crate) fn command_in<'a>(matches: &ArgMatches<'a>) -> Option<&'a str>
     ensures { option_map (λ s. s.now) result ≡ spec.command_in (rows_of (found_of matches.now)) }
 {
@@ -128,7 +128,7 @@ pub(crate) fn command_in<'a>(matches: &ArgMatches<'a>) -> Option<&'a str>
 }
 
 /// The word in the place of the file.
-#[tactic(auto, using(crate::proofs::Gives::given))]
+#[tactic(auto, using(crate::proofs::Gives::given_first))]
 pub(crate) fn file_in<'a>(matches: &ArgMatches<'a>) -> Option<&'a str>
     ensures { option_map (λ s. s.now) result ≡ spec.file_in (rows_of (found_of matches.now)) }
 {

@@ -6,10 +6,7 @@ ghost use Rattle.std.specs.List.{list_all};
 ghost use Rattle.alpha_isa.specs.Behave.{IsStack};
 ghost use Rattle.call_words.specs.Numbers as spec;
 
-/// The least and the greatest stack, in bytes.
-const LEAST_STACK: u64 = 4_096;
-
-const MOST_STACK: u64 = 268_435_456;
+use alpha_isa::limits::{LEAST_STACK, MOST_STACK};
 
 /// The least and the greatest budget.
 const LEAST_BUDGET: u64 = 1;

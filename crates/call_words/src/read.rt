@@ -3,6 +3,7 @@
 ghost use Rattle.std.specs.Prelude.{◌≡◌, IfOk, IfErr, IfSome, Some, None, map, string_bytes};
 ghost use Rattle.clap.specs.Words.{found_of, rows_of};
 ghost use Rattle.call_words.specs.Request as spec;
+ghost use Rattle.call_words.specs.model.Matches.{shown_request};
 
 use crate::line::{command_in, file_in, matches_of};
 use crate::options::{budget_in, gives_none, limits_in, options_in, pass_in};
@@ -146,7 +147,7 @@ fn command_of(word: &str, matches: &ArgMatches<'_>) -> Option<Command>
 
 /// The request of what the words give.
 fn request_in<'a>(matches: &ArgMatches<'a>) -> Option<Request<'a>>
-    ensures value { spec.shown_request result ≡ spec.request_in (rows_of (found_of matches.now)) }
+    ensures value { shown_request result ≡ spec.request_in (rows_of (found_of matches.now)) }
     ensures stack { IfSome result (λ r. spec.HasStack r.command) }
 {
     let command = command_of(command_in(matches)?, matches)?;
@@ -173,7 +174,7 @@ fn asked_by<'a>(matches: &ArgMatches<'a>) -> Result<Request<'a>, WordsFault>
 ///
 /// [`WordsFault::Usage`] comes exactly where they are none that the compiler takes, unless memory is short, and
 /// [`WordsFault::NoMemory`] only where it is.
-#[tactic(auto, using(crate::proofs::Asked::refused))]
+#[tactic(auto, using(crate::proofs::Asked::refused_words))]
 pub fn read_words(alloc: Global, words: &[String]) -> Result<Request<'_>, WordsFault>
     ensures request { IfOk result (λ r. spec.request_of (map string_bytes words.now) ≡ Some (r.command, r.file.now)) }
     ensures stack { IfOk result (λ r. spec.HasStack r.command) }

@@ -14,7 +14,7 @@ use Rattle.pass_core.specs.Insns.{InsnLaws}
 use Rattle.suifvm_ir.specs.Functions.{AllInsns, GoesToBlocks, IsStraight, EndsLate, front_of, last_of, stops, block_stops, insn_stops, successors_after, successors_of, count_of, insn_in, UsesRegisters}
 use Rattle.cfg.specs.Edges.{successors_from, edge_count}
 use Rattle.cfg.specs.Walks.{zero_targets, block_at, SameWalks}
-use Rattle.cfg.specs.Paths.{Reached, IsEntry, Follows, AllReached}
+use Rattle.cfg.specs.Paths.{IsReachable, IsEntry, Follows, AllReached}
 use Rattle.cfg.specs.Contents.{is_no_jump, contents, KeepsBlocks, KeepsBack}
 use Rattle.cfg.specs.Measures.{measure_of, NoMeasureGrows}
 use Rattle.cfg.specs.model.Search.{marked_count}
@@ -164,8 +164,8 @@ module _ {I : Type 0} (targets : I → List ℕ) (flows_on : I → Bool) where
 -- the marks of a function's blocks tell to which a path leads
 pub record Tells {I : Type 0} (targets : I → List ℕ) (flows_on : I → Bool) (f : List (List I)) (marks : List Bool) : Type 0 where
   pub count : length marks ≡ length f
-  pub only : (b : ℕ) → IsMarkedAt marks b → Reached (successors_from targets flows_on 0 f) b
-  pub all : (b : ℕ) → b < length f → Reached (successors_from targets flows_on 0 f) b → IsMarkedAt marks b
+  pub only : (b : ℕ) → IsMarkedAt marks b → IsReachable (successors_from targets flows_on 0 f) b
+  pub all : (b : ℕ) → b < length f → IsReachable (successors_from targets flows_on 0 f) b → IsMarkedAt marks b
 
 module _ {I : Type 0} (reads writes targets : I → List ℕ) (with_target : I → ℕ → ℕ → I) (jump_to : ℕ → I) (flows_on traps : I → Bool) (laws : InsnLaws reads writes targets with_target jump_to flows_on traps) (f : List (List I)) (goes : AllInsns (GoesToBlocks targets (length f)) f) (straight : All (EndsLate targets flows_on) f) (ends : IsTrue (stops flows_on f)) (marks : List Bool) (tells : Tells targets flows_on f marks) (numbers : List ℕ) (numbers_are : numbers ≡ map (number_in marks) (range_with_len 0 (length marks))) where
   abbrev M : ℕ → Type 0
@@ -284,7 +284,7 @@ module _ {I : Type 0} (reads writes targets : I → List ℕ) (with_target : I �
       (sym (ap last_of (kept_block b m) ∙ last_map (block_at f b)))
       (after_kept b next (last_of (block_at f b)) m (closed b next m c) c)
 
-  reached_kept : (b : ℕ) → Reached (successors_from targets flows_on 0 f) b → Reached (successors_from targets flows_on 0 g) (number_in marks b)
+  reached_kept : (b : ℕ) → IsReachable (successors_from targets flows_on 0 f) b → IsReachable (successors_from targets flows_on 0 g) (number_in marks b)
   reached_kept _ IsEntry = IsEntry
   reached_kept _ (Follows {block = block} next nexts before get c) =
       let below : block < length f = omega (arith, slice_get_within (successors_from targets flows_on 0 f) block nexts get, length-successors targets flows_on 0 f) in
@@ -299,7 +299,7 @@ module _ {I : Type 0} (reads writes targets : I → List ℕ) (with_target : I �
   pub kept_reached : AllReached targets flows_on g
   kept_reached c below =
       let was = kept_was marks c (omega (arith, length_g)) in
-      subst (λ n. Reached (successors_from targets flows_on 0 g) n) was.is (reached_kept was.block (tells.only was.block was.marked))
+      subst (λ n. IsReachable (successors_from targets flows_on 0 g) n) was.is (reached_kept was.block (tells.only was.block was.marked))
 
   -- what holds of the marked blocks with other numbers holds of all that are left
   each_block : (P : List I → Type 0) → ((b : ℕ) → M b → P (map ren (block_at f b))) → All P g
@@ -550,14 +550,14 @@ module _ {I : Type 0} (reads writes targets : I → List ℕ) (with_target : I �
 
 -- the blocks that the search marks, with other numbers, are the reached part
 module _ {I : Type 0} (reads writes targets : I → List ℕ) (with_target : I → ℕ → ℕ → I) (jump_to : ℕ → I) (flows_on traps : I → Bool) (laws : InsnLaws reads writes targets with_target jump_to flows_on traps) where
-  pub told : (f blocks : List (List I)) (shown followers : List (List ℕ)) (marks slice : List Bool) → blocks ≡ f → followers ≡ successors_from targets flows_on 0 blocks → shown ≡ followers → slice ≡ marks → length marks ≡ length shown → ((b : ℕ) → IsMarkedAt marks b → Reached shown b) → ((b : ℕ) → b < length shown → Reached shown b → IsMarkedAt marks b) → Tells targets flows_on f slice
-  told f blocks shown followers marks slice blocks_are followers_are shown_is slice_is count only all =
+  pub told_part : (f blocks : List (List I)) (shown followers : List (List ℕ)) (marks slice : List Bool) → blocks ≡ f → followers ≡ successors_from targets flows_on 0 blocks → shown ≡ followers → slice ≡ marks → length marks ≡ length shown → ((b : ℕ) → IsMarkedAt marks b → IsReachable shown b) → ((b : ℕ) → b < length shown → IsReachable shown b → IsMarkedAt marks b) → Tells targets flows_on f slice
+  told_part f blocks shown followers marks slice blocks_are followers_are shown_is slice_is count only all =
       let shown_all : shown ≡ successors_from targets flows_on 0 f = shown_is ∙ followers_are ∙ ap (successors_from targets flows_on 0) blocks_are in
       let long : length shown ≡ length f = ap length shown_all ∙ length-successors targets flows_on 0 f in
       record {
         count = ap length slice_is ∙ count ∙ long;
-        only = λ b m. subst (λ ns. Reached ns b) shown_all (only b (subst (λ ms. IsMarkedAt ms b) slice_is m));
-        all = λ b below reached. subst (λ ms. IsMarkedAt ms b) (sym slice_is) (all b (omega (arith, long)) (subst (λ ns. Reached ns b) (sym shown_all) reached));
+        only = λ b m. subst (λ ns. IsReachable ns b) shown_all (only b (subst (λ ms. IsMarkedAt ms b) slice_is m));
+        all = λ b below reached. subst (λ ms. IsMarkedAt ms b) (sym slice_is) (all b (omega (arith, long)) (subst (λ ns. IsReachable ns b) (sym shown_all) reached));
       }
 
   pub part : (f : List (List I)) (marks counted : List Bool) (numbers slice : List ℕ) (g : List (List I)) → AllInsns (GoesToBlocks targets (length f)) f → All (EndsLate targets flows_on) f → IsTrue (stops flows_on f) → Tells targets flows_on f marks → counted ≡ marks → numbers ≡ map (number_in counted) (range_with_len 0 (length counted)) → slice ≡ numbers → g ≡ map (map (renumber targets with_target slice)) (marked_of marks f) → IsReachedPart reads writes targets with_target flows_on f g

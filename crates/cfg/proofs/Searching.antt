@@ -6,8 +6,8 @@ use Rattle.std.proofs.lemmas.Option.{slice_get_within, get_or_from_slice_get, sl
 use Rattle.std.proofs.lemmas.List.{get_or_append_left, get_or_default, take_more}
 use Rattle.std.proofs.lemmas.List.Elements.{Contains-append_left, Contains-push}
 use Rattle.std.proofs.Math.Seq.{get_or-append_seam}
-use Rattle.cfg.specs.Paths.{Reached, IsEntry, Follows}
-use Rattle.cfg.specs.model.Search.{Search, searching, marked_count, is_unmarked, marked_too, visit, visit_all}
+use Rattle.cfg.specs.Paths.{IsReachable, IsEntry, Follows}
+use Rattle.cfg.specs.model.Search.{Search, search_of, marked_count, is_unmarked, marked_too, visit, visit_all}
 
 unmarked_is : (o : Option Bool) → is_unmarked o ≡ true → o ≡ Some false
 unmarked_is None h = let clash : ⊥ = cc in absurd clash
@@ -68,12 +68,12 @@ length_none : (n : ℕ) → length (replicate n false) ≡ n
 length_none zero = refl
 length_none (suc n) = ap suc (length_none n)
 
-abbrev pub Marked : Search → ℕ → Type 0
-Marked s b = slice_get s.marks b ≡ Some true
+abbrev pub IsMarkedIn : Search → ℕ → Type 0
+IsMarkedIn s b = slice_get s.marks b ≡ Some true
 
 -- what a visit leaves of what was so before
 record Grows (s t : Search) : Type 0 where
-  marks : (b : ℕ) → Marked s b → Marked t b
+  marks : (b : ℕ) → IsMarkedIn s b → IsMarkedIn t b
   found : (k : ℕ) → k < length s.found → get_or t.found k 0 ≡ get_or s.found k 0
   longer : length s.found ≤ length t.found
   count : length t.marks ≡ length s.marks
@@ -106,27 +106,27 @@ visit_grows s b = by_visit s b (Grows s)
     })
     (λ old. grows_same s)
 
-visit_marks : (s : Search) (b : ℕ) → b < length s.marks → Marked (visit s b) b
-visit_marks s b below = by_visit s b (λ t. Marked t b) (λ new. set_same s.marks b new) (λ old. is_marked s.marks b below old)
+visit_marks : (s : Search) (b : ℕ) → b < length s.marks → IsMarkedIn (visit s b) b
+visit_marks s b below = by_visit s b (λ t. IsMarkedIn t b) (λ new. set_same s.marks b new) (λ old. is_marked s.marks b below old)
 
 -- what is found is what is marked, and a path leads to it
 pub record IsSound (followers : List (List ℕ)) (s : Search) : Type 0 where
   pub count : length s.marks ≡ length followers
   pub total : marked_count s.marks ≡ length s.found
-  pub listed : (b : ℕ) → Marked s b → Contains s.found b
-  pub marked : (k : ℕ) → k < length s.found → Marked s (get_or s.found k 0)
-  pub reached : (b : ℕ) → Marked s b → Reached followers b
+  pub listed : (b : ℕ) → IsMarkedIn s b → Contains s.found b
+  pub marked : (k : ℕ) → k < length s.found → IsMarkedIn s (get_or s.found k 0)
+  pub reached : (b : ℕ) → IsMarkedIn s b → IsReachable followers b
 
-found_marked : (s : Search) (b k : ℕ) → slice_get s.marks b ≡ Some false → ((j : ℕ) → j < length s.found → Marked s (get_or s.found j 0)) → k < length (s.found ++ b ∷ []) → Marked (marked_too s b) (get_or (s.found ++ b ∷ []) k 0)
+found_marked : (s : Search) (b k : ℕ) → slice_get s.marks b ≡ Some false → ((j : ℕ) → j < length s.found → IsMarkedIn s (get_or s.found j 0)) → k < length (s.found ++ b ∷ []) → IsMarkedIn (marked_too s b) (get_or (s.found ++ b ∷ []) k 0)
 found_marked s b k new before below = elim (cases_lt k (length s.found)) [
-  | inl low ↦ subst (λ x. Marked (marked_too s b) x) (sym (get_or_append_left s.found (b ∷ []) 0 k low)) (set_keeps s.marks b (get_or s.found k 0) (before k low))
+  | inl low ↦ subst (λ x. IsMarkedIn (marked_too s b) x) (sym (get_or_append_left s.found (b ∷ []) 0 k low)) (set_keeps s.marks b (get_or s.found k 0) (before k low))
   | inr high ↦
       let last : length s.found ≡ k = omega (arith, length-append s.found (b ∷ [])) in
       let is : get_or (s.found ++ b ∷ []) k 0 ≡ b = ap (λ j. get_or (s.found ++ b ∷ []) j 0) (sym last) ∙ get_or-append_seam s.found b [] 0 in
-      subst (λ x. Marked (marked_too s b) x) (sym is) (set_same s.marks b new)
+      subst (λ x. IsMarkedIn (marked_too s b) x) (sym is) (set_same s.marks b new)
 ]
 
-visit_sound : (followers : List (List ℕ)) (s : Search) (b : ℕ) → IsSound followers s → (b < length followers → Reached followers b) → IsSound followers (visit s b)
+visit_sound : (followers : List (List ℕ)) (s : Search) (b : ℕ) → IsSound followers s → (b < length followers → IsReachable followers b) → IsSound followers (visit s b)
 visit_sound followers s b sound leads = by_visit s b (IsSound followers)
     (λ new. record {
       count = length-set s.marks b true ∙ sound.count;
@@ -137,7 +137,7 @@ visit_sound followers s b sound leads = by_visit s b (IsSound followers)
       ];
       marked = λ k below. found_marked s b k new sound.marked below;
       reached = λ k m. elim (set_only s.marks b k m) [
-        | inl same ↦ subst (λ x. Reached followers x) same (leads (omega (arith, slice_get_within s.marks b false new, sound.count)))
+        | inl same ↦ subst (λ x. IsReachable followers x) same (leads (omega (arith, slice_get_within s.marks b false new, sound.count)))
         | inr before ↦ sound.reached k before
       ];
     })
@@ -153,34 +153,34 @@ all_grows : (bs : List ℕ) (s : Search) → Grows s (visit_all s bs)
 all_grows [] s = grows_same s
 all_grows (b ∷ bs) s = grows_on s (visit s b) (visit_all (visit s b) bs) (visit_grows s b) (all_grows bs (visit s b))
 
-all_sound : (followers : List (List ℕ)) (bs : List ℕ) (s : Search) → IsSound followers s → ((b : ℕ) → Contains bs b → b < length followers → Reached followers b) → IsSound followers (visit_all s bs)
+all_sound : (followers : List (List ℕ)) (bs : List ℕ) (s : Search) → IsSound followers s → ((b : ℕ) → Contains bs b → b < length followers → IsReachable followers b) → IsSound followers (visit_all s bs)
 all_sound followers [] s sound leads = sound
 all_sound followers (b ∷ bs) s sound leads =
     all_sound followers bs (visit s b) (visit_sound followers s b sound (leads b (head_in b bs))) (λ x c. leads x (tail_in b bs x c))
 
-all_marks : (bs : List ℕ) (s : Search) (k x : ℕ) → k < length bs → get_or bs k x ≡ x → x < length s.marks → Marked (visit_all s bs) x
+all_marks : (bs : List ℕ) (s : Search) (k x : ℕ) → k < length bs → get_or bs k x ≡ x → x < length s.marks → IsMarkedIn (visit_all s bs) x
 all_marks [] s k x below is within = absurd (omega arith)
 all_marks (b ∷ bs) s zero x below is within =
-    (all_grows bs (visit s b)).marks x (subst (λ y. Marked (visit s b) y) is (visit_marks s b (subst (λ y. y < length s.marks) (sym is) within)))
+    (all_grows bs (visit s b)).marks x (subst (λ y. IsMarkedIn (visit s b) y) is (visit_marks s b (subst (λ y. y < length s.marks) (sym is) within)))
 all_marks (b ∷ bs) s (suc k) x below is within =
     all_marks bs (visit s b) k x (omega arith) is (omega (arith, (visit_grows s b).count))
 
 -- what follows the blocks that were found first, so many of them, is marked
-abbrev pub Followed : List (List ℕ) → Search → ℕ → Type 0
-Followed followers s at =
-    (k : ℕ) → k < at → (b : ℕ) → Contains (get_or followers (get_or s.found k 0) []) b → b < length followers → Marked s b
+abbrev pub FollowersAreMarked : List (List ℕ) → Search → ℕ → Type 0
+FollowersAreMarked followers s at =
+    (k : ℕ) → k < at → (b : ℕ) → Contains (get_or followers (get_or s.found k 0) []) b → b < length followers → IsMarkedIn s b
 
 -- the search so far: what follows these blocks has been visited
-pub record Searched (followers : List (List ℕ)) (s : Search) (at : ℕ) : Type 0 where
+pub record IsSearched (followers : List (List ℕ)) (s : Search) (at : ℕ) : Type 0 where
   pub sound : IsSound followers s
-  pub followed : Followed followers s at
+  pub followed : FollowersAreMarked followers s at
   pub reached : at ≤ length s.found
-  pub entry : 0 < length followers → Marked s 0
+  pub entry : 0 < length followers → IsMarkedIn s 0
 
 -- its begin
-pub search_first : (followers : List (List ℕ)) (s : Search) → s ≡ visit (searching (replicate (length followers) false) []) 0 → Searched followers s 0
+pub search_first : (followers : List (List ℕ)) (s : Search) → s ≡ visit (search_of (replicate (length followers) false) []) 0 → IsSearched followers s 0
 search_first followers s is =
-    let start : Search = searching (replicate (length followers) false) [] in
+    let start : Search = search_of (replicate (length followers) false) [] in
     let begin : IsSound followers start = record {
       count = length_none (length followers);
       total = count_none (length followers);
@@ -188,7 +188,7 @@ search_first followers s is =
       marked = λ k below. absurd (omega arith);
       reached = λ b m. absurd (none_marked (length followers) b m);
     } in
-    subst (λ t. Searched followers t 0) (sym is) (record {
+    subst (λ t. IsSearched followers t 0) (sym is) (record {
       sound = visit_sound followers start 0 begin (λ below. IsEntry);
       followed = λ k below. absurd (omega arith);
       reached = omega arith;
@@ -196,19 +196,19 @@ search_first followers s is =
     })
 
 -- a block that was found is there
-pub found_within : (followers : List (List ℕ)) (s : Search) (at : ℕ) → Searched followers s at → at < length s.found → get_or s.found at 0 < length followers
+pub found_within : (followers : List (List ℕ)) (s : Search) (at : ℕ) → IsSearched followers s at → at < length s.found → get_or s.found at 0 < length followers
 found_within followers s at so below =
     omega (arith, slice_get_within s.marks (get_or s.found at 0) true (so.sound.marked at below), so.sound.count)
 
 -- one block more
-pub search_more : (followers : List (List ℕ)) (s t : Search) (at : ℕ) (nexts : List ℕ) → Searched followers s at → at < length s.found → nexts ≡ get_or followers (get_or s.found at 0) [] → t ≡ visit_all s nexts → Searched followers t (at + 1)
+pub search_more : (followers : List (List ℕ)) (s t : Search) (at : ℕ) (nexts : List ℕ) → IsSearched followers s at → at < length s.found → nexts ≡ get_or followers (get_or s.found at 0) [] → t ≡ visit_all s nexts → IsSearched followers t (at + 1)
 search_more followers s t at nexts so below nexts_is is =
     let block : ℕ = get_or s.found at 0 in
     let within : block < length followers = found_within followers s at so below in
     let grows : Grows s (visit_all s nexts) = all_grows nexts s in
-    let leads : (b : ℕ) → Contains nexts b → b < length followers → Reached followers b =
+    let leads : (b : ℕ) → Contains nexts b → b < length followers → IsReachable followers b =
     λ b c low. Follows b nexts (so.sound.reached block (so.sound.marked at below)) (slice_get-get_or followers block [] within ∙ ap Some (sym nexts_is)) c in
-    subst (λ u. Searched followers u (at + 1)) (sym is) (record {
+    subst (λ u. IsSearched followers u (at + 1)) (sym is) (record {
       sound = all_sound followers nexts s so.sound leads;
       followed = λ k low b c inside. elim (cases_lt k at) [
         | inl early ↦ grows.marks b (so.followed k early b (subst (λ x. Contains (get_or followers x []) b) (grows.found k (omega arith)) c) inside)
@@ -223,7 +223,7 @@ search_more followers s t at nexts so below nexts_is is =
     })
 
 -- its end: no block was found that was not followed
-pub search_all : (followers : List (List ℕ)) (s : Search) (at : ℕ) → Searched followers s at → length s.found ≤ at → (b : ℕ) → b < length followers → Reached followers b → Marked s b
+pub search_all : (followers : List (List ℕ)) (s : Search) (at : ℕ) → IsSearched followers s at → length s.found ≤ at → (b : ℕ) → b < length followers → IsReachable followers b → IsMarkedIn s b
 search_all followers s at so past b within IsEntry = so.entry within
 search_all followers s at so past b within (Follows next nexts before get among) =
     let inside : _ < length followers = slice_get_within followers _ nexts get in
@@ -233,10 +233,10 @@ search_all followers s at so past b within (Follows next nexts before get among)
     so.followed found.0 (omega (arith, found.1)) b (subst (λ ns. Contains ns b) (sym is) among) within
 
 -- as many blocks were found as there are at most
-pub found_most : (followers : List (List ℕ)) (s : Search) (at : ℕ) → Searched followers s at → length s.found ≤ length followers
+pub found_most : (followers : List (List ℕ)) (s : Search) (at : ℕ) → IsSearched followers s at → length s.found ≤ length followers
 found_most followers s at so = omega (arith, count_most s.marks, so.sound.total, so.sound.count)
 
-pub search_only : (followers : List (List ℕ)) (s : Search) (at : ℕ) → Searched followers s at → (b : ℕ) → Marked s b → Reached followers b
+pub search_only : (followers : List (List ℕ)) (s : Search) (at : ℕ) → IsSearched followers s at → (b : ℕ) → IsMarkedIn s b → IsReachable followers b
 search_only followers s at so b m = so.sound.reached b m
 
 -- one visit more
@@ -249,15 +249,15 @@ visits_more s t u bs at before below is =
     is ∙ ap (λ x. visit x (get_or bs at 0)) before ∙ sym (visits_push (take at bs) s (get_or bs at 0)) ∙ ap (visit_all s) (sym (take_more bs at 0 below))
 
 -- the same in the words of the code
-pub search_begin : (followers : List (List ℕ)) (marks : List Bool) (found : List ℕ) (s : Search) → marks ≡ replicate (length followers) false → found ≡ [] → s ≡ visit (searching marks found) 0 → Searched followers s 0
+pub search_begin : (followers : List (List ℕ)) (marks : List Bool) (found : List ℕ) (s : Search) → marks ≡ replicate (length followers) false → found ≡ [] → s ≡ visit (search_of marks found) 0 → IsSearched followers s 0
 search_begin followers marks found s marks_are none is =
-    search_first followers s (is ∙ ap (λ ms. visit (searching ms found) 0) marks_are ∙ ap (λ bs. visit (searching (replicate (length followers) false) bs) 0) none)
+    search_first followers s (is ∙ ap (λ ms. visit (search_of ms found) 0) marks_are ∙ ap (λ bs. visit (search_of (replicate (length followers) false) bs) 0) none)
 
-pub next_within : (followers : List (List ℕ)) (s : Search) (at block : ℕ) → Searched followers s at → at < length s.found → block ≡ get_or s.found at 0 → block < length followers
+pub next_within : (followers : List (List ℕ)) (s : Search) (at block : ℕ) → IsSearched followers s at → at < length s.found → block ≡ get_or s.found at 0 → block < length followers
 next_within followers s at block so below is =
     subst (λ b. b < length followers) (sym is) (found_within followers s at so below)
 
-pub search_turn : (followers : List (List ℕ)) (s t : Search) (at block : ℕ) (row nexts : List ℕ) → Searched followers s at → at < length s.found → block ≡ get_or s.found at 0 → row ≡ get_or followers block row → nexts ≡ row → t ≡ visit_all s nexts → Searched followers t (at + 1)
+pub search_turn : (followers : List (List ℕ)) (s t : Search) (at block : ℕ) (row nexts : List ℕ) → IsSearched followers s at → at < length s.found → block ≡ get_or s.found at 0 → row ≡ get_or followers block row → nexts ≡ row → t ≡ visit_all s nexts → IsSearched followers t (at + 1)
 search_turn followers s t at block row nexts so below block_is row_is nexts_is is =
     let read : row ≡ get_or followers (get_or s.found at 0) [] =
     row_is ∙ get_or_default followers block row [] (next_within followers s at block so below block_is) ∙ ap (λ b. get_or followers b []) block_is in

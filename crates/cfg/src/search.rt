@@ -1,8 +1,8 @@
 //! The blocks to which a path leads from block 0.
 
 ghost use Rattle.std.specs.Prelude.{◌≡◌, ◌<◌, ◌^◌, ℕ, true, false, [], ◌∷◌, ◌++◌, length, slice_get, Some, replicate, OnOk, IfOk};
-ghost use Rattle.cfg.specs.Paths.{Reached};
-ghost use Rattle.cfg.specs.model.Search.{searching, visit, visit_all, is_unmarked};
+ghost use Rattle.cfg.specs.Paths.{IsReachable};
+ghost use Rattle.cfg.specs.model.Search.{search_of, visit, visit_all, is_unmarked};
 
 use c_tree::Seq;
 use std::alloc::{AllocError, Global};
@@ -19,7 +19,7 @@ fn is_unmarked(marks: &[bool], block: u32) -> bool
 
 /// Marks a block and puts it behind those found before, if it has no mark yet.
 fn visit(marks: &mut [bool], found: &mut Seq<u32>, block: u32) -> Result<(), AllocError>
-    ensures { OnOk result (searching marks.new found.new ≡ visit (searching marks.old found.old) block) }
+    ensures { OnOk result (search_of marks.new found.new ≡ visit (search_of marks.old found.old) block) }
 {
     if !is_unmarked(marks, block) {
         return Ok(());
@@ -30,7 +30,7 @@ fn visit(marks: &mut [bool], found: &mut Seq<u32>, block: u32) -> Result<(), All
 
 /// Marks blocks and puts those that had no mark behind those found before.
 fn visit_all(marks: &mut [bool], found: &mut Seq<u32>, blocks: &[u32]) -> Result<(), AllocError>
-    ensures { OnOk result (searching marks.new found.new ≡ visit_all (searching marks.old found.old) blocks.now) }
+    ensures { OnOk result (search_of marks.new found.new ≡ visit_all (search_of marks.old found.old) blocks.now) }
 {
     for block in blocks {
         visit(marks, found, *block)?;
@@ -52,8 +52,8 @@ fn search(marks: &mut [bool], alloc: Global, followers: &[Seq<u32>]) -> Result<(
     requires many { length followers.now < 2 ^ 32 }
     requires none { marks.old ≡ replicate (length followers.now) false }
     ensures count { length marks.new ≡ length marks.old }
-    ensures only { OnOk result ((block : ℕ) → slice_get marks.new block ≡ Some true → Reached followers.now block) }
-    ensures all { OnOk result ((block : ℕ) → block < length followers.now → Reached followers.now block →
+    ensures only { OnOk result ((block : ℕ) → slice_get marks.new block ≡ Some true → IsReachable followers.now block) }
+    ensures all { OnOk result ((block : ℕ) → block < length followers.now → IsReachable followers.now block →
         slice_get marks.new block ≡ Some true) }
 {
     let mut found = Seq::new(alloc);
@@ -73,8 +73,8 @@ pub(crate) fn reached_marks(alloc: Global, followers: &[Seq<u32>]) -> Result<Vec
     requires { length followers.now < 2 ^ 32 }
     ensures count { IfOk result (λ marks. length marks.items ≡ length followers.now) }
     ensures only { IfOk result (λ marks.
-        (block : ℕ) → slice_get marks.items block ≡ Some true → Reached followers.now block) }
-    ensures all { IfOk result (λ marks. (block : ℕ) → block < length followers.now → Reached followers.now block →
+        (block : ℕ) → slice_get marks.items block ≡ Some true → IsReachable followers.now block) }
+    ensures all { IfOk result (λ marks. (block : ℕ) → block < length followers.now → IsReachable followers.now block →
         slice_get marks.items block ≡ Some true) }
 {
     let mut marks = no_marks(alloc, followers.len())?;

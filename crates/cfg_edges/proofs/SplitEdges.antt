@@ -283,8 +283,8 @@ module _ {I : Type 0} (reads writes targets : I → List ℕ) (with_target : I �
       }
 
   -- what the code made of lists that are these
-  pub made : (succ pred : List (List ℕ)) (marks shown : List Bool) (made_numbers shown_numbers : List ℕ) (result : List (List I)) → succ ≡ followers → pred ≡ predecessors succ (length f) → marks ≡ map (is_split pred) succ → shown ≡ marks → made_numbers ≡ numbers_from 0 shown → shown_numbers ≡ made_numbers → result ≡ split_from targets with_target jump_to shown_numbers 0 shown f → IsSplitPart reads writes targets with_target jump_to flows_on f result
-  made succ pred marks shown made_numbers shown_numbers result succ_is pred_is marks_is shown_is numbers_are shown_numbers_are result_is =
+  pub made_blocks : (succ pred : List (List ℕ)) (marks shown : List Bool) (made_numbers shown_numbers : List ℕ) (result : List (List I)) → succ ≡ followers → pred ≡ predecessors succ (length f) → marks ≡ map (is_split pred) succ → shown ≡ marks → made_numbers ≡ numbers_from 0 shown → shown_numbers ≡ made_numbers → result ≡ split_from targets with_target jump_to shown_numbers 0 shown f → IsSplitPart reads writes targets with_target jump_to flows_on f result
+  made_blocks succ pred marks shown made_numbers shown_numbers result succ_is pred_is marks_is shown_is numbers_are shown_numbers_are result_is =
       let marked : shown ≡ splits =
       shown_is ∙ marks_is ∙ ap (λ p. map (is_split p) succ) pred_is ∙ ap (λ s. map (is_split (predecessors s (length f))) s) succ_is in
       let is : result ≡ g =

@@ -12,7 +12,7 @@ use Rattle.std.proofs.lemmas.List.{get_or-map as get_or_map}
 use Rattle.pass_core.specs.Insns.{InsnLaws}
 use Rattle.suifvm_ir.specs.Functions.{AllInsns, GoesToBlocks, IsStraight, EndsLate, UsesRegisters, front_of, last_of, stops, block_stops, insn_stops, insn_in, successors_after, successors_of}
 use Rattle.cfg.specs.Edges.{successors_from}
-use Rattle.cfg.specs.Paths.{Reached, IsEntry, Follows, AllReached, GoesBack}
+use Rattle.cfg.specs.Paths.{IsReachable, IsEntry, Follows, AllReached, GoesBack}
 use Rattle.cfg.specs.Walks.{zero_targets, block_at, SameWalks}
 use Rattle.cfg_edges.specs.model.Split.{places, numbers_from, pieces, split_from, to_one, target_after}
 use Rattle.cfg.specs.Renumber.{with_targets, renumber}
@@ -205,10 +205,10 @@ module _ {I : Type 0} (reads writes targets : I → List ℕ) (with_target : I �
   piece_within b at s is below inside =
       omega (arith, length_g, numbers_rise splits b (length f) below (omega (arith, count)), ap places is)
 
-  goes_to : (c to : ℕ) → c < length g → Reached (successors_from targets flows_on 0 g) c → Contains (successors_of targets flows_on c (block_at g c)) to → Reached (successors_from targets flows_on 0 g) to
+  goes_to : (c to : ℕ) → c < length g → IsReachable (successors_from targets flows_on 0 g) c → Contains (successors_of targets flows_on c (block_at g c)) to → IsReachable (successors_from targets flows_on 0 g) to
   goes_to c to below reached among = Follows to (successors_of targets flows_on c (block_at g c)) reached (followers_of targets flows_on g c below) among
 
-  jump_goes : (c v : ℕ) → c < length g → block_at g c ≡ jump_to v ∷ [] → Reached (successors_from targets flows_on 0 g) c → Reached (successors_from targets flows_on 0 g) v
+  jump_goes : (c v : ℕ) → c < length g → block_at g c ≡ jump_to v ∷ [] → IsReachable (successors_from targets flows_on 0 g) c → IsReachable (successors_from targets flows_on 0 g) v
   jump_goes c v below is reached =
       goes_to c v below reached
       (subst (λ xs. Contains (successors_of targets flows_on c xs) v) (sym is)
@@ -251,7 +251,7 @@ module _ {I : Type 0} (reads writes targets : I → List ℕ) (with_target : I �
   ]
 
   -- the two blocks behind one that is split
-  behind_reached : (b : ℕ) → get_or splits b false ≡ true → b < length f → Reached (successors_from targets flows_on 0 g) (number b) → Reached (successors_from targets flows_on 0 g) (suc (number b)) × Reached (successors_from targets flows_on 0 g) (number b + 2)
+  behind_reached : (b : ℕ) → get_or splits b false ≡ true → b < length f → IsReachable (successors_from targets flows_on 0 g) (number b) → IsReachable (successors_from targets flows_on 0 g) (suc (number b)) × IsReachable (successors_from targets flows_on 0 g) (number b + 2)
   behind_reached b is below reached =
       let branch = branches b is in
       let i : I = branch.insn in
@@ -271,7 +271,7 @@ module _ {I : Type 0} (reads writes targets : I → List ℕ) (with_target : I �
       )
 
   -- an edge of before is a path
-  edge_kept : (b t : ℕ) (s : Bool) → get_or splits b false ≡ s → b < length f → Contains (successors_of targets flows_on b (block_at f b)) t → Reached (successors_from targets flows_on 0 g) (number b) → Reached (successors_from targets flows_on 0 g) (number t)
+  edge_kept : (b t : ℕ) (s : Bool) → get_or splits b false ≡ s → b < length f → Contains (successors_of targets flows_on b (block_at f b)) t → IsReachable (successors_from targets flows_on 0 g) (number b) → IsReachable (successors_from targets flows_on 0 g) (number t)
   edge_kept b t false is below c reached =
       goes_to (number b) (number t) (omega (arith, piece_within b 0 false is below (omega arith))) reached
       (subst (λ o. Contains (successors_after targets flows_on (number b) o) (number t)) (sym (ap last_of (whole_at b is below) ∙ last_map ren (block_at f b)))
@@ -284,25 +284,25 @@ module _ {I : Type 0} (reads writes targets : I → List ℕ) (with_target : I �
         | inl target ↦
             let at : Contains (branch.target ∷ []) t = subst (λ ts. Contains ts t) branch.one target in
             let same : t ≡ branch.target = one_only targets flows_on branch.target t at.0 at.1 at.2 in
-            subst (λ x. Reached (successors_from targets flows_on 0 g) (number x)) (sym same)
+            subst (λ x. IsReachable (successors_from targets flows_on 0 g) (number x)) (sym same)
             (jump_goes (number b + 2) (number branch.target) (piece_within b 2 true is below (omega arith)) (target_at b is below) behind.1)
         | inr flow ↦
             let next = only_next (flows_on branch.insn) b t flow in
             let same : b + 1 ≡ t = omega (arith, next.1) in
-            subst (λ x. Reached (successors_from targets flows_on 0 g) (number x)) same
+            subst (λ x. IsReachable (successors_from targets flows_on 0 g) (number x)) same
             (jump_goes (suc (number b)) (number (b + 1)) (omega (arith, piece_within b 1 true is below (omega arith))) (fall_at b is below) behind.0)
       ]
 
-  reached_kept : (b : ℕ) → Reached (successors_from targets flows_on 0 f) b → Reached (successors_from targets flows_on 0 g) (number b)
-  reached_kept _ IsEntry = subst (λ n. Reached (successors_from targets flows_on 0 g) n) (sym (numbers_head 0 splits)) IsEntry
+  reached_kept : (b : ℕ) → IsReachable (successors_from targets flows_on 0 f) b → IsReachable (successors_from targets flows_on 0 g) (number b)
+  reached_kept _ IsEntry = subst (λ n. IsReachable (successors_from targets flows_on 0 g) n) (sym (numbers_head 0 splits)) IsEntry
   reached_kept _ (Follows {block = block} next nexts before get c) =
       let below : block < length f = omega (arith, slice_get_within (successors_from targets flows_on 0 f) block nexts get, length-successors targets flows_on 0 f) in
       let is : nexts ≡ successors_of targets flows_on block (block_at f block) = same_Some nexts (successors_of targets flows_on block (block_at f block)) (sym get ∙ followers_of targets flows_on f block below) in
       edge_kept block next (get_or splits block false) refl below (subst (λ ns. Contains ns next) is c) (reached_kept block before)
 
-  piece_reached : (b at : ℕ) (s : Bool) → get_or splits b false ≡ s → b < length f → at < places s → Reached (successors_from targets flows_on 0 g) (number b) → Reached (successors_from targets flows_on 0 g) (number b + at)
-  piece_reached b zero s is below inside reached = subst (λ n. Reached (successors_from targets flows_on 0 g) n) (let none : number b ≡ number b + 0 = omega arith in none) reached
-  piece_reached b (suc zero) true is below inside reached = subst (λ n. Reached (successors_from targets flows_on 0 g) n) (let one : suc (number b) ≡ number b + 1 = omega arith in one) (behind_reached b is below reached).0
+  piece_reached : (b at : ℕ) (s : Bool) → get_or splits b false ≡ s → b < length f → at < places s → IsReachable (successors_from targets flows_on 0 g) (number b) → IsReachable (successors_from targets flows_on 0 g) (number b + at)
+  piece_reached b zero s is below inside reached = subst (λ n. IsReachable (successors_from targets flows_on 0 g) n) (let none : number b ≡ number b + 0 = omega arith in none) reached
+  piece_reached b (suc zero) true is below inside reached = subst (λ n. IsReachable (successors_from targets flows_on 0 g) n) (let one : suc (number b) ≡ number b + 1 = omega arith in one) (behind_reached b is below reached).0
   piece_reached b (suc (suc zero)) true is below inside reached = (behind_reached b is below reached).1
   piece_reached b (suc (suc (suc at))) true is below inside reached = absurd (omega arith)
   piece_reached b (suc at) false is below inside reached = absurd (omega arith)
@@ -311,7 +311,7 @@ module _ {I : Type 0} (reads writes targets : I → List ℕ) (with_target : I �
   split_reached all c below =
       let piece = piece_of splits c (omega (arith, length_g, ap number count)) in
       let inside : piece.block < length f = omega (arith, piece.below, count) in
-      subst (λ n. Reached (successors_from targets flows_on 0 g) n) piece.is
+      subst (λ n. IsReachable (successors_from targets flows_on 0 g) n) piece.is
       (piece_reached piece.block piece.at (get_or splits piece.block false) refl inside piece.inside (reached_kept piece.block (all piece.block inside)))
 
   -- what stands at a number of the result

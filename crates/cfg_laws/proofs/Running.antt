@@ -33,12 +33,12 @@ module _ (rooms : Rooms) (fs gs : List FunctionCode) (same : (n : ℕ) → SameA
     Missing : (n own : ℕ) (rs : Registers) → slice_get fs n ≡ None → slice_get gs n ≡ None → SameFrame (frame n own rs 0 0) (frame n own rs 0 0)
 
   -- calls that wait at an instruction, and go on alike behind it
-  pub data Waiting : List (Frame Registers) → List (Frame Registers) → Type 0 where
-    NoCaller : Waiting [] []
-    Caller : {us ws : List (Frame Registers)} (n own : ℕ) (rs : Registers) (f g : FunctionCode) (b at c to : ℕ) (i : VmInsn) → slice_get fs n ≡ Some f → slice_get gs n ≡ Some g → Valid f.blocks → site_in_function b at (slice_get fs n) ≡ Some (insn_site i) → site_in_function c to (slice_get gs n) ≡ Some (insn_site i) → Stands f.blocks g.blocks b (suc at) c (suc to) → Waiting us ws → Waiting (frame n own rs b at ∷ us) (frame n own rs c to ∷ ws)
+  pub data SameCallers : List (Frame Registers) → List (Frame Registers) → Type 0 where
+    NoCaller : SameCallers [] []
+    Caller : {us ws : List (Frame Registers)} (n own : ℕ) (rs : Registers) (f g : FunctionCode) (b at c to : ℕ) (i : VmInsn) → slice_get fs n ≡ Some f → slice_get gs n ≡ Some g → Valid f.blocks → site_in_function b at (slice_get fs n) ≡ Some (insn_site i) → site_in_function c to (slice_get gs n) ≡ Some (insn_site i) → Stands f.blocks g.blocks b (suc at) c (suc to) → SameCallers us ws → SameCallers (frame n own rs b at ∷ us) (frame n own rs c to ∷ ws)
 
   pub data SameConfig : Config Registers → Config Registers → Type 0 where
-    Same : (a b : Frame Registers) (us ws : List (Frame Registers)) (w : World) → SameFrame a b → Waiting us ws → SameConfig (record { here = a; callers = us; world = w }) (record { here = b; callers = ws; world = w })
+    Same : (a b : Frame Registers) (us ws : List (Frame Registers)) (w : World) → SameFrame a b → SameCallers us ws → SameConfig (record { here = a; callers = us; world = w }) (record { here = b; callers = ws; world = w })
 
   pub data SameNext : Next Registers → Next Registers → Type 0 where
     BothGo : (k l : Config Registers) → SameConfig k l → SameNext (Goes k) (Goes l)
@@ -69,7 +69,7 @@ module _ (rooms : Rooms) (fs gs : List FunctionCode) (same : (n : ℕ) → SameA
   status_same at to w None = BothEnd (Undefined w at) (Undefined w to) (to, refl)
   status_same at to w (Some status) = BothEnd (Done w status) (Done w status) refl
 
-  return_same : (at to : ℕ) (vs : List Value) (w : World) (us ws : List (Frame Registers)) → Waiting us ws → SameNext (return_to Value Registers rooms first_code at vs w us) (return_to Value Registers rooms other_code to vs w ws)
+  return_same : (at to : ℕ) (vs : List Value) (w : World) (us ws : List (Frame Registers)) → SameCallers us ws → SameNext (return_to Value Registers rooms first_code at vs w us) (return_to Value Registers rooms other_code to vs w ws)
   return_same at to vs w _ _ NoCaller = status_same at to w (result_status vs)
   return_same at to vs w _ _ (Caller {us = us} {ws = ws} n own rs f g b p c q i is there valid here site stands waiting) =
       subst (λ o. SameNext (resume Value Registers rooms first_code (frame n own rs b p) us w vs o) (resume Value Registers rooms other_code (frame n own rs c q) ws w vs (site_in_function c q (slice_get gs n)))) (sym here)
@@ -81,7 +81,7 @@ module _ (rooms : Rooms) (fs gs : List FunctionCode) (same : (n : ℕ) → SameA
   stop_same (Traps code) at to w = BothEnd (Trap w code) (Trap w code) refl
   stop_same HasNoMeaning at to w = BothEnd (Undefined w at) (Undefined w to) (to, refl)
 
-  module _ (n own : ℕ) (rs : Registers) (f g : FunctionCode) (b at c to : ℕ) (us ws : List (Frame Registers)) (w : World) (is : slice_get fs n ≡ Some f) (there : slice_get gs n ≡ Some g) (valid : Valid f.blocks) (waiting : Waiting us ws) where
+  module _ (n own : ℕ) (rs : Registers) (f g : FunctionCode) (b at c to : ℕ) (us ws : List (Frame Registers)) (w : World) (is : slice_get fs n ≡ Some f) (there : slice_get gs n ≡ Some g) (valid : Valid f.blocks) (waiting : SameCallers us ws) where
     abbrev k : Config Registers
     k = config n own rs b at us w
 
@@ -139,7 +139,7 @@ module _ (rooms : Rooms) (fs gs : List FunctionCode) (same : (n : ℕ) → SameA
     runs : exec Value Registers rooms other_code steps l ≡ next
     alike : SameNext x next
 
-  module _ (n own : ℕ) (rs : Registers) (f g : FunctionCode) (b at c to : ℕ) (us ws : List (Frame Registers)) (w : World) (is : slice_get fs n ≡ Some f) (there : slice_get gs n ≡ Some g) (valid : Valid f.blocks) (stands : Stands f.blocks g.blocks b at c to) (waiting : Waiting us ws) where
+  module _ (n own : ℕ) (rs : Registers) (f g : FunctionCode) (b at c to : ℕ) (us ws : List (Frame Registers)) (w : World) (is : slice_get fs n ≡ Some f) (there : slice_get gs n ≡ Some g) (valid : Valid f.blocks) (stands : Stands f.blocks g.blocks b at c to) (waiting : SameCallers us ws) where
     -- the same instruction stands at both
     pair_step : (d place : ℕ) (i j : VmInsn) (rest ks : List VmInsn) → Pair i j → drop at (block_at f.blocks b) ≡ i ∷ rest → drop place (block_at g.blocks d) ≡ j ∷ ks → d < length g.blocks → Silent g.blocks c (drop to (block_at g.blocks c)) d (j ∷ ks) → Alike f.blocks g.blocks b (i ∷ rest) c (drop to (block_at g.blocks c)) → SameNext (step Value Registers rooms first_code (config n own rs b at us w)) (step Value Registers rooms other_code (config n own rs d place ws w))
     pair_step d place _ _ rest ks (SameInsn i none) here left inside silent alike =
@@ -213,7 +213,7 @@ module _ (rooms : Rooms) (fs gs : List FunctionCode) (same : (n : ℕ) → SameA
             (BothEnd (Undefined w (first_code.number k.here.point)) (Undefined w (other_code.number l.here.point)) (other_code.number l.here.point, refl));
       }
 
-  frame_step : (a b : Frame Registers) (us ws : List (Frame Registers)) (w : World) → SameFrame a b → Waiting us ws → After (step Value Registers rooms first_code (record { here = a; callers = us; world = w })) (record { here = b; callers = ws; world = w })
+  frame_step : (a b : Frame Registers) (us ws : List (Frame Registers)) (w : World) → SameFrame a b → SameCallers us ws → After (step Value Registers rooms first_code (record { here = a; callers = us; world = w })) (record { here = b; callers = ws; world = w })
   frame_step _ _ us ws w (Inside n own rs f g b at c to is there valid stands) waiting = rest_step n own rs f g b at c to us ws w is there valid stands waiting (drop at (block_at f.blocks b)) refl
   frame_step _ _ us ws w (Missing n own rs is there) waiting = missing_step n own rs us ws w is there
 

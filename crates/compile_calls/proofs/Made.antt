@@ -12,9 +12,9 @@ use Rattle.image_calls.specs.WriteImage.{WritesImage}
 use Rattle.compile_calls.specs.Build.{Builds}
 use Rattle.compile_calls.specs.Run.{Runs}
 use Rattle.compile_calls.specs.model.Images.{IsImageOfShortText, HasFileImage}
-use Rattle.compile_calls.proofs.Told.{Read, built_told}
+use Rattle.compile_calls.proofs.Told.{IsReadOf, built_told}
 
-pub image_told : (told : Option Shelf) (name text : List ℕ) (allocator : Allocator) (image : Program) → Read told name text → IsImageOfShortText text allocator image → HasFileImage (file_bytes told name) allocator image
+pub image_told : (told : Option Shelf) (name text : List ℕ) (allocator : Allocator) (image : Program) → IsReadOf told name text → IsImageOfShortText text allocator image → HasFileImage (file_bytes told name) allocator image
 image_told told name text allocator image front is = record {
   built = is.is.built;
   has = built_told told name text allocator is.is.built front (record { low = is.low; made = is.is.made; same = is.is.same });

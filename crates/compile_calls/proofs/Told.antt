@@ -12,27 +12,27 @@ use Rattle.compiler.specs.declared.built.Built.{Built}
 use Rattle.compile_calls.specs.Compile.{IsBuilt, HasBuilt, MakesNothing, HasHighTree, RefusesText}
 
 -- what was read of a file
-abbrev pub Read : Option Shelf → (name text : List ℕ) → Type 0
-Read told name text = IfSome told (λ shelf. IsFront 4194305 (file_of shelf name) text)
+abbrev pub IsReadOf : Option Shelf → (name text : List ℕ) → Type 0
+IsReadOf told name text = IfSome told (λ shelf. IsFront 4194305 (file_of shelf name) text)
 
 -- a fact of a text that is short enough
-carry : (P : List ℕ → Type 0) (told : Option Shelf) (name text : List ℕ) → length text ≤ 4194304 → Read told name text → P text → IfSome (file_bytes told name) P
+carry : (P : List ℕ → Type 0) (told : Option Shelf) (name text : List ℕ) → length text ≤ 4194304 → IsReadOf told name text → P text → IfSome (file_bytes told name) P
 carry P told name text low front p = short_told P 4194305 told name text (omega (arith, low)) front p
 
-pub built_told : (told : Option Shelf) (name text : List ℕ) (allocator : Allocator) (b : Built) → Read told name text → IsBuilt text allocator b → HasBuilt (file_bytes told name) allocator b
+pub built_told : (told : Option Shelf) (name text : List ℕ) (allocator : Allocator) (b : Built) → IsReadOf told name text → IsBuilt text allocator b → HasBuilt (file_bytes told name) allocator b
 built_told told name text allocator b front is = record { text = text; is_told = carry (λ t. t ≡ text) told name text is.low front refl; is_built = is }
 
 -- a text that is too long
-too_long : (counted : ℕ) (told : Option Shelf) (name text : List ℕ) → Read told name text → MakesNothing text (Limit Text counted) → IfSome (file_bytes told name) (λ t. MakesNothing t (Limit Text counted))
+too_long : (counted : ℕ) (told : Option Shelf) (name text : List ℕ) → IsReadOf told name text → MakesNothing text (Limit Text counted) → IfSome (file_bytes told name) (λ t. MakesNothing t (Limit Text counted))
 too_long counted told name text front n = long_told (λ t. MakesNothing t (Limit Text counted)) 4194305 told name text (λ file long. (omega (arith, long), n.1)) (omega (arith, n.0)) front
 
-limit_told : (told : Option Shelf) (name text : List ℕ) (which : Which) (counted : ℕ) → Read told name text → MakesNothing text (Limit which counted) → IfSome (file_bytes told name) (λ t. MakesNothing t (Limit which counted))
+limit_told : (told : Option Shelf) (name text : List ℕ) (which : Which) (counted : ℕ) → IsReadOf told name text → MakesNothing text (Limit which counted) → IfSome (file_bytes told name) (λ t. MakesNothing t (Limit which counted))
 limit_told told name text Text counted front n = too_long counted told name text front n
 limit_told told name text Nesting counted front n = carry (λ t. MakesNothing t (Limit Nesting counted)) told name text n.0 front n
 limit_told told name text Weight counted front n = carry (λ t. MakesNothing t (Limit Weight counted)) told name text n.0 front n
 limit_told told name text Data counted front n = carry (λ t. MakesNothing t (Limit Data counted)) told name text n.0 front n
 
-pub cause_told : (told : Option Shelf) (name text : List ℕ) (answer : Outcome) → Read told name text → IsCause (RefusesText (Some text)) answer → IsCause (RefusesText (file_bytes told name)) answer
+pub cause_told : (told : Option Shelf) (name text : List ℕ) (answer : Outcome) → IsReadOf told name text → IsCause (RefusesText (Some text)) answer → IsCause (RefusesText (file_bytes told name)) answer
 cause_told told name text FileFault front c = tt
 cause_told told name text NoMemory front (inl short) = inl short
 cause_told told name text NoMemory front (inr high) = inr (carry HasHighTree told name text high.0 front high)

@@ -24,8 +24,8 @@ use Rattle.compiler.specs.declared.built.AssemblyParts.{AssemblyParts}
 use Rattle.compiler.specs.declared.built.Built.{Built}
 use Rattle.compiler.specs.declared.built.CodeParts.{CodeParts}
 use Rattle.compiler.specs.declared.built.Parts.{Parts}
-use Rattle.compiler.specs.declared.built.Wanted.{Wanted}
-use Rattle.compiler.specs.declared.built.Wanted.TheVariants.{Everything, Image}
+use Rattle.compiler.specs.declared.built.WantedParts.{WantedParts}
+use Rattle.compiler.specs.declared.built.WantedParts.TheVariants.{Everything, Image}
 use Rattle.compiler.specs.Made.{Made}
 use Rattle.compiler.specs.Images.{IsImageOfText}
 use Rattle.compiler.specs.model.Parts.{UnitHasText, AreCodePartsOf, HasAllocations, AreAssemblyPartsOf, parts_of_built, PartsAreWhole, ArePartsOf}
@@ -96,7 +96,7 @@ whole text allocator p m = record { built = m.built; are = m.all refl }
 pub whole_made : (text : List ℕ) (allocator : Allocator) (p : Parts) (b : Built) → ArePartsOf text allocator Everything p → p ≡ parts_of_built b → Made text allocator b
 whole_made text allocator p b m is = subst (λ c. Made text allocator c) (same_built m.built b (sym (m.all refl) ∙ is)) m.made
 
-pub image_made : ImagesAreSame → (text : List ℕ) (allocator : Allocator) (wanted : Wanted) (p : Parts) → ArePartsOf text allocator wanted p → IsImageOfText text allocator p.image
+pub image_made : ImagesAreSame → (text : List ℕ) (allocator : Allocator) (wanted : WantedParts) (p : Parts) → ArePartsOf text allocator wanted p → IsImageOfText text allocator p.image
 image_made same text allocator wanted p m = record {
   built = m.built;
   made = m.made;
@@ -110,7 +110,7 @@ image_made same text allocator wanted p m = record {
 pub all_kept : (b : Built) (p : Parts) → p.unit ≡ Some b.unit → p.typed ≡ Some b.typed → p.vm ≡ Some b.vm → p.temps ≡ Some b.temps → p.allocations ≡ Some b.allocations → p.asm ≡ Some b.asm → p.image ≡ b.image → p ≡ parts_of_built b
 all_kept b p unit typed vm temps allocations asm image = λ i. record { unit = unit i; typed = typed i; vm = vm i; temps = temps i; allocations = allocations i; asm = asm i; image = image i }
 
-module _ (made : AssembliesAreMade) (allocator : Allocator) (wanted : Wanted) (unit : TranslationUnit) (typed : LawfulUnit) (vm : VmProgram) (temps : TempProgram) (code : IsCodeWithin typed.unit vm temps) (q : AssemblyParts)
+module _ (made : AssembliesAreMade) (allocator : Allocator) (wanted : WantedParts) (unit : TranslationUnit) (typed : LawfulUnit) (vm : VmProgram) (temps : TempProgram) (code : IsCodeWithin typed.unit vm temps) (q : AssemblyParts)
     (of : AreAssemblyPartsOf temps allocator wanted q) where
   assembly_of_unit : (text : List ℕ) → IsUnitWithin text unit typed.unit → IsAssemblyOfUnit typed.unit vm temps of.allocations.items q.asm
   assembly_of_unit text front = made text unit typed vm temps of.allocations.items q.asm front code of.are of.assembly

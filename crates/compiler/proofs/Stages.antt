@@ -33,7 +33,7 @@ use Rattle.program_rooms.specs.Words.{OnlyMemoryIsShort}
 use Rattle.program_rooms.specs.Assemblies.{whole_assembly}
 use Rattle.program_rooms.specs.Layouts.{FunctionsAreLaidOut}
 use Rattle.program_rooms.specs.Programs.{HasItemsOf, plans_of}
-use Rattle.program_rooms.specs.AssemblyLaws.{AssembliesAreWhole, AssembliesHavePrograms, ProgramsAreAllocated, placing_of}
+use Rattle.program_rooms.specs.AssemblyLaws.{AssembliesAreWhole, AssembliesHavePrograms, ProgramsAreAllocated, placement_of}
 use Rattle.compile_options.specs.declared.Allocator.{Allocator}
 use Rattle.front_end.specs.Units.{IsUnitWithin}
 use Rattle.compiler.specs.declared.built.Built.{Built}
@@ -135,8 +135,8 @@ assemblies_are_made keep selections prepared_fit have_frames fit_rooms fit near 
       selection = selections vm code.over_temps.selected temps code.over_temps.are_selected code.over_temps.prepared code.over_temps.same_globals code.over_temps.keeps;
       tidy = are_tidy code.over_temps.selected.functions temps.functions code.over_temps.prepared;
       allocated = are_allocated temps allocations (rooms_of u.unit) fits.code fits.fit prepared.split (fit_rooms u.unit temps allocations prepared are);
-      placing = placing_of temps.globals allocations made.finals;
-      items = subst (λ x. HasItemsOf x temps (plans_of allocations) (placing_of temps.globals allocations made.finals)) (sym made.is_gathered)
+      placing = placement_of temps.globals allocations made.finals;
+      items = subst (λ x. HasItemsOf x temps (plans_of allocations) (placement_of temps.globals allocations made.finals)) (sym made.is_gathered)
           (have_programs temps allocations made.finals fits.names (near temps allocations are prepared.near) made.laid_out);
       few_words = subst HasFewWords (sym made.is_gathered) (fit_images u.unit temps allocations made.finals front.light prepared are made.laid_out);
     }

@@ -17,7 +17,7 @@ use Rattle.cfg_edges.specs.Critical.{NoneCritical}
 use Rattle.alloc_model.specs.declared.allocation.Allocation.{Allocation}
 use Rattle.plain_programs.specs.Allocations.{AreAllocationsOf}
 use Rattle.plain_programs.specs.Plain.{ArePlainAllocationsOf}
-use Rattle.program_rooms.specs.Programs.{IsAllocated, HasItemsOf, Placing, plans_of}
+use Rattle.program_rooms.specs.Programs.{IsAllocated, HasItemsOf, ProgramPlacement, plans_of}
 use Rattle.compile_options.specs.declared.Allocator.{Allocator}
 use Rattle.compile_options.specs.declared.Allocator.TheVariants.{Plain}
 use Rattle.front_end.specs.Units.{IsUnitWithin}
@@ -55,7 +55,7 @@ pub record Made (text : List ℕ) (allocator : Allocator) (b : Built) : Type 0 w
   pub allocated : IsAllocated b.temps b.allocations.items (rooms_of b.typed.unit)
   -- the assembly: the start piece, the functions, the division routines, and the data
   pub whole : IsWhole b.asm
-  pub placing : Placing
+  pub placing : ProgramPlacement
   pub items : HasItemsOf b.asm b.temps (plans_of b.allocations.items) placing
   -- the image
   pub words : Words b.asm b.image

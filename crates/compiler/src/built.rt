@@ -32,21 +32,21 @@ pub struct Built {
 
 /// What is wanted of a text.
 #[derive(Clone, Copy, Debug, PartialEq, Eq)]
-pub(crate) enum Wanted {
+pub(crate) enum WantedParts {
     /// All that is made, pass by pass.
     Everything,
     /// The image alone.
     Image,
 }
 
-impl Wanted {
+impl WantedParts {
     /// What no pass reads any more is kept where everything is wanted, and else let go.
     pub(crate) fn keep<T: Drop>(self, value: T) -> Option<T>
-        ensures { self ≡ Wanted.Everything → result ≡ Some value }
+        ensures { self ≡ WantedParts.Everything → result ≡ Some value }
     {
         match self {
-            Wanted::Everything => Some(value),
-            Wanted::Image => None,
+            WantedParts::Everything => Some(value),
+            WantedParts::Image => None,
         }
     }
 }

@@ -6,7 +6,7 @@ ghost use Rattle.suifvm_ir.specs.Programs.{VmFunction, program_size};
 ghost use Rattle.compiler.specs.model.Parts.{AreCodePartsOf};
 ghost use Rattle.compiler.specs.model.Stages.{AreTempsOf};
 
-use crate::built::{CodeParts, Wanted};
+use crate::built::{CodeParts, WantedParts};
 use alpha_select::{select, select_in_turn};
 use c_lawful_unit::LawfulUnit;
 use lowering::{lower, lower_in_turn};
@@ -20,21 +20,21 @@ use temp_ir::program::TempProgram;
 pub(crate) fn code_parts(
     alloc: Global,
     typed: LawfulUnit,
-    wanted: Wanted,
+    wanted: WantedParts,
 ) -> Result<CodeParts, AllocError>
     requires { unit_weight typed.unit ≤ 131072 }
     ensures { IfOk result (AreCodePartsOf typed wanted) }
 {
     match wanted {
-        Wanted::Everything => all_code(alloc, typed),
-        Wanted::Image => code_alone(alloc, typed),
+        WantedParts::Everything => all_code(alloc, typed),
+        WantedParts::Image => code_alone(alloc, typed),
     }
 }
 
 /// The code of a unit over temporaries, the unit, and its code over virtual registers.
 fn all_code(alloc: Global, typed: LawfulUnit) -> Result<CodeParts, AllocError>
     requires { unit_weight typed.unit ≤ 131072 }
-    ensures { IfOk result (AreCodePartsOf typed Wanted.Everything) }
+    ensures { IfOk result (AreCodePartsOf typed WantedParts.Everything) }
 {
     let vm = lower(alloc, &typed)?;
     let temps = temps_of(alloc, &vm)?;
@@ -48,7 +48,7 @@ fn all_code(alloc: Global, typed: LawfulUnit) -> Result<CodeParts, AllocError>
 /// The code of a unit over temporaries alone.
 fn code_alone(alloc: Global, typed: LawfulUnit) -> Result<CodeParts, AllocError>
     requires { unit_weight typed.unit ≤ 131072 }
-    ensures { IfOk result (AreCodePartsOf typed Wanted.Image) }
+    ensures { IfOk result (AreCodePartsOf typed WantedParts.Image) }
 {
     let vm = lower_in_turn(alloc, typed)?;
     let temps = temps_in_turn(alloc, vm)?;

@@ -17,7 +17,7 @@ ghost use Rattle.compiler.specs.Images.{IsImageOfText};
 ghost use Rattle.compiler.specs.model.Parts.{UnitHasText, HasAllocations, AreAssemblyPartsOf, ArePartsOf};
 ghost use Rattle.compiler.specs.model.Stages.{CanBeLaidOut, ProgramCanBeAssembled, IsAssemblyOf};
 
-use crate::built::{AssemblyParts, Built, CodeParts, Parts, Wanted};
+use crate::built::{AssemblyParts, Built, CodeParts, Parts, WantedParts};
 use crate::code::code_parts;
 use crate::laws::{assemblies_are_made, code_can_be_assembled, images_are_same};
 use alloc_model::allocation::Allocation;
@@ -50,7 +50,7 @@ pub fn compile(alloc: Global, text: &[u8], options: &Options) -> Result<Built, C
     ensures fault { IfErr result (HasNoUnit text.now) }
 {
     let front = read_unit(alloc, text)?;
-    let parts = make(alloc, front, options.allocator, Wanted::Everything)?;
+    let parts = make(alloc, front, options.allocator, WantedParts::Everything)?;
     images_are_same();
     Ok(parts.into_built())
 }
@@ -68,7 +68,7 @@ pub fn compile_image(alloc: Global, text: Vec<u8>, options: &Options) -> Result<
 {
     let front = read_unit(alloc, text.as_slice())?;
     drop(text);
-    let parts = make(alloc, front, options.allocator, Wanted::Image)?;
+    let parts = make(alloc, front, options.allocator, WantedParts::Image)?;
     images_are_same();
     Ok(parts.image)
 }
@@ -78,7 +78,7 @@ fn make(
     alloc: Global,
     front: FrontEnd,
     allocator: Allocator,
-    wanted: Wanted,
+    wanted: WantedParts,
 ) -> Result<Parts, CompileFault>
     requires { UnitHasText front.unit front.typed.unit }
     ensures made { IfOk result (λ parts. (text : List ℕ) → IsUnitWithin text front.unit front.typed.unit →
@@ -114,14 +114,14 @@ fn assembly_parts(
     alloc: Global,
     temps: TempProgram,
     allocator: Allocator,
-    wanted: Wanted,
+    wanted: WantedParts,
 ) -> Result<AssemblyParts, AllocError>
     requires { ProgramCanBeAssembled temps }
     ensures { IfOk result (AreAssemblyPartsOf temps allocator wanted) }
 {
     match wanted {
-        Wanted::Everything => all_parts(alloc, temps, allocator),
-        Wanted::Image => asm_alone(alloc, temps, allocator),
+        WantedParts::Everything => all_parts(alloc, temps, allocator),
+        WantedParts::Image => asm_alone(alloc, temps, allocator),
     }
 }
 
@@ -132,7 +132,7 @@ fn all_parts(
     allocator: Allocator,
 ) -> Result<AssemblyParts, AllocError>
     requires { ProgramCanBeAssembled temps }
-    ensures { IfOk result (AreAssemblyPartsOf temps allocator Wanted.Everything) }
+    ensures { IfOk result (AreAssemblyPartsOf temps allocator WantedParts.Everything) }
 {
     let allocations = allocations_of(alloc, allocator, &temps)?;
     let asm = assembly_of(alloc, &temps, allocations.as_slice())?;
@@ -150,7 +150,7 @@ fn asm_alone(
     allocator: Allocator,
 ) -> Result<AssemblyParts, AllocError>
     requires { ProgramCanBeAssembled temps }
-    ensures { IfOk result (AreAssemblyPartsOf temps allocator Wanted.Image) }
+    ensures { IfOk result (AreAssemblyPartsOf temps allocator WantedParts.Image) }
 {
     let asm = assembly_in_turn(alloc, temps, allocator)?;
     Ok(AssemblyParts {

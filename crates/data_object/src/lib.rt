@@ -8,7 +8,7 @@ ghost use Rattle.data_object.specs.Layout.{place_after, data_end};
 
 use c_tree::{Name, Seq};
 
-/// The most bytes of one object of static storage, and of all of them together.
+/// The most bytes of one object of static storage, of all of them together, and of the memory locals of a function.
 pub const MOST_DATA: u64 = 67_108_864;
 
 /// What a byte of an object holds at the start: a byte, or a part of the address of an object of static storage

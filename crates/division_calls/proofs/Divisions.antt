@@ -33,7 +33,7 @@ use Rattle.alloc_model.specs.Contents.{Content, Bundle, unset_content, word_cont
 use Rattle.alloc_model.specs.Effect.{routine_of, takes_word, outcome_answer, writes, division_answer}
 use Rattle.alloc_model.specs.Contents.{Fails}
 use Rattle.alloc_model.specs.Places.{Places, Reg}
-use Rattle.flat_memory.specs.Bytes.{AreBytes}
+use Rattle.mem_model.specs.Bytes.{AreBytes}
 use Rattle.flat_memory.specs.Relation.{OfObject, Nobody, MemoryIs}
 use Rattle.flat_memory.specs.Machine.{memory_bytes, is_reached}
 use Rattle.flat_memory.specs.Laws.{MoreExtents}
@@ -78,7 +78,7 @@ takes-operand Remlu n e = eqb-true (sign_extension w32 n) n e
 module _ (p : Program) (there : Labels) (g : ItemSetting) (rest : List AsmItem) (end : ℕ) (c : CallAt) (o : Outer) (held : Places) (s : State) (call : FitsTheStack c) (outer : HasOuter o s) (routines : RoutinesStand p there) (scratch : HasScratch p c s) (r : DivisionRoutine) (h : StandsFor p there (Branch Bsr 23 (entry_label (routine_of r)) ∷ rest) end c o.memory is_usable held s) where
   -- ---- the branch
 
-  record Branched : Type 0 where
+  record HasBranched : Type 0 where
     to : State
     comes : Comes p s to
     next : ℕ
@@ -95,7 +95,7 @@ module _ (p : Program) (there : Labels) (g : ItemSetting) (rest : List AsmItem) 
     input : to.input ≡ s.input
     output : to.output ≡ s.output
 
-  branched : Branched
+  branched : HasBranched
   branched =
       let l = entry_label (routine_of r) in
       let d = branches_step p there h.word Bsr 23 l rest end s (stands p there h.word (Branch Bsr 23 l) rest end s h.is_at) (omega arith) in
@@ -119,7 +119,7 @@ module _ (p : Program) (there : Labels) (g : ItemSetting) (rest : List AsmItem) 
 
   -- ---- the routine
 
-  sp-is : (b : Branched) → register b.to 30 ≡ c.sp
+  sp-is : (b : HasBranched) → register b.to 30 ≡ c.sp
   sp-is b = b.registers 30 (λ e. omega (arith, e)) (λ e. omega (arith, e)) ∙ h.stack
 
   within-stack : c.sp ≤ stack_start p + length s.stack_bytes
@@ -129,7 +129,7 @@ module _ (p : Program) (there : Labels) (g : ItemSetting) (rest : List AsmItem) 
       let lt = stack-within p s h.is_at.parts y (omega (arith, room)) (scratch.reached y (omega (arith, room)) (omega (arith, room))) in
       omega (arith, lt, room)
 
-  called : (b : Branched) → rt.IsRoutineOperand (routine_of r) (register b.to 24) → rt.IsRoutineOperand (routine_of r) (register b.to 25) → calls.IsCall p routines.word (routine_of r) b.to
+  called : (b : HasBranched) → rt.IsRoutineOperand (routine_of r) (register b.to 24) → rt.IsRoutineOperand (routine_of r) (register b.to 25) → calls.IsCall p routines.word (routine_of r) b.to
   called b first second =
       let sp = sp-is b in
       let room = scratch.room in
@@ -152,7 +152,7 @@ module _ (p : Program) (there : Labels) (g : ItemSetting) (rest : List AsmItem) 
         divisor = second;
       }
 
-  bounded : (b : Branched) → IsBounded b.to
+  bounded : (b : HasBranched) → IsBounded b.to
   bounded b = record {
     words = b.words;
     data_bytes = subst AreBytes (sym b.data_bytes) (data-are p s h.is_at.bytes);
@@ -162,7 +162,7 @@ module _ (p : Program) (there : Labels) (g : ItemSetting) (rest : List AsmItem) 
 
   -- ---- behind the routine
 
-  module _ (b : Branched) (n : ℕ) (x : Returns p b.to n) where
+  module _ (b : HasBranched) (n : ℕ) (x : Returns p b.to n) where
     abbrev t : State
     t = state_behind p b.to n x.rest x.scratch
 
@@ -288,7 +288,7 @@ module _ (p : Program) (there : Labels) (g : ItemSetting) (rest : List AsmItem) 
 
   -- ---- by what the division gives
 
-  ended : (b : Branched) (e : rt.RoutineEnding) → RoutineDoes p b.to e → ActIsDone p there g rest end c (store_behind [] (i.Divide r) held) (i.Divide r) s (writes (outcome_answer e) o)
+  ended : (b : HasBranched) (e : rt.RoutineEnding) → RoutineDoes p b.to e → ActIsDone p there g rest end c (store_behind [] (i.Divide r) held) (i.Divide r) s (writes (outcome_answer e) o)
   ended b (rt.Answers n) x = is-behind b n x
   ended b (rt.Traps code) x = record {
     steps = b.comes.steps + x.steps;

@@ -5,7 +5,7 @@ use Rattle.std.proofs.lemmas.Bool.{leb-true, le-leb, lt-ltb, le-ltb, and_parts, 
 use Rattle.std.proofs.lemmas.List.{length-take-le, get_or-take, get_or-drop, get_or_append_left, get_or-append_right}
 use Rattle.alpha_isa.specs.Program.{Program, data_start, stack_start}
 use Rattle.alpha_isa.specs.State.{State, with_part}
-use Rattle.flat_memory.specs.Bytes.{AreBytes}
+use Rattle.mem_model.specs.Bytes.{AreBytes}
 use Rattle.flat_memory.specs.Machine.{memory_bytes, is_in_data, is_in_stack, is_reached, HasParts}
 use Rattle.machine_bounds.proofs.Steps.{byte-at}
 

@@ -19,15 +19,15 @@ use Rattle.edge_leads.proofs.Lists.{get-below, get-index, all-get, get-front, fi
 
 -- ---- instructions of blocks
 
-pub record Located (blocks : List (List TempInsn)) (block at : ℕ) (x : TempInsn) : Type 0 where
+pub record InsnStandsAt (blocks : List (List TempInsn)) (block at : ℕ) (x : TempInsn) : Type 0 where
   pub insns : List TempInsn
   pub there : slice_get blocks block ≡ Some insns
   pub is : slice_get insns at ≡ Some x
 
-located : (blocks : List (List TempInsn)) (block at : ℕ) (x : TempInsn) → insn_at blocks block at ≡ Some x → Located blocks block at x
+located : (blocks : List (List TempInsn)) (block at : ℕ) (x : TempInsn) → insn_at blocks block at ≡ Some x → InsnStandsAt blocks block at x
 located blocks block at x e = by_block (slice_get blocks block) refl e
   where
-    by_block : (o : Option (List TempInsn)) → slice_get blocks block ≡ o → insn_in o at ≡ Some x → Located blocks block at x
+    by_block : (o : Option (List TempInsn)) → slice_get blocks block ≡ o → insn_in o at ≡ Some x → InsnStandsAt blocks block at x
     by_block None there f = absurd (cc)
     by_block (Some insns) there f = record { insns = insns; there = there; is = f }
 
@@ -53,7 +53,7 @@ module _ (a : Plan) (l : HasLists a) (ok : AreBlocks a.function.blocks) (apart :
       let fits = all-get (GoesToBlocks targets_of (length blocks)) z.insns at x insns-fit z.is in
       all-get (λ n. (0 < n) × (n < length blocks)) (targets_of x) k to fits is
 
-  is-last : (block at : ℕ) (x : TempInsn) (z : Located blocks block at x) → length (targets_of x) ≢ 0 → last_of z.insns ≡ Some x
+  is-last : (block at : ℕ) (x : TempInsn) (z : InsnStandsAt blocks block at x) → length (targets_of x) ≢ 0 → last_of z.insns ≡ Some x
   is-last block at x z some = ends-last z.insns at x (all-get (EndsLate targets_of flows_on_of) blocks block z.insns ok.straight z.there) z.is some
 
   -- ---- edges

@@ -13,7 +13,7 @@ use Rattle.alloc_model.specs.declared.allocation.EdgeCode.{EdgeCode}
 use Rattle.alloc_model.specs.Effect.{Temp}
 use Rattle.alloc_model.specs.Temporaries.{flows_out}
 use Rattle.alloc_model.specs.Places.{Place, Reg, Slot, In, Out, Plan, edge_transfers, code_in}
-use Rattle.alloc_model.specs.Faithful.{Held, stands, MovesAsk, held_before, given_registers, named_registers, IsTransfer, IsGivenOrScratch, HasLists, Faithful}
+use Rattle.alloc_model.specs.Faithful.{HolderPlaces, stands, MovesAsk, held_before, given_registers, named_registers, IsTransfer, IsGivenOrScratch, HasLists, Faithful}
 use Rattle.flat_frames.specs.Shapes.{FrameShape}
 use Rattle.flat_frames.specs.Frames.{with_known}
 use Rattle.frame_transfers.specs.Laws.{IsWritable, CanTransferAll}
@@ -51,14 +51,14 @@ more-known known r (Slot t) e = refl
 more-known known r (In k) e = refl
 more-known known r (Out k) e = refl
 
-knows-put : (known : ℕ → Bool) (t r : ℕ) (h : Held) → Knows known h → Knows (with_known known r) (stands (Temp t) (Reg r) h)
+knows-put : (known : ℕ → Bool) (t r : ℕ) (h : HolderPlaces) → Knows known h → Knows (with_known known r) (stands (Temp t) (Reg r) h)
 knows-put known t r h knows = knows-stands (with_known known r) (Temp t) (Reg r) h
     (λ n q e. more-known known r q (knows n q e))
     (or-left (r == r) (known r) (eq-eqb r r refl))
 
 -- ---- transfers that ask for what stands in known registers
 
-can-transfer : (s : FrameShape) (xs : List Transfer) (known : ℕ → Bool) (h : Held) → ((r : ℕ) → names_in xs r ≡ true → s.saves r ≡ true) → All (IsTransfer s.temps IsGivenOrScratch) xs → Knows known h → MovesAsk xs h → CanTransferAll s known xs
+can-transfer : (s : FrameShape) (xs : List Transfer) (known : ℕ → Bool) (h : HolderPlaces) → ((r : ℕ) → names_in xs r ≡ true → s.saves r ≡ true) → All (IsTransfer s.temps IsGivenOrScratch) xs → Knows known h → MovesAsk xs h → CanTransferAll s known xs
 can-transfer s [] known h cover all knows asks = tt
 can-transfer s (Store t r ∷ xs) known h cover all knows asks =
     let head = All-head (IsTransfer s.temps IsGivenOrScratch) (Store t r) xs all in (

@@ -19,7 +19,7 @@ use Rattle.alloc_model.specs.declared.allocation.Transfer.TheVariants.{Store, Lo
 use Rattle.alloc_model.specs.Effect.{Holder, Temp, Fixed, Incoming, Outgoing, holders_written, others_written}
 use Rattle.alloc_model.specs.Places.{Place, Reg, Slot, In, Out, home_of, places_written_at, ends_place, transfer_target, moved_temp, Plan, linear_number, transfers_at, registers_at}
 use Rattle.alloc_model.specs.Needs.{top_place, named_place}
-use Rattle.alloc_model.specs.Faithful.{Held, stands, forget, end_all, write_all, move_all, behind_insn, at_top, at_entry, at_start, held_before, given_registers, IsGivenRegister, IsOwnPlace, IsStanding, IsTransfer, HasLists}
+use Rattle.alloc_model.specs.Faithful.{HolderPlaces, stands, forget, end_all, write_all, move_all, behind_insn, at_top, at_entry, at_start, held_before, given_registers, IsGivenRegister, IsOwnPlace, IsStanding, IsTransfer, HasLists}
 use Rattle.function_items.specs.InstructionItemsLaws.{is_usable}
 
 -- ---- lists and tests
@@ -73,17 +73,17 @@ known_place known (Slot t) = true
 known_place known (In k) = true
 known_place known (Out k) = true
 
-abbrev pub Knows : (known : ℕ → Bool) → Held → Type 0
+abbrev pub Knows : (known : ℕ → Bool) → HolderPlaces → Type 0
 Knows known h = (n : Holder) (q : Place) → h n q → known_place known q ≡ true
 
-pub knows-stands : (known : ℕ → Bool) (n : Holder) (p : Place) (h : Held) → Knows known h → known_place known p ≡ true → Knows known (stands n p h)
+pub knows-stands : (known : ℕ → Bool) (n : Holder) (p : Place) (h : HolderPlaces) → Knows known h → known_place known p ≡ true → Knows known (stands n p h)
 knows-stands known n p h knows is m q e = ⊎_elim (λ l. knows m q l.0) (λ r. subst (λ z. known_place known z ≡ true) (sym r.1) is) e
 
 abbrev AllKnown : List Place → Type 0
 AllKnown [] = Unit {0}
 AllKnown (p ∷ ps) = (known_place is_usable p ≡ true) × AllKnown ps
 
-knows-written : (ns : List Holder) (ps : List Place) (h : Held) → AllKnown ps → Knows is_usable h → Knows is_usable (write_all ns ps h)
+knows-written : (ns : List Holder) (ps : List Place) (h : HolderPlaces) → AllKnown ps → Knows is_usable h → Knows is_usable (write_all ns ps h)
 knows-written [] ps h all knows = knows
 knows-written (n ∷ ns) [] h all knows = knows
 knows-written (n ∷ ns) (p ∷ ps) h all knows = knows-written ns ps (stands n p (forget n h)) all.1 (knows-stands is_usable n p (forget n h) (λ m q e. knows m q e.0) all.0)
@@ -93,7 +93,7 @@ target-known temps (Store t r) h = refl
 target-known temps (Load t r) h = given-usable r (All-head IsGivenRegister r [] h.1)
 target-known temps (Shift t from to) h = given-usable to (All-head IsGivenRegister to [] (All-tail IsGivenRegister from (to ∷ []) h.1))
 
-knows-moved : (temps : ℕ) (xs : List Transfer) (h : Held) → All (IsTransfer temps IsGivenRegister) xs → Knows is_usable h → Knows is_usable (move_all xs h)
+knows-moved : (temps : ℕ) (xs : List Transfer) (h : HolderPlaces) → All (IsTransfer temps IsGivenRegister) xs → Knows is_usable h → Knows is_usable (move_all xs h)
 knows-moved temps [] h all knows = knows
 knows-moved temps (x ∷ xs) h all knows = knows-moved temps xs (stands (Temp (moved_temp x)) (transfer_target x) h)
     (All-tail (IsTransfer temps IsGivenRegister) x xs all)
@@ -134,7 +134,7 @@ others-known (i.Serve Trap) = tt
 others-known (i.Return with_value) = tt
 others-known i.Mark = tt
 
-knows-behind : (a : Plan) → HasLists a → (block at : ℕ) (o : Option TempInsn) (h : Held) → Knows is_usable h → Knows is_usable (behind_insn (transfers_at a block at) (registers_at a block at) o h)
+knows-behind : (a : Plan) → HasLists a → (block at : ℕ) (o : Option TempInsn) (h : HolderPlaces) → Knows is_usable h → Knows is_usable (behind_insn (transfers_at a block at) (registers_at a block at) o h)
 knows-behind a l block at None h knows = knows
 knows-behind a l block at (Some x) h knows = knows-written (holders_written x) (places_written_at rs x) (end_all (ends_place x) (move_all (transfers_at a block at) h))
     (known-append (map Reg (drop (length (reads_of x)) rs)) (map home_of (others_written x))

@@ -1,7 +1,7 @@
 -- The transfers at the top of a block are those of one edge, which the allocation asks for.
 use Rattle.std.proofs.Common.{◌≡◌, ℕ, zero, suc, ◌+◌, ◌-◌, ◌<◌, Bool, true, false, List, [], ◌∷◌, Option, Some, None, length, map, if◌then◌else◌, refl, sym, ap, ◌∙◌, subst, arith, inl, inr, ⊎_elim, eq-eqb}
 use Rattle.std.specs.Prelude.{◌⊎◌, ◌==◌, ◌&&◌, nat_lt, slice_get, slice_index_or, find, All, Contains}
-use Rattle.std.proofs.lemmas.Bool.{eqb-true}
+use Rattle.std.proofs.lemmas.Bool.{eqb-true, and_parts}
 use Rattle.std.proofs.lemmas.List.Elements.{All-from_recursion, All-head, All-tail, All-cons, All-append, All-map, All-contains_itself, Contains-append_cases}
 use Rattle.std.proofs.lemmas.Option.{none-some, same_Some}
 use Rattle.suifvm_ir.specs.Functions.{last_of, insn_in, successors_after, successors_of}
@@ -26,11 +26,6 @@ test-or-not false = inr refl
 
 and-both : (b c : Bool) → b ≡ true → c ≡ true → (b && c) ≡ true
 and-both b c e k = ap (λ t. t && c) e ∙ k
-
-both : (b c : Bool) → (b && c) ≡ true → (b ≡ true) × (c ≡ true)
-both true true e = (refl, refl)
-both true false e = absurd (cc)
-both false c e = absurd (cc)
 
 -- ---- what is found
 
@@ -140,7 +135,7 @@ option-fits a f block (Some z) is =
   where
     narrow : ((z.to == block) && ends_with_branch (slice_index_or a.function.blocks z.from [])) ≡ true → (y : EdgeCode) → ((y.from == z.from) && (y.to == z.to)) ≡ true → ((y.to == block) && ends_with_branch (slice_index_or a.function.blocks y.from [])) ≡ true
     narrow passes y e =
-        let h = both (y.from == z.from) (y.to == z.to) e in
+        let h = and_parts (y.from == z.from) (y.to == z.to) e in
         subst (λ m. ((y.to == block) && ends_with_branch (slice_index_or a.function.blocks m [])) ≡ true) (sym (eqb-true y.from z.from h.0))
         (subst (λ m. ((m == block) && ends_with_branch (slice_index_or a.function.blocks z.from [])) ≡ true) (sym (eqb-true y.to z.to h.1)) passes)
 

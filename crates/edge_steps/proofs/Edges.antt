@@ -22,7 +22,7 @@ use Rattle.frame_transfers.proofs.Runs.{transfers_are_done}
 use Rattle.function_items.specs.InstructionItems.{ItemSetting}
 use Rattle.function_items.specs.InstructionItemsLaws.{is_usable, HasOuter}
 use Rattle.function_items.proofs.Runs.{usable-values, nothing-ended, jumps_are_done}
-use Rattle.placed_steps.specs.Stacks.{Waiting, Start, StackIs}
+use Rattle.placed_steps.specs.Stacks.{WaitingCall, Start, StackIs}
 use Rattle.placed_steps.proofs.Stays.{stacks_stay}
 use Rattle.placed_steps.specs.Points.{AllMayTransfer, PointIsPassed, PointIsLeft}
 use Rattle.placed_steps.proofs.Points.{can-transfer-all, all-in}
@@ -56,7 +56,7 @@ fewer-known p there items end c m known store s more h = record {
 
 -- ---- edges
 
-pub edges_are_done : (p : Program) (there : Labels) (start : Start) (rest : List AsmItem) (end : ℕ) (c : CallAt) (gs : List Waiting) (o : Outer) (store : Places) (s : State) → FitsTheStack c → StackIs p there start c gs store s → HasOuter o s → (xs : List Transfer) → CanTransferAll c.shape is_usable xs → StandsFor p there (items_of_transfers c.shape xs rest) end c o.memory is_usable store s → PointIsPassed p there start rest end c gs o (do_all xs store) s
+pub edges_are_done : (p : Program) (there : Labels) (start : Start) (rest : List AsmItem) (end : ℕ) (c : CallAt) (gs : List WaitingCall) (o : Outer) (store : Places) (s : State) → FitsTheStack c → StackIs p there start c gs store s → HasOuter o s → (xs : List Transfer) → CanTransferAll c.shape is_usable xs → StandsFor p there (items_of_transfers c.shape xs rest) end c o.memory is_usable store s → PointIsPassed p there start rest end c gs o (do_all xs store) s
 edges_are_done p there start rest end c gs o store s call stack outer xs can h =
     let d = transfers_are_done p there rest end c o.memory call xs is_usable store s usable-values can h in
     record {
@@ -68,7 +68,7 @@ edges_are_done p there start rest end c gs o store s call stack outer xs can h =
     }
 
 -- one behind the other
-passed-through : (p : Program) (there : Labels) (start : Start) (items : List AsmItem) (end : ℕ) (c : CallAt) (gs : List Waiting) (o : Outer) (held : Places) (s t : State) → Comes p s t → PointIsPassed p there start items end c gs o held t → PointIsPassed p there start items end c gs o held s
+passed-through : (p : Program) (there : Labels) (start : Start) (items : List AsmItem) (end : ℕ) (c : CallAt) (gs : List WaitingCall) (o : Outer) (held : Places) (s t : State) → Comes p s t → PointIsPassed p there start items end c gs o held t → PointIsPassed p there start items end c gs o held s
 passed-through p there start items end c gs o held s t a d = record { to = d.to; comes = steps_add_up p s t d.to a d.comes; stands = d.stands; stack = d.stack; outer = d.outer }
 
 -- a label is no word
@@ -93,12 +93,12 @@ label-passed p there items end c m store s l h =
       reached = h.reached;
     }
 
-pub ends_are_done : (p : Program) (there : Labels) (start : Start) (items : List AsmItem) (end : ℕ) (c : CallAt) (gs : List Waiting) (o : Outer) (store : Places) (s : State) → FitsTheStack c → StackIs p there start c gs store s → HasOuter o s → (xs : List Transfer) (l : ℕ) → CanTransferAll c.shape is_usable xs → StandsFor p there (items_of_transfers c.shape xs (Label l ∷ items)) end c o.memory is_usable store s → PointIsPassed p there start items end c gs o (do_all xs store) s
+pub ends_are_done : (p : Program) (there : Labels) (start : Start) (items : List AsmItem) (end : ℕ) (c : CallAt) (gs : List WaitingCall) (o : Outer) (store : Places) (s : State) → FitsTheStack c → StackIs p there start c gs store s → HasOuter o s → (xs : List Transfer) (l : ℕ) → CanTransferAll c.shape is_usable xs → StandsFor p there (items_of_transfers c.shape xs (Label l ∷ items)) end c o.memory is_usable store s → PointIsPassed p there start items end c gs o (do_all xs store) s
 ends_are_done p there start items end c gs o store s call stack outer xs l can h =
     let d = edges_are_done p there start (Label l ∷ items) end c gs o store s call stack outer xs can h in
     record { to = d.to; comes = d.comes; stands = label-passed p there items end c o.memory (do_all xs store) d.to l d.stands; stack = d.stack; outer = d.outer }
 
-pub jumps_are_done_here : (p : Program) (there : Labels) (start : Start) (rest : List AsmItem) (end : ℕ) (c : CallAt) (gs : List Waiting) (o : Outer) (store : Places) (s : State) → FitsTheStack c → StackIs p there start c gs store s → HasOuter o s → (transfers edge : List Transfer) → AllMayTransfer c.shape transfers → CanTransferAll c.shape is_usable edge → (l widest block : ℕ) (registers : List ℕ) → registers ≡ [] → StandsFor p there (items_of_transfers c.shape transfers (items_of_transfers c.shape edge (Branch Br 31 l ∷ rest))) end c o.memory is_usable store s → PointIsLeft p there start l c gs o (do_all edge ((placed_site widest transfers registers (i.Jump block)).put [] store)) s
+pub jumps_are_done_here : (p : Program) (there : Labels) (start : Start) (rest : List AsmItem) (end : ℕ) (c : CallAt) (gs : List WaitingCall) (o : Outer) (store : Places) (s : State) → FitsTheStack c → StackIs p there start c gs store s → HasOuter o s → (transfers edge : List Transfer) → AllMayTransfer c.shape transfers → CanTransferAll c.shape is_usable edge → (l widest block : ℕ) (registers : List ℕ) → registers ≡ [] → StandsFor p there (items_of_transfers c.shape transfers (items_of_transfers c.shape edge (Branch Br 31 l ∷ rest))) end c o.memory is_usable store s → PointIsLeft p there start l c gs o (do_all edge ((placed_site widest transfers registers (i.Jump block)).put [] store)) s
 jumps_are_done_here p there start rest end c gs o store s call stack outer transfers edge may can l widest block registers none h =
     let a = edges_are_done p there start (items_of_transfers c.shape edge (Branch Br 31 l ∷ rest)) end c gs o store s call stack outer transfers (can-transfer-all c.shape transfers may) h in
     let held = do_all transfers store in
@@ -117,7 +117,7 @@ jumps_are_done_here p there start rest end c gs o store s call stack outer trans
       outer = d.outer;
     }))
 
-pub blocks_are_entered : (p : Program) (there : Labels) (start : Start) (a : Plan) (g : ItemSetting) (number : ℕ) (behind : List AsmItem) (end : ℕ) (c : CallAt) (gs : List Waiting) (o : Outer) (held : Places) (s : State) → FitsTheStack c → g.shape ≡ c.shape → FunctionStands p there a g number behind end → (block : ℕ) (insns : List TempInsn) → slice_get a.function.blocks block ≡ Some insns → CanTransferAll c.shape is_usable (top_transfers a block) → PointIsLeft p there start (g.block_label block) c gs o held s → PointIsPassed p there start (insns_items a g block 0 insns (items_of_transfers g.shape (end_transfers a block insns) (blocks_items a g (suc block) (drop (suc block) a.function.blocks) (exit_items g behind)))) end c gs o (do_all (top_transfers a block) held) s
+pub blocks_are_entered : (p : Program) (there : Labels) (start : Start) (a : Plan) (g : ItemSetting) (number : ℕ) (behind : List AsmItem) (end : ℕ) (c : CallAt) (gs : List WaitingCall) (o : Outer) (held : Places) (s : State) → FitsTheStack c → g.shape ≡ c.shape → FunctionStands p there a g number behind end → (block : ℕ) (insns : List TempInsn) → slice_get a.function.blocks block ≡ Some insns → CanTransferAll c.shape is_usable (top_transfers a block) → PointIsLeft p there start (g.block_label block) c gs o held s → PointIsPassed p there start (insns_items a g block 0 insns (items_of_transfers g.shape (end_transfers a block insns) (blocks_items a g (suc block) (drop (suc block) a.function.blocks) (exit_items g behind)))) end c gs o (do_all (top_transfers a block) held) s
 blocks_are_entered p there start a g number behind end c gs o held s call shape stands block insns is can h =
     let rest = insns_items a g block 0 insns (items_of_transfers g.shape (end_transfers a block insns) (blocks_items a g (suc block) (drop (suc block) a.function.blocks) (exit_items g behind))) in
     let at = h.stands (items_of_transfers g.shape (top_transfers a block) rest) end (stands.blocks block insns is) in

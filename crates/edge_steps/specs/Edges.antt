@@ -16,7 +16,7 @@ use Rattle.frame_transfers.specs.Items.{items_of_transfers}
 use Rattle.frame_transfers.specs.Laws.{CallAt, FitsTheStack, StandsFor, CanTransferAll}
 use Rattle.function_items.specs.InstructionItems.{ItemSetting}
 use Rattle.function_items.specs.InstructionItemsLaws.{is_usable, HasOuter}
-use Rattle.placed_steps.specs.Stacks.{Waiting, Start, StackIs}
+use Rattle.placed_steps.specs.Stacks.{WaitingCall, Start, StackIs}
 use Rattle.placed_steps.specs.Points.{AllMayTransfer, PointIsPassed, PointIsLeft}
 use Rattle.function_items.specs.Items.{top_transfers, insns_items, end_transfers, blocks_items, exit_items}
 use Rattle.function_items.specs.Laws.{FunctionStands}
@@ -24,7 +24,7 @@ use Rattle.function_items.specs.Laws.{FunctionStands}
 -- transfers of an edge, which may name register 28 once it holds something
 abbrev pub EdgesAreDone : Type 0
 EdgesAreDone =
-    (p : Program) (there : Labels) (start : Start) (rest : List AsmItem) (end : ℕ) (c : CallAt) (gs : List Waiting)
+    (p : Program) (there : Labels) (start : Start) (rest : List AsmItem) (end : ℕ) (c : CallAt) (gs : List WaitingCall)
     (o : Outer) (store : Places) (s : State) → FitsTheStack c → StackIs p there start c gs store s → HasOuter o s →
     (xs : List Transfer) → CanTransferAll c.shape is_usable xs →
     StandsFor p there (items_of_transfers c.shape xs rest) end c o.memory is_usable store s →
@@ -33,7 +33,7 @@ EdgesAreDone =
 -- a jump, with the transfers before it and those of its edge
 abbrev pub JumpsAreDone : Type 0
 JumpsAreDone =
-    (p : Program) (there : Labels) (start : Start) (rest : List AsmItem) (end : ℕ) (c : CallAt) (gs : List Waiting)
+    (p : Program) (there : Labels) (start : Start) (rest : List AsmItem) (end : ℕ) (c : CallAt) (gs : List WaitingCall)
     (o : Outer) (store : Places) (s : State) → FitsTheStack c → StackIs p there start c gs store s → HasOuter o s →
     (transfers edge : List Transfer) → AllMayTransfer c.shape transfers → CanTransferAll c.shape is_usable edge →
     (l widest block : ℕ) (registers : List ℕ) → registers ≡ [] →
@@ -47,7 +47,7 @@ JumpsAreDone =
 -- behind a block that ends without a jump, its last transfers are done and the machine has come to the next label
 abbrev pub EndsAreDone : Type 0
 EndsAreDone =
-    (p : Program) (there : Labels) (start : Start) (items : List AsmItem) (end : ℕ) (c : CallAt) (gs : List Waiting)
+    (p : Program) (there : Labels) (start : Start) (items : List AsmItem) (end : ℕ) (c : CallAt) (gs : List WaitingCall)
     (o : Outer) (store : Places) (s : State) → FitsTheStack c → StackIs p there start c gs store s → HasOuter o s →
     (xs : List Transfer) (l : ℕ) → CanTransferAll c.shape is_usable xs →
     StandsFor p there (items_of_transfers c.shape xs (Label l ∷ items)) end c o.memory is_usable store s →
@@ -57,7 +57,7 @@ EndsAreDone =
 abbrev pub BlocksAreEntered : Type 0
 BlocksAreEntered =
     (p : Program) (there : Labels) (start : Start) (a : Plan) (g : ItemSetting) (number : ℕ) (behind : List AsmItem)
-    (end : ℕ) (c : CallAt) (gs : List Waiting) (o : Outer) (held : Places) (s : State) → FitsTheStack c →
+    (end : ℕ) (c : CallAt) (gs : List WaitingCall) (o : Outer) (held : Places) (s : State) → FitsTheStack c →
     g.shape ≡ c.shape →
     FunctionStands p there a g number behind end → (block : ℕ) (insns : List TempInsn) →
     slice_get a.function.blocks block ≡ Some insns → CanTransferAll c.shape is_usable (top_transfers a block) →

@@ -43,8 +43,8 @@ fn ending(
         &mut out,
         &mut err,
     );
-    let put = str::from_utf8(out.taken())?;
-    let said = str::from_utf8(err.taken())?;
+    let put = str::from_utf8(out.taken_bytes())?;
+    let said = str::from_utf8(err.taken_bytes())?;
     Ok(format!(in alloc; "{outcome:?}\n{put}{said}")?)
 }
 

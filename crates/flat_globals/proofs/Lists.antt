@@ -1,18 +1,18 @@
 -- What stands in lists at a number.
 use Rattle.std.proofs.Common.{◌≡◌, ℕ, zero, suc, ◌+◌, ◌-◌, ◌<◌, ◌≤◌, List, [], ◌∷◌, ◌++◌, Some, length, map, replicate, refl, ap, ◌∙◌, arith}
 use Rattle.std.specs.Prelude.{slice_get, slice_index, slice_index_or}
-use Rattle.flat_memory.specs.Bytes.{AreBytes}
+use Rattle.mem_model.specs.Bytes.{AreBytes}
 
 pub get-below : {X : Type 0} (xs : List X) (k : ℕ) (x : X) → slice_get xs k ≡ Some x → k < length xs
 get-below [] k x e = absurd (cc)
 get-below (y ∷ xs) zero x e = omega arith
 get-below (y ∷ xs) (suc k) x e = let h = get-below xs k x e in omega (arith, h)
 
-pub record Standing {X : Type 0} (xs : List X) (k : ℕ) : Type 0 where
+pub record HasItemAt {X : Type 0} (xs : List X) (k : ℕ) : Type 0 where
   pub one : X
   pub is : slice_get xs k ≡ Some one
 
-pub stands-at : {X : Type 0} (xs : List X) (k : ℕ) → k < length xs → Standing xs k
+pub stands-at : {X : Type 0} (xs : List X) (k : ℕ) → k < length xs → HasItemAt xs k
 stands-at [] k lt = absurd (omega (arith, lt))
 stands-at (x ∷ xs) zero lt = record { one = x; is = refl }
 stands-at (x ∷ xs) (suc k) lt = let h = stands-at xs k (omega (arith, lt)) in record { one = h.one; is = h.is }

@@ -1,7 +1,7 @@
 -- The bytes of the data stand for the objects of static storage.
 use Rattle.std.proofs.Common.{◌≡◌, ◌≢◌, ℕ, zero, suc, ◌+◌, ◌-◌, ◌%◌, ◌<◌, ◌≤◌, Bool, true, false, List, [], ◌∷◌, ◌++◌, Option, Some, None, length, map, replicate, if◌then◌else◌, refl, sym, ap, ◌∙◌, subst, arith, ⊎_elim}
 use Rattle.std.specs.Prelude.{nat_le, nat_lt, ◌&&◌, slice_get, slice_index}
-use Rattle.std.proofs.lemmas.Bool.{cases_lt, le-leb, leb-true, ltb-true, lt-ltb, le-ltb, cond-true, cond-false}
+use Rattle.std.proofs.lemmas.Bool.{cases_lt, le-leb, leb-true, ltb-true, lt-ltb, le-ltb, cond-true, cond-false, and_parts}
 use Rattle.alpha_isa.specs.Program.{Program, data_start, stack_start}
 use Rattle.alpha_isa.specs.State.{State}
 use Rattle.mem_model.specs.declared.value.Cell as c
@@ -13,7 +13,8 @@ use Rattle.data_object.specs.declared.DataCell.TheVariants.{Byte, AddressPart}
 use Rattle.data_object.specs.Layout.{ObjectsLieFrom}
 use Rattle.data_object.specs.Globals.{Reaches}
 use Rattle.data_object.specs.Start.{memory_cell, start_object, start_memory}
-use Rattle.flat_memory.specs.Bytes.{Bytes, AreBytes, low_bytes}
+use Rattle.mem_model.specs.Bytes.{AreBytes}
+use Rattle.flat_memory.specs.Bytes.{Bytes, low_bytes}
 use Rattle.flat_memory.specs.Relation.{Extents, IsExtent, CellIs, CellsAreAt, OfObject, Nobody, ObjectIs, MemoryIs}
 use Rattle.flat_memory.specs.Machine.{is_in_data, is_in_stack, memory_bytes, HasParts}
 use Rattle.flat_globals.specs.Globals.{global_offset, cell_byte, AreLaidOut, DataIs, extents_of, owner_from, owner_of}
@@ -71,18 +72,13 @@ record IsOwned (start : ℕ) (globals : List DataObject) (y : ℕ) : Type 0 wher
   from : start + object.offset ≤ y
   to : y < start + object.offset + object.size
 
-both : (p q : Bool) → (p && q) ≡ true → (p ≡ true) × (q ≡ true)
-both true true e = (refl, refl)
-both true false e = absurd (cc)
-both false q e = absurd (cc)
-
 owned : (start n : ℕ) (globals : List DataObject) (y : ℕ) → owner_from start n globals y ≢ Nobody → IsOwned start globals y
 owned start n [] y ne = absurd (ne refl)
 owned start n (x ∷ globals) y ne = by_test (owned start (suc n) globals y) (nat_le (start + x.offset) y && nat_lt y (start + x.offset + x.size)) refl
   where
     by_test : (owner_from start (suc n) globals y ≢ Nobody → IsOwned start globals y) → (t : Bool) → (nat_le (start + x.offset) y && nat_lt y (start + x.offset + x.size)) ≡ t → IsOwned start (x ∷ globals) y
     by_test ih true e =
-        let h = both (nat_le (start + x.offset) y) (nat_lt y (start + x.offset + x.size)) e in
+        let h = and_parts (nat_le (start + x.offset) y) (nat_lt y (start + x.offset + x.size)) e in
         record { number = 0; object = x; is = refl; from = leb-true (start + x.offset) y h.0; to = ltb-true y (start + x.offset + x.size) h.1 }
     by_test ih false e =
         let h = ih (λ f. ne (cond-false (nat_le (start + x.offset) y && nat_lt y (start + x.offset + x.size)) (OfObject n) (owner_from start (suc n) globals y) e ∙ f)) in

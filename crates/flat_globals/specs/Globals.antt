@@ -9,7 +9,8 @@ use Rattle.data_object.specs.declared.DataCell.TheVariants.{Byte, AddressPart}
 use Rattle.data_object.specs.Layout.{ObjectsLieFrom}
 use Rattle.data_object.specs.Globals.{Reaches, AreLawful}
 use Rattle.data_object.specs.Start.{start_memory}
-use Rattle.flat_memory.specs.Bytes.{AreBytes, low_bytes}
+use Rattle.mem_model.specs.Bytes.{AreBytes}
+use Rattle.flat_memory.specs.Bytes.{low_bytes}
 use Rattle.flat_memory.specs.Relation.{Extents, Owners, OfObject, Nobody, MemoryIs}
 use Rattle.flat_memory.specs.Machine.{memory_bytes, HasParts}
 

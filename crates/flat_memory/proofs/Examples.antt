@@ -4,7 +4,8 @@ use Rattle.std.specs.Prelude.{◌&&◌, nat_le, nat_lt}
 use Rattle.std.proofs.lemmas.Bool.{and_from, le-leb, lt-ltb, le-ltb, and_right, cond-true, cond-false}
 use Rattle.mem_model.specs.Cells.{bytes_of, parts_of, number_of, pointer_of, value_or_fault}
 use Rattle.mem_model.specs.Memory.{object_at, load_at}
-use Rattle.flat_memory.specs.Bytes.{AreBytes, bytes_from, put_bytes, low_bytes, number_from}
+use Rattle.mem_model.specs.Bytes.{AreBytes}
+use Rattle.flat_memory.specs.Bytes.{bytes_from, put_bytes, low_bytes, number_from}
 use Rattle.flat_memory.specs.Relation.{IsExtent, IsAddressOf, ObjectIs}
 use Rattle.flat_memory.specs.Examples.{ExampleStands, example_target, memory, extents, owners, example_bytes}
 use Rattle.flat_memory.proofs.Numbers.{put-small, low_bytes-are}

@@ -16,7 +16,8 @@ use Rattle.mem_model.proofs.Changes.{load_tells, store_at-ok, copy_at-ok, copy_p
 use Rattle.mem_model.proofs.Faults.{none_first}
 use Rattle.mem_model.proofs.RelatedRows.{value_or_fault-some}
 use Rattle.mem_model.proofs.RowLaws.{length-row}
-use Rattle.flat_memory.specs.Bytes.{Bytes, AreBytes, bytes_from, put_bytes, low_bytes, number_from}
+use Rattle.mem_model.specs.Bytes.{AreBytes}
+use Rattle.flat_memory.specs.Bytes.{Bytes, bytes_from, put_bytes, low_bytes, number_from}
 use Rattle.flat_memory.specs.Relation.{Extent, Extents, IsAddressOf, ValueIs, CellsAre, CellsAreAt, Owners, OfObject, ObjectIs, MemoryIs}
 use Rattle.flat_memory.specs.Laws.{IsRowThere, IsLoadAt, IsStoreAt, IsCopyAt}
 use Rattle.flat_memory.proofs.Numbers.{put-out, put-small, low_bytes-are, bytes_from-are}

@@ -2,7 +2,8 @@
 use Rattle.std.proofs.Common.{◌≡◌, ◌≢◌, ℕ, zero, suc, ◌+◌, ◌*◌, ◌/◌, ◌%◌, ◌^◌, ◌<◌, ◌≤◌, ◌⊎◌, Bool, true, false, List, [], ◌∷◌, length, refl, sym, ap, ◌∙◌, subst, arith, inl, inr, ⊎_elim, eq-eqb}
 use Rattle.std.specs.Prelude.{◌==◌, if◌then◌else◌}
 use Rattle.std.proofs.lemmas.Bool.{eqb-true}
-use Rattle.flat_memory.specs.Bytes.{Bytes, AreBytes, bytes_from, put_bytes, low_bytes, number_from}
+use Rattle.mem_model.specs.Bytes.{AreBytes}
+use Rattle.flat_memory.specs.Bytes.{Bytes, bytes_from, put_bytes, low_bytes, number_from}
 
 pub bytes_come_back : (bs : List ℕ) → AreBytes bs → low_bytes (length bs) (number_from bs) ≡ bs
 unfolding low_bytes number_from

@@ -3,7 +3,7 @@ use Rattle.std.proofs.Common.{◌≡◌, ◌≢◌, ℕ, zero, suc, ◌+◌, ◌
 use Rattle.std.specs.Prelude.{slice_get, ◌==◌, ◌&&◌, ◌||◌, not, nat_lt, nat_le, ℤ, pos, negsuc, ◌+ℤ◌, ◌-ℤ◌, int_lt, int_le, if◌then◌else◌}
 use Rattle.std.specs.Ordering.{int_eq}
 use Rattle.std.proofs.lemmas.Bool.Decides.{Decides-int_eq}
-use Rattle.std.proofs.lemmas.Bool.{false_from_ne_true, cases_lt, cases_eq, eqb-true, ne_eqb, or_parts, not-true, ltb-false, lt-ltb, le-ltb, le-leb, lt-leb}
+use Rattle.std.proofs.lemmas.Bool.{false_from_ne_true, cases_lt, cases_eq, eqb-true, ne_eqb, or_parts, not-true, ltb-false, lt-ltb, le-ltb, le-leb, lt-leb, and_parts}
 use Rattle.std.proofs.lemmas.Int.{ints}
 use Rattle.alpha_isa.specs.Arithmetic.{word_at, word_from, word_difference}
 use Rattle.mem_model.specs.declared.value.Ptr.{Ptr}
@@ -11,7 +11,6 @@ use Rattle.mem_model.specs.declared.value.Value.{Value}
 use Rattle.mem_model.specs.declared.value.Value.TheVariants.{Word, Address, Unset}
 use Rattle.mem_model.specs.Memory.{Memory, object_at}
 use Rattle.mem_model.specs.Pointers.{ptr_plus, is_live, size_at, is_offset, is_at_end, share_object, option_if, pointer_plus, pointer_minus, pointer_lt, pointer_le, pointer_eq, addresses_eq, is_null}
-use Rattle.mem_model.proofs.RowValues.{both}
 use Rattle.mem_model.proofs.Pointers.{when-some}
 use Rattle.flat_memory.specs.Bytes.{Bytes}
 use Rattle.flat_memory.specs.Relation.{Extent, Extents, IsAddressOf, ValueIs, Owners, OfObject, MemoryIs}
@@ -95,7 +94,7 @@ module _ (xs : Extents) (memory : Memory) (owner : Owners) (m : Bytes) (mem : Me
   pointers_move Unset u w by h e = absurd (cc)
   pointers_move (Address p) u w by h e =
       let a = when-some (is_live memory p && is_offset (p.offset +ℤ by) (size_at memory p)) (Address (ptr_plus p by)) u e in
-      let tests = both (is_live memory p) (is_offset (p.offset +ℤ by) (size_at memory p)) a.0 in
+      let tests = and_parts (is_live memory p) (is_offset (p.offset +ℤ by) (size_at memory p)) a.0 in
       let object = mem.each p.object tests.0 in
       let n = offset-number (p.offset +ℤ by) (size_at memory p) tests.1 in
       let made : Some object.extent ≡ Some h.extent = sym object.made ∙ h.made in
@@ -119,7 +118,7 @@ module _ (xs : Extents) (memory : Memory) (owner : Owners) (m : Bytes) (mem : Me
   minus-is : (v u : Value) (w x : ℕ) (d : ℤ) → ValueIs xs v w → ValueIs xs u x → pointer_minus memory v u ≡ Some d → word_at (word_difference w x) ≡ word_from d
   minus-is (Address p) (Address q) w x d s t e =
       let a = when-some (share_object memory p q) (p.offset -ℤ q.offset) d e in
-      let tests = both (is_live memory p) (p.object == q.object) a.0 in
+      let tests = and_parts (is_live memory p) (p.object == q.object) a.0 in
       let o = in_one p q w x s t (eqb-true p.object q.object tests.1) in
       let f : pos o.at -ℤ pos o.to ≡ d = ap (λ z. z -ℤ pos o.to) (sym o.p_offset) ∙ ap (λ z. p.offset -ℤ z) (sym o.q_offset) ∙ a.1 in
       ap (λ k. word_at (word_difference k x)) o.w_is ∙ ap (λ k. word_at (word_difference (o.base + o.at) k)) o.x_is ∙ apart o.base o.at o.to o.size d f o.at_within o.to_within o.small
@@ -131,7 +130,7 @@ module _ (xs : Extents) (memory : Memory) (owner : Owners) (m : Bytes) (mem : Me
   lt-is : (v u : Value) (w x : ℕ) (b : Bool) → ValueIs xs v w → ValueIs xs u x → pointer_lt memory v u ≡ Some b → nat_lt w x ≡ b
   lt-is (Address p) (Address q) w x b s t e =
       let a = when-some (share_object memory p q) (int_lt p.offset q.offset) b e in
-      let tests = both (is_live memory p) (p.object == q.object) a.0 in
+      let tests = and_parts (is_live memory p) (p.object == q.object) a.0 in
       let o = in_one p q w x s t (eqb-true p.object q.object tests.1) in
       let f : int_lt (pos o.at) (pos o.to) ≡ b = ap (λ z. int_lt z (pos o.to)) (sym o.p_offset) ∙ ap (int_lt p.offset) (sym o.q_offset) ∙ a.1 in
       ap (λ k. nat_lt k x) o.w_is ∙ ap (nat_lt (o.base + o.at)) o.x_is ∙ same_lt o.base o.at o.to ∙ f
@@ -143,7 +142,7 @@ module _ (xs : Extents) (memory : Memory) (owner : Owners) (m : Bytes) (mem : Me
   le-is : (v u : Value) (w x : ℕ) (b : Bool) → ValueIs xs v w → ValueIs xs u x → pointer_le memory v u ≡ Some b → nat_le w x ≡ b
   le-is (Address p) (Address q) w x b s t e =
       let a = when-some (share_object memory p q) (int_le p.offset q.offset) b e in
-      let tests = both (is_live memory p) (p.object == q.object) a.0 in
+      let tests = and_parts (is_live memory p) (p.object == q.object) a.0 in
       let o = in_one p q w x s t (eqb-true p.object q.object tests.1) in
       let f : int_le (pos o.at) (pos o.to) ≡ b = ap (λ z. int_le z (pos o.to)) (sym o.p_offset) ∙ ap (int_le p.offset) (sym o.q_offset) ∙ a.1 in
       ap (λ k. nat_le k x) o.w_is ∙ ap (nat_le (o.base + o.at)) o.x_is ∙ same_le o.base o.at o.to ∙ f
@@ -211,7 +210,7 @@ module _ (xs : Extents) (memory : Memory) (owner : Owners) (m : Bytes) (mem : Me
   eq-is : (v u : Value) (w x : ℕ) (b : Bool) → ValueIs xs v w → ValueIs xs u x → pointer_eq memory v u ≡ Some b → (w == x) ≡ b
   eq-is (Address p) (Address q) w x b s t e =
       let a = choice_is (is_live memory p && is_live memory q) (addresses_eq memory p q) b e in
-      let tests = both (is_live memory p) (is_live memory q) a.0 in
+      let tests = and_parts (is_live memory p) (is_live memory q) a.0 in
       addresses-is p q w x b s t tests.0 tests.1 (p.object == q.object) refl a.1
   eq-is (Address p) (Word zero) w x b s t e = ap (λ k. w == k) t ∙ null-is (Address p) w b s e
   eq-is (Address p) (Word (suc k)) w x b s t e = absurd (cc)

@@ -1,5 +1,5 @@
 -- Bytes by their addresses, and numbers by their bytes, the least first.
-use Rattle.std.specs.Prelude.{ℕ, zero, suc, ◌+◌, ◌*◌, ◌/◌, ◌%◌, ◌<◌, ◌==◌, List, [], ◌∷◌, if◌then◌else◌}
+use Rattle.std.specs.Prelude.{ℕ, zero, suc, ◌+◌, ◌*◌, ◌/◌, ◌%◌, ◌==◌, List, [], ◌∷◌, if◌then◌else◌}
 
 -- a byte for each address
 abbrev pub Bytes : Type 0
@@ -24,8 +24,3 @@ low_bytes (suc k) n = (n % 256) ∷ low_bytes k (n / 256)
 unfoldable pub number_from : List ℕ → ℕ
 number_from [] = 0
 number_from (b ∷ bs) = b + 256 * number_from bs
-
--- each of them is a byte
-abbrev pub AreBytes : List ℕ → Type 0
-AreBytes [] = Unit {0}
-AreBytes (b ∷ bs) = (b < 256) × AreBytes bs

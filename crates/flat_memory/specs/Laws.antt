@@ -6,7 +6,8 @@ use Rattle.mem_model.specs.declared.value.Cell.{Cell}
 use Rattle.mem_model.specs.Cells.{number_of, pointer_of, cells_of}
 use Rattle.mem_model.specs.Memory.{Memory, object_at, row_at, put_row, read_fault, load_at, store_at, copy_at, begin_objects, end_objects, IsWidth, IsStorable}
 use Rattle.mem_model.specs.Laws.{CanPut}
-use Rattle.flat_memory.specs.Bytes.{Bytes, AreBytes, bytes_from, put_bytes, low_bytes, number_from}
+use Rattle.mem_model.specs.Bytes.{AreBytes}
+use Rattle.flat_memory.specs.Bytes.{Bytes, bytes_from, put_bytes, low_bytes, number_from}
 use Rattle.flat_memory.specs.Relation.{Extent, IsExtent, Extents, IsAddressOf, ValueIs, CellsAre, Owners, OfObject, MemoryIs}
 
 -- ---- numbers and cells

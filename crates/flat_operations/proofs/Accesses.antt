@@ -23,7 +23,8 @@ use Rattle.temp_ir.specs.declared.operation.LoadOp.TheVariants.{Ldbu, Ldwu, Ldl,
 use Rattle.temp_ir.specs.declared.operation.StoreOp.{StoreOp}
 use Rattle.temp_ir.specs.declared.operation.StoreOp.TheVariants.{Stb, Stw, Stl, Stq}
 use Rattle.alloc_model.specs.Contents.{Content, Plain, Bundle, word_content, pointer_at, pointer_in, load_width, store_width, number_or, pointer_or_bundle, content_of, extended_content, unless_fault, content_in, loaded_content, when_width, stored_cells, memory_with, stored_memory}
-use Rattle.flat_memory.specs.Bytes.{Bytes, AreBytes, bytes_from, put_bytes, low_bytes, number_from}
+use Rattle.mem_model.specs.Bytes.{AreBytes}
+use Rattle.flat_memory.specs.Bytes.{Bytes, bytes_from, put_bytes, low_bytes, number_from}
 use Rattle.flat_memory.specs.Relation.{Extents, IsAddressOf, CellsAre, Owners, MemoryIs}
 use Rattle.flat_memory.proofs.Numbers.{bytes_come_back, bytes_from-are, low_bytes-are}
 use Rattle.flat_memory.proofs.Rows.{cells-length}

@@ -20,7 +20,8 @@ use Rattle.temp_ir.specs.declared.insn.TempInsn.{TempInsn}
 use Rattle.alloc_model.specs.Temporaries.{sizes_in, start_world}
 use Rattle.alloc_model.specs.Stores.{empty}
 use Rattle.alloc_model.specs.Places.{Plan, functions_of}
-use Rattle.flat_memory.specs.Bytes.{Bytes, AreBytes}
+use Rattle.mem_model.specs.Bytes.{AreBytes}
+use Rattle.flat_memory.specs.Bytes.{Bytes}
 use Rattle.flat_memory.specs.Relation.{Extent, IsExtent, Owner, Owners, OfObject, OfFrame, Nobody, MemoryIs}
 use Rattle.flat_memory.specs.Machine.{is_in_data, is_in_stack, memory_bytes, is_reached, HasParts}
 use Rattle.flat_memory.specs.Laws.{AreNew}
@@ -157,7 +158,7 @@ module _ (b : Build) (main stack : ℕ) (globals : List DataObject) (ok : BuildS
 
   -- ---- the branch
 
-  record Branched : Type 0 where
+  record HasBranched : Type 0 where
     to : State
     comes : Comes p s to
     next : ℕ
@@ -170,7 +171,7 @@ module _ (b : Build) (main stack : ℕ) (globals : List DataObject) (ok : BuildS
     input_is : to.input ≡ input
     output : to.output ≡ []
 
-  branched : Branched
+  branched : HasBranched
   branched =
       let d = branches_step p b.there p.entry Bsr 26 (function_label main) b.start.behind b.start.end s (stands p b.there p.entry (Branch Bsr 26 (function_label main)) b.start.behind b.start.end s is-at) (omega arith) in
       let bytes = bytes-same p s d.to d.same in
@@ -199,7 +200,7 @@ module _ (b : Build) (main stack : ℕ) (globals : List DataObject) (ok : BuildS
 
   -- ---- the entry part
 
-  frame-at : (d : Branched) → IsFrameAt p d.to shape sp
+  frame-at : (d : HasBranched) → IsFrameAt p d.to shape sp
   frame-at d =
       let whole = (frames_are_small shape).whole in
       let even = g.is_stack.whole in
@@ -215,7 +216,7 @@ module _ (b : Build) (main stack : ℕ) (globals : List DataObject) (ok : BuildS
         reached = λ i lt. d.reached (sp + i) ∙ in-stack (sp + i) (omega (arith, low)) (omega (arith, lt, e));
       }
 
-  entered : (d : Branched) → EntryDone p b.there (blocks_items a (b.setting main) 0 a.function.blocks (exit_items (b.setting main) (b.behind main))) b.end shape shape.saves sp d.to
+  entered : (d : HasBranched) → EntryDone p b.there (blocks_items a (b.setting main) 0 a.function.blocks (exit_items (b.setting main) (b.behind main))) b.end shape shape.saves sp d.to
   entered d = entries_are_done p b.there (b.there (function_label main)) (blocks_items a (b.setting main) 0 a.function.blocks (exit_items (b.setting main) (b.behind main))) b.end shape shape.saves sp d.to d.is_at (d.at_top ∙ sym up) (frame-at d)
 
   -- ---- the call of `main`
@@ -270,7 +271,7 @@ module _ (b : Build) (main stack : ℕ) (globals : List DataObject) (ok : BuildS
   free : (y : ℕ) → stack_start p ≤ y → y < sp → owner y ≡ Nobody
   free y from to = owner-below y to ∙ ⊎_elim (λ e. e) (λ ne. let h = (data-below y ne).1 in let low = parts.data_below in absurd (omega (arith, h, low, from))) (nobody-or-not (owner_of (data_start p) globals y))
 
-  module _ (d : Branched) (x : EntryDone p b.there (blocks_items a (b.setting main) 0 a.function.blocks (exit_items (b.setting main) (b.behind main))) b.end shape shape.saves sp d.to) where
+  module _ (d : HasBranched) (x : EntryDone p b.there (blocks_items a (b.setting main) 0 a.function.blocks (exit_items (b.setting main) (b.behind main))) b.end shape shape.saves sp d.to) where
     object-ne : (y k : ℕ) → owner_of (data_start p) globals y ≡ OfObject k → owner_of (data_start p) globals y ≢ Nobody
     object-ne y k e f = clash (sym e ∙ f)
       where

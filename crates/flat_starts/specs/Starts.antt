@@ -12,7 +12,7 @@ use Rattle.data_object.specs.declared.DataObject.{DataObject}
 use Rattle.alloc_model.specs.Contents.{Content}
 use Rattle.alloc_model.specs.Temporaries.{start_world}
 use Rattle.alloc_model.specs.Places.{Places, placed_code}
-use Rattle.flat_memory.specs.Bytes.{AreBytes}
+use Rattle.mem_model.specs.Bytes.{AreBytes}
 use Rattle.instruction_items.specs.Items.{function_label}
 use Rattle.flat_runs.specs.Builds.{Build, BuildStands}
 use Rattle.flat_runs.specs.Matching.{FitsStack}

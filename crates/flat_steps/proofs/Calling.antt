@@ -18,7 +18,7 @@ use Rattle.frame_transfers.specs.Laws.{StandsFor}
 use Rattle.stack_rooms.specs.Items.{ItemSetting}
 use Rattle.stack_rooms.specs.Laws.{is_usable, HasOuter, store_behind}
 use Rattle.stack_rooms.proofs.Runs.{no-registers}
-use Rattle.call_steps.specs.Stacks.{Waiting, StackIs}
+use Rattle.call_steps.specs.Stacks.{WaitingCall, StackIs}
 use Rattle.stack_rooms.specs.Entering.{extents_from, called_sp, called_frame, waiting_call, HasRoom, EntryIs}
 use Rattle.call_steps.specs.Leaving.{caller_of, resumed_places, ExitIs}
 use Rattle.stack_rooms.specs.Rooms.{frames_size}
@@ -31,10 +31,10 @@ use Rattle.flat_steps.specs.Matching.{items_from_point, WaitsFor, AreWaiting, to
 use Rattle.flat_steps.proofs.Lists.{get-below, stands-at, get-map, insn-is, width-fits}
 use Rattle.flat_steps.proofs.Points.{site-is}
 use Rattle.flat_steps.proofs.Meters.{IsMetered, rooms-hold, small-frame}
-use Rattle.flat_steps.proofs.Matched.{built, same-shape, few, is-insn, may, stated, rest, stands-plain}
+use Rattle.flat_steps.proofs.Matched.{built, same-shape, few, is-insn, may, stated_here, rest, stands-plain}
 
 -- the frames of calls hold that of the first one
-frames-hold : (s : FrameShape) (gs : List Waiting) → frame_size s ≤ frames_size s gs
+frames-hold : (s : FrameShape) (gs : List WaitingCall) → frame_size s ≤ frames_size s gs
 frames-hold s [] = omega arith
 frames-hold s (g ∷ gs) = omega arith
 
@@ -127,7 +127,7 @@ module _ (b : Build) (ok : BuildStands b) (k : Config Places) (s : State) (m : M
         let callee = ok.functions function a is in
         let first = stands-at a.function.blocks 0 callee.edges.entry in
         let rs = registers_at m.plan k.here.point.block k.here.point.at in
-        let none = no-registers rs (stated b ok k s m (i.Call function arguments) there).count in
+        let none = no-registers rs (stated_here b ok k s m (i.Call function arguments) there).count in
         let d = calls_are_done b.program b.there b.start (b.setting k.here.point.function) (rest b ok k s m (i.Call function arguments) there) b.end m.call m.waiting k.world.outer k.here.store s m.is_call m.stack m.outer (transfers_at m.plan k.here.point.block k.here.point.at) (may b ok k s m (i.Call function arguments) there) (widest_call m.plan.function.blocks) function arguments rs none narrow a (b.setting function) (b.behind function) b.end callee.stands first.one first.is callee.edges.first (room fits) (stands-plain b ok k s m (i.Call function arguments) there refl) in
         record { to = d.to; comes = d.comes; matches = matched-inside first.one first.is d; moves = inl d.some }
 
@@ -157,7 +157,7 @@ module _ (b : Build) (ok : BuildStands b) (k : Config Places) (s : State) (m : M
     same-outer = ap (λ n. end_locals k.world.outer n (length m.call.shape.sizes)) m.own ∙ ap (λ l. end_locals k.world.outer k.here.own (length l)) sizes-there
 
     empty-registers : registers_at m.plan k.here.point.block k.here.point.at ≡ []
-    empty-registers = no-registers (registers_at m.plan k.here.point.block k.here.point.at) (stated b ok k s m (i.Return with_value) there).count
+    empty-registers = no-registers (registers_at m.plan k.here.point.block k.here.point.at) (stated_here b ok k s m (i.Return with_value) there).count
 
     last : m.waiting ≡ [] → (o : Option ℕ) → result_status returned ≡ o → StepIsDone b k s (machine.Over (status_ending Content Places b.rooms (placed_code b.plans) ((placed_code b.plans).number k.here.point) (whole_world outer-behind meter-behind) o))
     last alone None e = tt
@@ -167,7 +167,7 @@ module _ (b : Build) (ok : BuildStands b) (k : Config Places) (s : State) (m : M
         record { steps = d.steps; last = d.last; run = d.run; output = d.output }
 
     -- to a call that waits
-    module _ (fr : Frame Places) (fs : List (Frame Places)) (w : Waiting) (gs : List Waiting) (callers : k.callers ≡ fr ∷ fs) (waiting : m.waiting ≡ w ∷ gs) (h : WaitsFor b fr w) (above : AreWaiting b fs gs) where
+    module _ (fr : Frame Places) (fs : List (Frame Places)) (w : WaitingCall) (gs : List WaitingCall) (callers : k.callers ≡ fr ∷ fs) (waiting : m.waiting ≡ w ∷ gs) (h : WaitsFor b fr w) (above : AreWaiting b fs gs) where
       abbrev caller-site : Site Content Places
       caller-site = placed_site (widest_call h.plan.function.blocks) (transfers_at h.plan fr.point.block fr.point.at) (registers_at h.plan fr.point.block fr.point.at) (i.Call h.function h.arguments)
 
@@ -232,7 +232,7 @@ module _ (b : Build) (ok : BuildStands b) (k : Config Places) (s : State) (m : M
           let is = site-is b fr.point h.plan h.insns h.is_in ∙ ap (site_or_next (placed_site (widest_call h.plan.function.blocks) (transfers_at h.plan fr.point.block fr.point.at) (registers_at h.plan fr.point.block fr.point.at)) fr.point.block (is_left_at h.insns fr.point.at)) h.stands in
           subst (λ o. StepIsDone b k s (resume Content Places b.rooms (placed_code b.plans) fr fs (whole_world outer-behind meter-behind) returned o)) (sym is) leaving
 
-    returning : (fs : List (Frame Places)) (gs : List Waiting) → k.callers ≡ fs → m.waiting ≡ gs → AreWaiting b fs gs → StepIsDone b k s (return_to Content Places b.rooms (placed_code b.plans) ((placed_code b.plans).number k.here.point) returned (whole_world outer-behind meter-behind) fs)
+    returning : (fs : List (Frame Places)) (gs : List WaitingCall) → k.callers ≡ fs → m.waiting ≡ gs → AreWaiting b fs gs → StepIsDone b k s (return_to Content Places b.rooms (placed_code b.plans) ((placed_code b.plans).number k.here.point) returned (whole_world outer-behind meter-behind) fs)
     returning [] [] callers waiting h = last waiting (result_status returned) refl
     returning (fr ∷ fs) (w ∷ gs) callers waiting h = resuming fr fs w gs callers waiting h.0 h.1
     returning [] (w ∷ gs) callers waiting h = absurd h

@@ -1,7 +1,7 @@
 -- A step at a jump, and one at the end of a block.
 use Rattle.std.proofs.Common.{◌≡◌, ℕ, suc, Bool, true, false, List, [], ◌∷◌, ◌++◌, Some, None, length, drop, refl, sym, ap, ◌∙◌, subst, arith, inr}
-use Rattle.std.specs.Prelude.{slice_get, ◌==◌, ◌&&◌}
-use Rattle.std.proofs.lemmas.Bool.{eqb-true}
+use Rattle.std.specs.Prelude.{slice_get, ◌==◌}
+use Rattle.std.proofs.lemmas.Bool.{eqb-true, and_parts}
 use Rattle.alpha_isa.specs.State.{State}
 use Rattle.alpha_items.specs.declared.item.AsmItem.{AsmItem}
 use Rattle.alpha_items.specs.declared.item.AsmItem.TheVariants.{Label}
@@ -30,17 +30,12 @@ use Rattle.flat_steps.specs.Matching.{items_from_point, Matches, StepIsDone}
 use Rattle.flat_steps.proofs.Lists.{drop-some, drop-none, stands-at, count-behind}
 use Rattle.flat_steps.proofs.Points.{place-is}
 use Rattle.flat_steps.proofs.Meters.{IsMetered}
-use Rattle.flat_steps.proofs.Matched.{items_behind, built, same-shape, is-insn, may, stated, rest, stands-point, config_at, match-at, entered}
+use Rattle.flat_steps.proofs.Matched.{items_behind, built, same-shape, is-insn, may, stated_here, rest, stands-point, config_at, match-at, entered_block}
 
 -- transfers one behind the other
 pub all-in-two : (xs ys : List Transfer) (held : Places) → do_all (xs ++ ys) held ≡ do_all ys (do_all xs held)
 all-in-two [] ys held = refl
 all-in-two (x ∷ xs) ys held = all-in-two xs ys (do_all (x ∷ []) held)
-
-both : (p q : Bool) → (p && q) ≡ true → (p ≡ true) × (q ≡ true)
-both true true e = (refl, refl)
-both true false e = absurd (cc)
-both false q e = absurd (cc)
 
 -- the blocks from one on begin with it
 blocks-begin : (a : Plan) (g : ItemSetting) (n block : ℕ) (insns : List TempInsn) (rest : List AsmItem) → slice_get a.function.blocks block ≡ Some insns → blocks_items a g n (drop block a.function.blocks) rest ≡ Label (g.block_label n) ∷ block_items a g n insns (blocks_items a g (suc n) (drop (suc block) a.function.blocks) rest)
@@ -60,10 +55,10 @@ module _ (b : Build) (ok : BuildStands b) (k : Config Places) (s : State) (m : M
       let can = subst (λ y. CanTransferAll y is_usable edge) (sym m.shape) (targets_fit m.plan (built b ok k s m).faithful k.here.point.block k.here.point.at (i.Jump block) is 0 block refl) in
       let behind = rest b ok k s m (i.Jump block) there in
       let at = subst (λ z. StandsFor b.program b.there (items_of_transfers z xs (items_of_transfers z edge (insn_items (b.setting k.here.point.function) (registers_at m.plan k.here.point.block k.here.point.at) (i.Jump block) ++ rest b ok k s m (i.Jump block) there))) b.end m.call k.world.outer.memory is_usable k.here.store s) (same-shape b ok k s m) (stands-point b ok k s m (i.Jump block) there) in
-      let d = jumps_are_done_here b.program b.there b.start (rest b ok k s m (i.Jump block) there) b.end m.call m.waiting k.world.outer k.here.store s m.is_call m.stack m.outer xs edge (may b ok k s m (i.Jump block) there) can ((b.setting k.here.point.function).block_label block) (widest_call m.plan.function.blocks) block rs (no-registers rs (stated b ok k s m (i.Jump block) there).count) at in
+      let d = jumps_are_done_here b.program b.there b.start (rest b ok k s m (i.Jump block) there) b.end m.call m.waiting k.world.outer k.here.store s m.is_call m.stack m.outer xs edge (may b ok k s m (i.Jump block) there) can ((b.setting k.here.point.function).block_label block) (widest_call m.plan.function.blocks) block rs (no-registers rs (stated_here b ok k s m (i.Jump block) there).count) at in
       let store = (placed_site (widest_call m.plan.function.blocks) xs rs (i.Jump block)).put [] k.here.store in
       let none = (built b ok k s m).edges.jumps k.here.point.block k.here.point.at block is in
-      entered b ok k s m block ((built b ok k s m).edges.targets k.here.point.block k.here.point.at (i.Jump block) is 0 block refl) k.world.outer t metered
+      entered_block b ok k s m block ((built b ok k s m).edges.targets k.here.point.block k.here.point.at (i.Jump block) is 0 block refl) k.world.outer t metered
       (do_all (edge_transfers m.plan k.here.point.block block) ((placed_site (widest_call m.plan.function.blocks) (transfers_at m.plan k.here.point.block k.here.point.at) (registers_at m.plan k.here.point.block k.here.point.at) (i.Jump block)).put [] k.here.store))
       (do_all (edge_in (slice_get b.plans k.here.point.function) k.here.point.block block) ((placed_site (widest_call m.plan.function.blocks) (transfers_at m.plan k.here.point.block k.here.point.at) (registers_at m.plan k.here.point.block k.here.point.at) (i.Jump block)).put [] k.here.store))
       (ap (λ l. do_all l (do_all (edge_transfers m.plan k.here.point.block block) ((placed_site (widest_call m.plan.function.blocks) (transfers_at m.plan k.here.point.block k.here.point.at) (registers_at m.plan k.here.point.block k.here.point.at) (i.Jump block)).put [] k.here.store))) none
@@ -106,6 +101,6 @@ module _ (b : Build) (ok : BuildStands b) (k : Config Places) (s : State) (m : M
 
   pub end-step : slice_get m.insns k.here.point.at ≡ None → (left : Bool) → is_left_at m.insns k.here.point.at ≡ left → StepIsDone b k s (step_at Content Places b.rooms (placed_code b.plans) k (next_if k.here.point.block left))
   end-step none true e =
-      let h = both (flows_out m.insns) (k.here.point.at == length m.insns) e in
+      let h = and_parts (flows_out m.insns) (k.here.point.at == length m.insns) e in
       falls none h.0 (eqb-true k.here.point.at (length m.insns) h.1)
   end-step none false e = tt

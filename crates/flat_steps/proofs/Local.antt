@@ -20,7 +20,7 @@ use Rattle.flat_steps.proofs.Lists.{get-below}
 use Rattle.flat_steps.proofs.Points.{place-is, IsNoCall, no-call}
 use Rattle.flat_steps.proofs.Meters.{IsMetered, rooms-fit}
 use Rattle.flat_steps.proofs.Naming.{names-there}
-use Rattle.flat_steps.proofs.Matched.{built, same-shape, few, is-insn, may, stated, rest, stands-plain, match-at, entered}
+use Rattle.flat_steps.proofs.Matched.{built, same-shape, few, is-insn, may, stated_here, rest, stands-plain, match-at, entered_block}
 
 module _ (b : Build) (ok : BuildStands b) (k : Config Places) (s : State) (m : Matches b k s) (x : TempInsn) (there : slice_get m.insns k.here.point.at ≡ Some x) where
   -- what stands there
@@ -35,7 +35,7 @@ module _ (b : Build) (ok : BuildStands b) (k : Config Places) (s : State) (m : M
   jumps tops o t metered n None is h = tt
   jumps tops o t metered n (Some block) is h =
       let leads = ap (λ z. edge_in z k.here.point.block block) m.is_in.plan ∙ sym (tops n block is) in
-      entered b ok k s m block ((built b ok k s m).edges.targets k.here.point.block k.here.point.at x (is-insn b ok k s m x there) n block is) o t metered (site.put [] k.here.store) (do_all (edge_in (slice_get b.plans k.here.point.function) k.here.point.block block) (site.put [] k.here.store))
+      entered_block b ok k s m block ((built b ok k s m).edges.targets k.here.point.block k.here.point.at x (is-insn b ok k s m x there) n block is) o t metered (site.put [] k.here.store) (do_all (edge_in (slice_get b.plans k.here.point.function) k.here.point.block block) (site.put [] k.here.store))
       (ap (λ l. do_all l (site.put [] k.here.store)) (sym leads)) (h block refl)
 
   acts : HasTops → (t : Meter) → IsMetered k.world.meter t → (act : Act Content) → IsNoCall act → PointIsDone b.program b.there b.start (b.setting k.here.point.function) (rest b ok k s m x there) b.end m.call m.waiting (λ cs. site.put cs k.here.store) x s act → StepIsDone b k s (act_on Content Places b.rooms (placed_code b.plans) k t site act)
@@ -63,6 +63,6 @@ module _ (b : Build) (ok : BuildStands b) (k : Config Places) (s : State) (m : M
       (subst (λ own. PointIsDone b.program b.there b.start (b.setting k.here.point.function) (rest b ok k s m x there) b.end m.call m.waiting (λ cs. site.put cs k.here.store) x s (site.does own (site.fetch k.here.store) k.world.outer)) m.own
       (points_are_done b.program b.there b.start (b.setting k.here.point.function) (rest b ok k s m x there) b.end m.call m.waiting k.world.outer k.here.store s m.is_call (same-shape b ok k s m) m.stack m.outer ok.routines
       (scratch_is_there b.program b.there b.start m.call m.waiting k.here.store s m.stack (rooms-fit b ok k s m fits))
-      (widest_call m.plan.function.blocks) (few b ok k s m) (transfers_at m.plan k.here.point.block k.here.point.at) (registers_at m.plan k.here.point.block k.here.point.at) x (may b ok k s m x there) local (stated b ok k s m x there)
+      (widest_call m.plan.function.blocks) (few b ok k s m) (transfers_at m.plan k.here.point.block k.here.point.at) (registers_at m.plan k.here.point.block k.here.point.at) x (may b ok k s m x there) local (stated_here b ok k s m x there)
       (names-there b ok k s m x ((built b ok k s m).names k.here.point.block k.here.point.at x (is-insn b ok k s m x there)))
       (stands-plain b ok k s m x there none)))

@@ -54,8 +54,8 @@ module _ (b : Build) (ok : BuildStands b) (k : Config Places) (s : State) (m : M
     pub may : AllMayTransfer m.call.shape (transfers_at m.plan k.here.point.block k.here.point.at)
     may = subst (λ z. AllMayTransfer z (transfers_at m.plan k.here.point.block k.here.point.at)) (sym m.shape) (plan-fits.points k.here.point.block k.here.point.at x is-insn).transfers
 
-    pub stated : IsStated m.call.shape (registers_at m.plan k.here.point.block k.here.point.at) x
-    stated = subst (λ z. IsStated z (registers_at m.plan k.here.point.block k.here.point.at) x) (sym m.shape) (plan-fits.points k.here.point.block k.here.point.at x is-insn).stated
+    pub stated_here : IsStated m.call.shape (registers_at m.plan k.here.point.block k.here.point.at) x
+    stated_here = subst (λ z. IsStated z (registers_at m.plan k.here.point.block k.here.point.at) x) (sym m.shape) (plan-fits.points k.here.point.block k.here.point.at x is-insn).stated
 
     -- the items of the instructions behind it
     abbrev pub rest : List AsmItem
@@ -99,8 +99,8 @@ module _ (b : Build) (ok : BuildStands b) (k : Config Places) (s : State) (m : M
   }
 
   -- from the label of a block the machine comes to its first instruction
-  pub entered : (block : ℕ) → block < length m.plan.function.blocks → (o : Outer) (t : Meter) → IsMetered k.world.meter t → (held new : Places) → do_all (top_transfers m.plan block) held ≡ new → PointIsLeft b.program b.there b.start ((b.setting k.here.point.function).block_label block) m.call m.waiting o held s → IsFollowed b k (config_at block 0 new o t) s
-  entered block below o t metered held new is h =
+  pub entered_block : (block : ℕ) → block < length m.plan.function.blocks → (o : Outer) (t : Meter) → IsMetered k.world.meter t → (held new : Places) → do_all (top_transfers m.plan block) held ≡ new → PointIsLeft b.program b.there b.start ((b.setting k.here.point.function).block_label block) m.call m.waiting o held s → IsFollowed b k (config_at block 0 new o t) s
+  entered_block block below o t metered held new is h =
       let z = stands-at m.plan.function.blocks block below in
       let can = subst (λ y. CanTransferAll y is_usable (top_transfers m.plan block)) (sym m.shape) (tops_fit m.plan built.faithful block) in
       let items = items_from_point b m.plan (record { function = k.here.point.function; block = block; at = 0 }) z.one in

@@ -12,7 +12,7 @@ use Rattle.temp_ir.specs.declared.insn.TempInsn.{TempInsn}
 use Rattle.alloc_model.specs.Contents.{Content}
 use Rattle.alloc_model.specs.Places.{Places, Plan, placed_code}
 use Rattle.flat_frames.specs.Shapes.{FrameShape, frame_size}
-use Rattle.call_steps.specs.Stacks.{Waiting}
+use Rattle.call_steps.specs.Stacks.{WaitingCall}
 use Rattle.stack_rooms.specs.Rooms.{rooms_size}
 use Rattle.edge_shapes.specs.Shapes.{shape_of}
 use Rattle.flat_steps.specs.Builds.{Build, BuildStands}
@@ -60,7 +60,7 @@ module _ (b : Build) (ok : BuildStands b) where
   frame-fits : (p : Point) (a : Plan) (insns : List TempInsn) (s : FrameShape) → StandsInPlan b p a insns → s ≡ shape_of a → frame_size s + scratch_size ≤ room_of b.rooms p.function
   frame-fits p a insns s h e = subst (λ z. frame_size z + scratch_size ≤ room_of b.rooms p.function) (sym e) (ok.functions p.function a h.plan).room
 
-  pub rooms-hold : (here : Frame Places) (a : Plan) (insns : List TempInsn) (s : FrameShape) (fs : List (Frame Places)) (gs : List Waiting) → StandsInPlan b here.point a insns → s ≡ shape_of a → AreWaiting b fs gs → rooms_size s gs ≤ total_rooms b.rooms (here ∷ fs)
+  pub rooms-hold : (here : Frame Places) (a : Plan) (insns : List TempInsn) (s : FrameShape) (fs : List (Frame Places)) (gs : List WaitingCall) → StandsInPlan b here.point a insns → s ≡ shape_of a → AreWaiting b fs gs → rooms_size s gs ≤ total_rooms b.rooms (here ∷ fs)
   rooms-hold here a insns s [] [] h e w = let fits = frame-fits here.point a insns s h e in omega (arith, fits)
   rooms-hold here a insns s (f ∷ fs) (g ∷ gs) h e w =
       let fits = frame-fits here.point a insns s h e in

@@ -19,7 +19,7 @@ use Rattle.flat_memory.specs.Laws.{MoreExtents}
 use Rattle.frame_transfers.specs.Items.{items_of_transfers}
 use Rattle.frame_transfers.specs.Laws.{CallAt, FitsTheStack, StandsFor}
 use Rattle.stack_rooms.specs.Laws.{is_usable, HasOuter, RunIsOver}
-use Rattle.call_steps.specs.Stacks.{Waiting, StackIs}
+use Rattle.call_steps.specs.Stacks.{WaitingCall, StackIs}
 use Rattle.edge_shapes.specs.Items.{insns_items, end_transfers, blocks_items, exit_items}
 use Rattle.edge_shapes.specs.Shapes.{shape_of}
 use Rattle.flat_steps.specs.Builds.{Build, BuildStands}
@@ -43,7 +43,7 @@ items_from_point b a p insns =
 -- ---- calls that wait
 
 -- a call that waits stands at a call, and is kept on the stack as it is once the transfers before that are done
-pub record WaitsFor (b : Build) (f : Frame Places) (g : Waiting) : Type 0 where
+pub record WaitsFor (b : Build) (f : Frame Places) (g : WaitingCall) : Type 0 where
   pub plan : Plan
   pub insns : List TempInsn
   pub is_in : StandsInPlan b f.point plan insns
@@ -56,7 +56,7 @@ pub record WaitsFor (b : Build) (f : Frame Places) (g : Waiting) : Type 0 where
   pub behind : g.behind ≡ items_from_point b plan (record f.point { at = suc f.point.at }) insns
   pub end : g.end ≡ b.end
 
-abbrev pub AreWaiting : Build → List (Frame Places) → List Waiting → Type 0
+abbrev pub AreWaiting : Build → List (Frame Places) → List WaitingCall → Type 0
 AreWaiting b [] [] = Unit {0}
 AreWaiting b (f ∷ fs) (g ∷ gs) = WaitsFor b f g × AreWaiting b fs gs
 AreWaiting b _ _ = ⊥
@@ -70,7 +70,7 @@ total_rooms rooms (f ∷ fs) = room_of rooms f.point.function + total_rooms room
 
 pub record Matches (b : Build) (k : Config Places) (s : State) : Type 0 where
   pub call : CallAt
-  pub waiting : List Waiting
+  pub waiting : List WaitingCall
   pub plan : Plan
   pub insns : List TempInsn
   pub is_in : StandsInPlan b k.here.point plan insns

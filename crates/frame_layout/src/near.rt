@@ -8,15 +8,16 @@ use std::alloc::{AllocError, Global};
 use suifvm_ir::block::Block;
 use temp_ir::insn::TempInsn;
 
-/// The greatest number of an argument place that is told from others.
-const MOST_ARGUMENTS: u32 = 1 << 24;
+/// The greatest number of an argument place that is told from others: a greater one counts as
+/// this one.
+const LAST_ARGUMENT_PLACE: u32 = 1 << 24;
 
 fn near_insn(insn: TempInsn) -> TempInsn
     ensures { result ≡ near_insn insn }
 {
     match insn {
         TempInsn::WriteArgument { number, source } => TempInsn::WriteArgument {
-            number: number.min(MOST_ARGUMENTS),
+            number: number.min(LAST_ARGUMENT_PLACE),
             source,
         },
         TempInsn::ReadArgument {
@@ -24,7 +25,7 @@ fn near_insn(insn: TempInsn) -> TempInsn
             number,
         } => TempInsn::ReadArgument {
             destination,
-            number: number.min(MOST_ARGUMENTS),
+            number: number.min(LAST_ARGUMENT_PLACE),
         },
         _ => insn,
     }

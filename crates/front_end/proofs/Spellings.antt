@@ -9,7 +9,7 @@ use Rattle.c_tree.specs.declared.declarations.TranslationUnit.{TranslationUnit}
 use Rattle.c_typed_tree.specs.declared.units.TypedUnit.{TypedUnit}
 use Rattle.c_typed_tree.specs.Lawful.{is_identifier, IsLawfulUnit}
 use Rattle.c_parser.specs.Reading.{IsRead}
-use Rattle.c_text_bytes.specs.Cells.{AreBytes}
+use Rattle.c_text_bytes.specs.Bytes.{AreBytes}
 use Rattle.c_identifier_laws.specs.Identifiers.{HasIdentifier}
 use Rattle.c_identifier_laws.proofs.Declarations.{read_names}
 use Rattle.c_initialiser_byte_laws.specs.Laws.{HasBytes}

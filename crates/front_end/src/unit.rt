@@ -18,13 +18,11 @@ use c_typed_tree::TypedUnit;
 use c_types::check;
 use c_weight::{data_size, weight};
 use call_outcomes::outcome::Which;
+use data_object::MOST_DATA;
 use std::alloc::Global;
 
 /// The weight that a unit may have.
 const MOST_WEIGHT: u64 = 131_072;
-
-/// The bytes of data that a unit, and of memory locals that one of its functions, may have.
-const MOST_DATA: u64 = 67_108_864;
 
 /// The tree of a text, and its typed unit, which is lawful.
 #[derive(Drop)]

@@ -11,6 +11,7 @@ use c_tree::Seq;
 use pass_core::Insn;
 use std::alloc::{AllocError, Global};
 use suifvm_ir::block::Block;
+use suifvm_ir::function::COUNT_LIMIT;
 
 /// Whether each block that instructions go to is one of so many, and not the entry.
 fn go_to_blocks<I: Insn>(insns: &[I], blocks: usize) -> bool
@@ -93,11 +94,11 @@ fn count_insns<I: Insn>(blocks: &[Seq<I>]) -> Option<u32>
 {
     let mut count = 0u32;
     for block in blocks {
-        if block.len() >= 1 << 30 {
+        if block.len() >= COUNT_LIMIT {
             return None;
         }
         count += block.len() as u32;
-        if count >= 1 << 30 {
+        if count as usize >= COUNT_LIMIT {
             return None;
         }
     }
@@ -146,7 +147,7 @@ pub(crate) fn blocks_of<I: Insn>(
 pub(crate) fn is_body<I: Insn>(lists: &[Seq<I>], registers: u32) -> bool
     ensures { OnTrue result (IsBody I.reads I.writes I.targets I.flows_on registers lists.now) }
 {
-    if lists.len() >= 1 << 30 || !stop(lists) || !all_end_late(lists) {
+    if lists.len() >= COUNT_LIMIT || !stop(lists) || !all_end_late(lists) {
         return false;
     }
     if !all_go_to_blocks(lists, lists.len()) || !all_use_registers(lists, registers) {

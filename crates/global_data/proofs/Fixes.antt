@@ -5,7 +5,8 @@ use Rattle.std.specs.Int.{w64, to_le_bytes}
 use Rattle.std.proofs.lemmas.Bool.{cases_lt}
 use Rattle.alpha_items.specs.declared.item.Fix.{Fix}
 use Rattle.alpha_items.specs.Words.{with_fix, fixed_data}
-use Rattle.flat_memory.specs.Bytes.{AreBytes, low_bytes}
+use Rattle.mem_model.specs.Bytes.{AreBytes}
+use Rattle.flat_memory.specs.Bytes.{low_bytes}
 use Rattle.flat_memory.proofs.Machine.{numbers_of_accesses}
 use Rattle.global_data.proofs.Lists.{part-length, part-apart, part-inside, bytes-append, bytes-take, bytes-drop}
 

@@ -11,7 +11,8 @@ use Rattle.data_object.specs.declared.DataObject.{DataObject}
 use Rattle.data_object.specs.declared.DataCell.{DataCell}
 use Rattle.data_object.specs.declared.DataCell.TheVariants.{Byte, AddressPart}
 use Rattle.data_object.specs.Globals.{IsLawfulObject, AreLawful}
-use Rattle.flat_memory.specs.Bytes.{AreBytes, low_bytes}
+use Rattle.mem_model.specs.Bytes.{AreBytes}
+use Rattle.flat_memory.specs.Bytes.{low_bytes}
 use Rattle.flat_memory.proofs.Machine.{numbers_of_accesses}
 use Rattle.flat_globals.specs.Globals.{global_offset, cell_byte, DataIs}
 use Rattle.flat_globals.proofs.Lists.{get-below, get-index}

@@ -8,7 +8,7 @@ use Rattle.data_object.specs.declared.DataObject.{DataObject}
 use Rattle.data_object.specs.declared.DataCell.{DataCell}
 use Rattle.data_object.specs.declared.DataCell.TheVariants.{Byte, AddressPart}
 use Rattle.data_object.specs.Layout.{ObjectsLieFrom}
-use Rattle.flat_memory.specs.Bytes.{AreBytes}
+use Rattle.mem_model.specs.Bytes.{AreBytes}
 use Rattle.flat_globals.specs.Globals.{global_offset}
 use Rattle.flat_globals.proofs.Lists.{map-size, replicate-size}
 use Rattle.global_data.specs.GlobalBytes.{unfixed_byte, object_bytes, bytes_from_end, cell_fixes, cells_fixes, objects_fixes}

@@ -45,8 +45,8 @@ run limits input p answer before after left runs = elim runs [
   | inr e ↦ subst (ExecutesImage limits p input before after) (sym e.1) (ended limits input p e.0 before after (e.2 input left))
 ]
 
-pub executed : (bytes input : List ℕ) (p : Program) (limits : MachineLimits) (answer : Outcome) (before after : Traffic) → IsImage bytes p → before.left ≡ Some input → Executes limits (Some bytes) answer before after → ExecutesImage limits p input before after answer
-executed bytes input p limits answer before after is left executes = elim executes [
+pub executed_image : (bytes input : List ℕ) (p : Program) (limits : MachineLimits) (answer : Outcome) (before after : Traffic) → IsImage bytes p → before.left ≡ Some input → Executes limits (Some bytes) answer before after → ExecutesImage limits p input before after answer
+executed_image bytes input p limits answer before after is left executes = elim executes [
   | inl c ↦ by_cause limits bytes input p answer before after (no_fault bytes p is) c.0 c.1
   | inr m ↦ subst (λ q. ExecutesImage limits q input before after answer) (one bytes m.0 p m.1 is) (run limits input m.0 answer before after left m.2)
 ]
@@ -64,8 +64,8 @@ no_bad_image budget ending.WriteFault at h = cc
 memory_apart : (at : ℕ) → NoMemory ≡ BadImage at → ⊥
 memory_apart at h = cc
 
-pub accepted : (bytes : List ℕ) (p : Program) (limits : MachineLimits) (answer : Outcome) (before after : Traffic) (at : ℕ) → IsImage bytes p → Executes limits (Some bytes) answer before after → answer ≢ BadImage at
-accepted bytes p limits answer before after at is executes bad = elim executes [
+pub accepted_image : (bytes : List ℕ) (p : Program) (limits : MachineLimits) (answer : Outcome) (before after : Traffic) (at : ℕ) → IsImage bytes p → Executes limits (Some bytes) answer before after → answer ≢ BadImage at
+accepted_image bytes p limits answer before after at is executes bad = elim executes [
   | inl c ↦ no_refusal bytes at (no_fault bytes p is) (subst (IsCause (RefusesBytes (Some bytes))) bad c.0)
   | inr m ↦ elim m.2 [
     | inl none ↦ memory_apart at (sym none.0 ∙ bad)

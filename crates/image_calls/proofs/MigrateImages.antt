@@ -19,8 +19,8 @@ by_cause bytes NoMemory none other c = inr refl
 by_cause bytes (BadImage at) none other c = absurd (no_refusal bytes at none c)
 by_cause bytes _ none other c = absurd c
 
-pub migrated : (bytes : List ℕ) (p : Program) (answer : Outcome) (old new : Option (List ℕ)) → IsImage bytes p → Migrates (Some bytes) answer old new → answer ≢ FileFault → answer ≢ WriteFault → (answer ≡ Built) ⊎ (answer ≡ NoMemory)
-migrated bytes p answer old new is migrates no_file no_write = elim migrates [
+pub migrated_image : (bytes : List ℕ) (p : Program) (answer : Outcome) (old new : Option (List ℕ)) → IsImage bytes p → Migrates (Some bytes) answer old new → answer ≢ FileFault → answer ≢ WriteFault → (answer ≡ Built) ⊎ (answer ≡ NoMemory)
+migrated_image bytes p answer old new is migrates no_file no_write = elim migrates [
   | inl c ↦ by_cause bytes answer (no_fault bytes p is) no_file c.0
   | inr m ↦ elim m.2.2 [
     | inl none ↦ inr none.0

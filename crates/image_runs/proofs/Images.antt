@@ -17,7 +17,7 @@ use Rattle.alloc_model.specs.Contents.{Content}
 use Rattle.alloc_model.specs.Temporaries.{start_world, main_of, TempsEnd}
 use Rattle.alloc_model.specs.Places.{Places, Plan, plan_of, placed_code, placed_run, PlacesEnd}
 use Rattle.alloc_model.specs.Laws.{AllFaithful, AllocationKeeps}
-use Rattle.flat_memory.specs.Bytes.{AreBytes}
+use Rattle.mem_model.specs.Bytes.{AreBytes}
 use Rattle.flat_starts.specs.Builds.{Build}
 use Rattle.flat_starts.specs.Matching.{FitsStack}
 use Rattle.flat_starts.specs.Runs.{build_run, ComesTo, RunIsDone, longest_of, turns_for, BelongsTo}

@@ -9,7 +9,7 @@ use Rattle.temp_ir.specs.declared.program.TempProgram.{TempProgram}
 use Rattle.alloc_model.specs.declared.allocation.Allocation.{Allocation}
 use Rattle.alloc_model.specs.Temporaries.{code_of, main_of, TempsEnd}
 use Rattle.alloc_model.specs.Places.{plan_of, functions_of}
-use Rattle.flat_memory.specs.Bytes.{AreBytes}
+use Rattle.mem_model.specs.Bytes.{AreBytes}
 use Rattle.flat_starts.specs.Builds.{Build, BuildStands}
 use Rattle.flat_starts.specs.Runs.{turns_for}
 use Rattle.flat_starts.specs.Starts.{IsBegun}

@@ -24,7 +24,7 @@ use Rattle.frame_transfers.proofs.Runs.{kept-same}
 use Rattle.frame_transfers.specs.Laws.{CallAt, FitsTheStack, StandsFor}
 use Rattle.instruction_items.specs.Items.{ItemSetting, insn_items}
 use Rattle.instruction_items.specs.Laws.{is_usable, AllMayHold, IsStated, IsThere, ArgumentsAre, HasOuter, IsAtLabel, ActIsDone, is_no_call, store_behind}
-use Rattle.instruction_items.proofs.Runs.{fixed-holds, nothing-ended, set-done, no-registers, one-register, two-registers, three-registers, address-done, move-done, object-done, load-done, store-done, operate-done, extend-done, write-argument-done, read-argument-done, branch-done, jumps_are_done, unwritten}
+use Rattle.instruction_items.proofs.Runs.{fixed-holds, nothing-ended, set-done, no-registers, one-register, two-registers, three-registers, address-done, move-done, object-done, load-done, store-done, operate-done, extend-done, write-argument-done, read-argument-done, branch-done, jumps_are_done, unwritten_once}
 use Rattle.instruction_items.proofs.Services.{put-byte-done, take-byte-done, end-service-done, trap-done}
 
 module _ (p : Program) (there : Labels) (g : ItemSetting) (rest : List AsmItem) (end : ℕ) (c : CallAt) (o : Outer) (store : Places) (s : State) (call : FitsTheStack c) (shape : g.shape ≡ c.shape) (args : ArgumentsAre c store (memory_bytes p s)) (outer : HasOuter o s) (widest : ℕ) (le : widest ≤ c.shape.outgoing + 6) where
@@ -100,7 +100,7 @@ module _ (p : Program) (there : Labels) (g : ItemSetting) (rest : List AsmItem) 
       trap-done p there g rest end c o store s outer h (store (Reg 16)) refl)
   insn-done (i.Return with_value) rs plain st = absurd (cc)
   insn-done i.Mark rs plain st = none i.Mark rs st.count (λ u is h.
-      unwritten p there g rest end c o store s call shape args outer [] i.Mark o refl refl refl
+      unwritten_once p there g rest end c o store s call shape args outer [] i.Mark o refl refl refl
       (record { to = s; comes = stays p s; stands = h; outer = outer; kept = kept-same p c s s (λ y. refl) refl (λ q from to e. refl) }))
 
 pub instructions_are_done : (p : Program) (there : Labels) (g : ItemSetting) (rest : List AsmItem) (end : ℕ) (c : CallAt) (o : Outer) (store : Places) (s : State) → FitsTheStack c → g.shape ≡ c.shape → ArgumentsAre c store (memory_bytes p s) → HasOuter o s → (widest : ℕ) → widest ≤ c.shape.outgoing + 6 → (registers : List ℕ) (x : TempInsn) → is_no_call x ≡ true → IsStated c.shape registers x → IsThere p g c x → StandsFor p there (insn_items g registers x ++ rest) end c o.memory is_usable store s → ActIsDone p there g rest end c (store_behind registers x store) x s (does widest x c.own (map store (places_read_at registers x)) o)

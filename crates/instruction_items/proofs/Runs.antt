@@ -42,7 +42,8 @@ use Rattle.alloc_model.specs.Stores.{put, put_all, without}
 use Rattle.alloc_model.specs.Effect.{does, writes, changes, branches, calls_function, argument_answer}
 use Rattle.alloc_model.specs.Places as places
 use Rattle.alloc_model.specs.Places.{Places, Reg, Slot, In, Out, place_eq, places_written_at, ends_place}
-use Rattle.flat_memory.specs.Bytes.{Bytes, AreBytes}
+use Rattle.mem_model.specs.Bytes.{AreBytes}
+use Rattle.flat_memory.specs.Bytes.{Bytes}
 use Rattle.flat_memory.specs.Machine.{memory_bytes}
 use Rattle.flat_operations.specs.Contents.{ContentIs}
 use Rattle.flat_frames.specs.Shapes.{FrameShape, frame_size, argument_at, frame_object_at}
@@ -149,8 +150,8 @@ module _ (p : Program) (there : Labels) (g : ItemSetting) (rest : List AsmItem) 
   abbrev Here : List AsmItem → Type 0
   Here items = StandsFor p there (items ++ rest) end c o.memory is_usable store s
 
-  abbrev Done : List ℕ → TempInsn → Act Content → Type 0
-  Done rs x a = ActIsDone p there g rest end c (store_behind rs x store) x s a
+  abbrev IsDoneBehind : List ℕ → TempInsn → Act Content → Type 0
+  IsDoneBehind rs x a = ActIsDone p there g rest end c (store_behind rs x store) x s a
 
   behind : (new : Outer) (known : ℕ → Bool) (held : Places) → known ≡ is_usable → new.input ≡ o.input → new.output ≡ o.output → HasDone p there rest end c new.memory known held s → ComesToItems p there rest end c new held s
   behind new known held e input output d = record {
@@ -162,82 +163,82 @@ module _ (p : Program) (there : Labels) (g : ItemSetting) (rest : List AsmItem) 
   }
 
   -- an instruction that writes one content, to a register
-  pub written : (rs : List ℕ) (x : TempInsn) (r : ℕ) (content : Content) → ended_of x ≡ [] → calls_function x ≡ false → places_written_at rs x ≡ Reg r ∷ [] → MayHold c.shape r → GivesRegister p there rest end c o.memory is_usable store s r content → ComesToItems p there rest end c o (store_behind rs x store (content ∷ [])) s
-  written rs x r content e f at u d = subst (λ held. ComesToItems p there rest end c o held s) (sym path) (behind o (with_known is_usable r) (put place_eq (Reg r) content store) (more-usable r u.usable_one) refl refl d)
+  pub written_once : (rs : List ℕ) (x : TempInsn) (r : ℕ) (content : Content) → ended_of x ≡ [] → calls_function x ≡ false → places_written_at rs x ≡ Reg r ∷ [] → MayHold c.shape r → GivesRegister p there rest end c o.memory is_usable store s r content → ComesToItems p there rest end c o (store_behind rs x store (content ∷ [])) s
+  written_once rs x r content e f at u d = subst (λ held. ComesToItems p there rest end c o held s) (sym path) (behind o (with_known is_usable r) (put place_eq (Reg r) content store) (more-usable r u.usable_one) refl refl d)
     where
       path : store_behind rs x store (content ∷ []) ≡ put place_eq (Reg r) content store
       path = ap (λ ps. put_all place_eq ps (content ∷ []) (without (ends_place x) store)) at ∙ ap (put place_eq (Reg r) content) (nothing-ended x store e f)
 
-  answered : (rs : List ℕ) (x : TempInsn) (r : ℕ) (answer : ContentAnswer) → ended_of x ≡ [] → calls_function x ≡ false → places_written_at rs x ≡ Reg r ∷ [] → MayHold c.shape r → DoesAnswer p there rest end c o.memory is_usable store s r answer → Done rs x (writes answer o)
-  answered rs x r (Gives content) e f at u d = written rs x r content e f at u d
+  answered : (rs : List ℕ) (x : TempInsn) (r : ℕ) (answer : ContentAnswer) → ended_of x ≡ [] → calls_function x ≡ false → places_written_at rs x ≡ Reg r ∷ [] → MayHold c.shape r → DoesAnswer p there rest end c o.memory is_usable store s r answer → IsDoneBehind rs x (writes answer o)
+  answered rs x r (Gives content) e f at u d = written_once rs x r content e f at u d
   answered rs x r (TrapsWith code) e f at u d = record { steps = 1; last = s; run = d; output = outer.output }
   answered rs x r Fails e f at u d = tt
 
   -- one that writes nothing, and leaves a memory
-  pub unwritten : (rs : List ℕ) (x : TempInsn) (new : Outer) → ended_of x ≡ [] → calls_function x ≡ false → places_written_at rs x ≡ [] → ComesToItems p there rest end c new store s → ComesToItems p there rest end c new (store_behind rs x store []) s
-  unwritten rs x new e f at d = subst (λ held. ComesToItems p there rest end c new held s) (sym (ap (λ ps. put_all place_eq ps [] (without (ends_place x) store)) at ∙ nothing-ended x store e f)) d
+  pub unwritten_once : (rs : List ℕ) (x : TempInsn) (new : Outer) → ended_of x ≡ [] → calls_function x ≡ false → places_written_at rs x ≡ [] → ComesToItems p there rest end c new store s → ComesToItems p there rest end c new (store_behind rs x store []) s
+  unwritten_once rs x new e f at d = subst (λ held. ComesToItems p there rest end c new held s) (sym (ap (λ ps. put_all place_eq ps [] (without (ends_place x) store)) at ∙ nothing-ended x store e f)) d
 
   -- ---- moves
 
-  pub address-done : (op : AddressOp) (destination : ℕ) (base : FirstOperand) (plus : ℤ) (rs : List ℕ) (from r : ℕ) (value : Content) → places_written_at rs (i.Address op destination base plus) ≡ Reg r ∷ [] → MayHold c.shape r → StandsIn is_usable store from value → Here (Plain (fields.Memory (address_op op) r from plus) ∷ []) → (a : Option Content) → moved_content o.memory value (moved_bytes op plus) ≡ a → Done rs (i.Address op destination base plus) (writes (content_answer a) o)
+  pub address-done : (op : AddressOp) (destination : ℕ) (base : FirstOperand) (plus : ℤ) (rs : List ℕ) (from r : ℕ) (value : Content) → places_written_at rs (i.Address op destination base plus) ≡ Reg r ∷ [] → MayHold c.shape r → StandsIn is_usable store from value → Here (Plain (fields.Memory (address_op op) r from plus) ∷ []) → (a : Option Content) → moved_content o.memory value (moved_bytes op plus) ≡ a → IsDoneBehind rs (i.Address op destination base plus) (writes (content_answer a) o)
   address-done op destination base plus rs from r value at u is h (Some content) e =
-      written rs (i.Address op destination base plus) r content refl refl at u
+      written_once rs (i.Address op destination base plus) r content refl refl at u
       (moves_are_done p there rest end c o.memory is_usable store s usable-values op r from plus value content h is (writable c.shape r u) e)
   address-done op destination base plus rs from r value at u is h None e = tt
 
   -- a register that is moved to another one, of which one is fixed
   pub move-done : (rs : List ℕ) (x : TempInsn) (from to : ℕ) → ended_of x ≡ [] → calls_function x ≡ false → places_written_at rs x ≡ Reg to ∷ [] → MayHold c.shape from → MayHold c.shape to → Here (register_move from to) → ComesToItems p there rest end c o (store_behind rs x store (store (Reg from) ∷ [])) s
   move-done rs x from to e f at uf ut h =
-      written rs x to (store (Reg from)) e f at ut
+      written_once rs x to (store (Reg from)) e f at ut
       (transfers_are_done p there rest end c o.memory call (Shift 0 from to ∷ []) is_usable store s usable-values ((uf.usable_one, writable c.shape to ut), tt) h)
 
   -- ---- addresses of objects
 
-  pub object-done : (destination : ℕ) (place : VmObject) (plus a : ℕ) → MayHold c.shape a → IsThere p g c (i.ObjectAddress destination place plus) → Here (insn_items g (a ∷ []) (i.ObjectAddress destination place plus)) → Done (a ∷ []) (i.ObjectAddress destination place plus) (does 0 (i.ObjectAddress destination place plus) c.own [] o)
+  pub object-done : (destination : ℕ) (place : VmObject) (plus a : ℕ) → MayHold c.shape a → IsThere p g c (i.ObjectAddress destination place plus) → Here (insn_items g (a ∷ []) (i.ObjectAddress destination place plus)) → IsDoneBehind (a ∷ []) (i.ObjectAddress destination place plus) (does 0 (i.ObjectAddress destination place plus) c.own [] o)
   object-done destination (Global k) plus a u is h =
-      written (a ∷ []) (i.ObjectAddress destination (Global k) plus) a (address_content k plus) refl refl refl u
+      written_once (a ∷ []) (i.ObjectAddress destination (Global k) plus) a (address_content k plus) refl refl refl u
       (globals_have_addresses p there rest end c o.memory is_usable store s call usable-values a k (g.global_at k) plus is.extent h (writable c.shape a u) is.made is.sound is.base is.within is.near)
   object-done destination (Local k) plus a u is h =
-      written (a ∷ []) (i.ObjectAddress destination (Local k) plus) a (address_content (c.own + k) plus) refl refl refl u
+      written_once (a ∷ []) (i.ObjectAddress destination (Local k) plus) a (address_content (c.own + k) plus) refl refl refl u
       (locals_have_addresses p there rest end c o.memory is_usable store s call usable-values a k is.size plus
       (subst (λ z. Here (frame_address a (frame_object_at z k + plus))) shape h) (writable c.shape a u) is.made is.within)
 
   pub set-done : (register : FixedRegister) (number : ℤ) → IsDisplacement number → Here (Plain (fields.Memory Lda (register_number register) 31 number) ∷ []) → ComesToItems p there rest end c o (store_behind [] (i.SetFixed register number) store (contents.word_content (word_from number) ∷ [])) s
   set-done register number d h =
       let u = fixed-holds c.shape register in
-      written [] (i.SetFixed register number) (register_number register) (contents.word_content (word_from number)) refl refl refl u
+      written_once [] (i.SetFixed register number) (register_number register) (contents.word_content (word_from number)) refl refl refl u
       (sets_are_done p there rest end c o.memory is_usable store s usable-values (register_number register) number h (writable c.shape (register_number register) u) d)
 
   -- ---- loads and stores
 
-  pub load-done : (op : LoadOp) (destination pointer : ℕ) (plus : ℤ) (a b : ℕ) → MayHold c.shape a → MayHold c.shape b → Here (Plain (fields.Memory (load_op op) b a plus) ∷ []) → (v : Option Content) → loaded_content o.memory op (store (Reg a)) plus ≡ v → Done (a ∷ b ∷ []) (i.Load op destination pointer plus) (writes (content_answer v) o)
+  pub load-done : (op : LoadOp) (destination pointer : ℕ) (plus : ℤ) (a b : ℕ) → MayHold c.shape a → MayHold c.shape b → Here (Plain (fields.Memory (load_op op) b a plus) ∷ []) → (v : Option Content) → loaded_content o.memory op (store (Reg a)) plus ≡ v → IsDoneBehind (a ∷ b ∷ []) (i.Load op destination pointer plus) (writes (content_answer v) o)
   load-done op destination pointer plus a b ua ub h (Some content) e =
-      written (a ∷ b ∷ []) (i.Load op destination pointer plus) b content refl refl refl ub
+      written_once (a ∷ b ∷ []) (i.Load op destination pointer plus) b content refl refl refl ub
       (loads_are_done p there rest end c o.memory is_usable store s usable-values op b a plus content h ua.usable_one (writable c.shape b ub) e)
   load-done op destination pointer plus a b ua ub h None e = tt
 
-  pub store-done : (op : StoreOp) (value : FirstOperand) (pointer : ℕ) (plus : ℤ) (rs : List ℕ) (r a : ℕ) (v : Content) → places_written_at rs (i.Store op value pointer plus) ≡ [] → StandsIn is_usable store r v → MayHold c.shape a → Here (Plain (fields.Memory (store_op op) r a plus) ∷ []) → (m : Option memory.Memory) → stored_memory o.memory op v (store (Reg a)) plus ≡ m → Done rs (i.Store op value pointer plus) (changes m o)
+  pub store-done : (op : StoreOp) (value : FirstOperand) (pointer : ℕ) (plus : ℤ) (rs : List ℕ) (r a : ℕ) (v : Content) → places_written_at rs (i.Store op value pointer plus) ≡ [] → StandsIn is_usable store r v → MayHold c.shape a → Here (Plain (fields.Memory (store_op op) r a plus) ∷ []) → (m : Option memory.Memory) → stored_memory o.memory op v (store (Reg a)) plus ≡ m → IsDoneBehind rs (i.Store op value pointer plus) (changes m o)
   store-done op value pointer plus rs r a v at is u h (Some m) e =
-      unwritten rs (i.Store op value pointer plus) (outer_with_memory o m) refl refl at
+      unwritten_once rs (i.Store op value pointer plus) (outer_with_memory o m) refl refl at
       (behind (outer_with_memory o m) is_usable store refl refl refl
       (stores_are_done p there rest end c o.memory is_usable store s usable-values op r a plus v m h is u.usable_one e))
   store-done op value pointer plus rs r a v at is u h None e = tt
 
   -- ---- operations
 
-  pub operate-done : (op : Operation) (destination : ℕ) (left : FirstOperand) (right : SecondOperand) (rs : List ℕ) (l r : ℕ) (second : isa.Operand) (x y : Content) → places_written_at rs (i.Operate op destination left right) ≡ Reg r ∷ [] → MayHold c.shape r → StandsIn is_usable store l x → IsSecond is_usable store second y → Here (Plain (fields.Operate (operate_op op) l second r) ∷ []) → Done rs (i.Operate op destination left right) (writes (operate_answer o.memory op x y) o)
+  pub operate-done : (op : Operation) (destination : ℕ) (left : FirstOperand) (right : SecondOperand) (rs : List ℕ) (l r : ℕ) (second : isa.Operand) (x y : Content) → places_written_at rs (i.Operate op destination left right) ≡ Reg r ∷ [] → MayHold c.shape r → StandsIn is_usable store l x → IsSecond is_usable store second y → Here (Plain (fields.Operate (operate_op op) l second r) ∷ []) → IsDoneBehind rs (i.Operate op destination left right) (writes (operate_answer o.memory op x y) o)
   operate-done op destination left right rs l r second x y at u first is h =
       answered rs (i.Operate op destination left right) r (operate_answer o.memory op x y) refl refl at u
       (operations_are_done p there rest end c o.memory is_usable store s usable-values op l r second x y h first is (writable c.shape r u))
 
-  pub extend-done : (op : ExtendOp) (destination : ℕ) (source : SecondOperand) (rs : List ℕ) (r : ℕ) (second : isa.Operand) (y : Content) → places_written_at rs (i.Extend op destination source) ≡ Reg r ∷ [] → MayHold c.shape r → IsSecond is_usable store second y → Here (Plain (fields.Operate (extend_op op) 31 second r) ∷ []) → Done rs (i.Extend op destination source) (writes (extend_answer op y) o)
+  pub extend-done : (op : ExtendOp) (destination : ℕ) (source : SecondOperand) (rs : List ℕ) (r : ℕ) (second : isa.Operand) (y : Content) → places_written_at rs (i.Extend op destination source) ≡ Reg r ∷ [] → MayHold c.shape r → IsSecond is_usable store second y → Here (Plain (fields.Operate (extend_op op) 31 second r) ∷ []) → IsDoneBehind rs (i.Extend op destination source) (writes (extend_answer op y) o)
   extend-done op destination source rs r second y at u is h =
       answered rs (i.Extend op destination source) r (extend_answer op y) refl refl at u
       (extensions_are_done p there rest end c o.memory is_usable store s usable-values op r second y h is (writable c.shape r u))
 
   -- ---- arguments
 
-  pub write-argument-done : (widest number source a : ℕ) → widest ≤ c.shape.outgoing + 6 → MayHold c.shape a → Here (frame_store a (argument_at number)) → (b : Bool) → nat_lt (number + 6) widest ≡ b → Done (a ∷ []) (i.WriteArgument number source) (if b then Writes (store (Reg a) ∷ []) o else Stops HasNoMeaning o)
+  pub write-argument-done : (widest number source a : ℕ) → widest ≤ c.shape.outgoing + 6 → MayHold c.shape a → Here (frame_store a (argument_at number)) → (b : Bool) → nat_lt (number + 6) widest ≡ b → IsDoneBehind (a ∷ []) (i.WriteArgument number source) (if b then Writes (store (Reg a) ∷ []) o else Stops HasNoMeaning o)
   write-argument-done widest number source a le u h true e =
       subst (λ held. ComesToItems p there rest end c o held s) (sym (ap (put place_eq (Out number) (store (Reg a))) (nothing-ended (i.WriteArgument number source) store refl refl)))
       (behind o is_usable (put place_eq (Out number) (store (Reg a)) store) refl refl refl
@@ -248,11 +249,11 @@ module _ (p : Program) (there : Labels) (g : ItemSetting) (rest : List AsmItem) 
   argument-read : (destination number a : ℕ) → MayHold c.shape a → Here (frame_load a (frame_size c.shape + argument_at number)) → (v : Content) → store (In number) ≡ v → IsHeldArgument c number v (memory_bytes p s) → ComesToItems p there rest end c o (store_behind (a ∷ []) (i.ReadArgument destination number) store (v ∷ [])) s
   argument-read destination number a u h v e is =
       subst (λ z. ComesToItems p there rest end c o (store_behind (a ∷ []) (i.ReadArgument destination number) store (z ∷ [])) s) e
-      (written (a ∷ []) (i.ReadArgument destination number) a (store (In number)) refl refl refl u
+      (written_once (a ∷ []) (i.ReadArgument destination number) a (store (In number)) refl refl refl u
       (arguments_are_read p there rest end c o.memory is_usable store s call usable-values a number h (writable c.shape a u)
       (record { depth = is.caller; owned = is.owned; small = is.small; near = is.near; is = subst (λ z. ContentIs c.extents z (word_in (memory_bytes p s) (c.sp + (frame_size c.shape + argument_at number)))) (sym e) is.is })))
 
-  pub read-argument-done : (destination number a : ℕ) → MayHold c.shape a → Here (frame_load a (frame_size c.shape + argument_at number)) → (v : Content) → store (In number) ≡ v → ArgumentIs c number v (memory_bytes p s) → Done (a ∷ []) (i.ReadArgument destination number) (writes (argument_answer v) o)
+  pub read-argument-done : (destination number a : ℕ) → MayHold c.shape a → Here (frame_load a (frame_size c.shape + argument_at number)) → (v : Content) → store (In number) ≡ v → ArgumentIs c number v (memory_bytes p s) → IsDoneBehind (a ∷ []) (i.ReadArgument destination number) (writes (argument_answer v) o)
   read-argument-done destination number a u h (contents.Plain Unset) e is = tt
   read-argument-done destination number a u h (contents.Plain (Word n)) e is = argument-read destination number a u h (contents.Plain (Word n)) e is
   read-argument-done destination number a u h (contents.Plain (Address q)) e is = argument-read destination number a u h (contents.Plain (Address q)) e is
@@ -260,7 +261,7 @@ module _ (p : Program) (there : Labels) (g : ItemSetting) (rest : List AsmItem) 
 
   -- ---- branches
 
-  pub branch-done : (op : TempBranchOp) (source block a : ℕ) → MayHold c.shape a → Here (Branch (branch_op op) a (g.block_label block) ∷ []) → (t : Option Bool) → branch_test op o.memory (store (Reg a)) ≡ t → Done (a ∷ []) (i.Branch op source block) (branches t o)
+  pub branch-done : (op : TempBranchOp) (source block a : ℕ) → MayHold c.shape a → Here (Branch (branch_op op) a (g.block_label block) ∷ []) → (t : Option Bool) → branch_test op o.memory (store (Reg a)) ≡ t → IsDoneBehind (a ∷ []) (i.Branch op source block) (branches t o)
   branch-done op source block a u h (Some true) e =
       let d = branches_are_done p there rest end c o.memory is_usable store s usable-values usable-low op a (g.block_label block) true h u.usable_one e in
       λ b is. record {
@@ -277,7 +278,7 @@ module _ (p : Program) (there : Labels) (g : ItemSetting) (rest : List AsmItem) 
       same b is = cc
   branch-done op source block a u h (Some false) e =
       let d = branches_are_done p there rest end c o.memory is_usable store s usable-values usable-low op a (g.block_label block) false h u.usable_one e in
-      unwritten (a ∷ []) (i.Branch op source block) o refl refl refl (record {
+      unwritten_once (a ∷ []) (i.Branch op source block) o refl refl refl (record {
         to = d.to;
         comes = d.comes;
         stands = d.stands rest end d.behind;

@@ -22,7 +22,8 @@ use Rattle.alloc_model.specs.Contents.{Content, Bundle}
 use Rattle.alloc_model.specs.Stores.{put}
 use Rattle.alloc_model.specs.Effect.{holds_number, end_act, put_act, trap_act}
 use Rattle.alloc_model.specs.Places.{Places, Reg, place_eq}
-use Rattle.flat_memory.specs.Bytes.{Bytes, AreBytes}
+use Rattle.mem_model.specs.Bytes.{AreBytes}
+use Rattle.flat_memory.specs.Bytes.{Bytes}
 use Rattle.flat_memory.specs.Relation.{Extents}
 use Rattle.flat_memory.specs.Machine.{memory_bytes, is_reached, HasParts}
 use Rattle.flat_operations.specs.Contents.{ContentIs}

@@ -22,7 +22,8 @@ use Rattle.alloc_model.specs.Stores.{without, put_all}
 use Rattle.alloc_model.specs.Effect.{does}
 use Rattle.alloc_model.specs.Places.{Places, In, place_eq, places_read_at, places_written_at, ends_place}
 use Rattle.mem_model.specs.declared.value.Value.TheVariants.{Unset}
-use Rattle.flat_memory.specs.Bytes.{Bytes, AreBytes}
+use Rattle.mem_model.specs.Bytes.{AreBytes}
+use Rattle.flat_memory.specs.Bytes.{Bytes}
 use Rattle.flat_memory.specs.Relation.{Extent, IsExtent, OfFrame, ArgumentPiece}
 use Rattle.flat_memory.specs.Machine.{memory_bytes}
 use Rattle.flat_operations.specs.Contents.{ContentIs}

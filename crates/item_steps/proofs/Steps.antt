@@ -163,13 +163,13 @@ rest-word (pos d) n k e small less = let f : d + k ≡ n = omega (arith, ints, e
 rest-word (negsuc d) n k e small less = let f : n + suc d ≡ k = omega (arith, ints, e) in omega (arith, f)
 
 -- two instructions bring an address into a register
-record Loaded (p : Program) (ra n w : ℕ) (s : State) : Type 0 where
+record AddressIsLoaded (p : Program) (ra n w : ℕ) (s : State) : Type 0 where
   to : State
   comes : Comes p s to
   pc : to.pc ≡ word_address (w + 2)
   has : HasAddress ra n s to
 
-address-loaded : (p : Program) (ra n w : ℕ) (s : State) → ra < 31 → n < 2147450880 → InsnsAt p w (address_insns ra n) → s.pc ≡ word_address w → length s.registers ≡ 32 → Loaded p ra n w s
+address-loaded : (p : Program) (ra n w : ℕ) (s : State) → ra < 31 → n < 2147450880 → InsnsAt p w (address_insns ra n) → s.pc ≡ word_address w → length s.registers ≡ 32 → AddressIsLoaded p ra n w s
 address-loaded p ra n w s lt small h pc len =
     let u = record (with_register ra (memory_address s 31 (pos (high_of n) *ℤ pos 65536)) s) { pc = next_pc (with_register ra (memory_address s 31 (pos (high_of n) *ℤ pos 65536)) s) } in
     let none : w + 0 ≡ w = omega arith in

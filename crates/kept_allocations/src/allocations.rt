@@ -30,7 +30,7 @@ const ANSWER_REGISTER: u8 = 1;
 const SUM_REGISTER: u8 = 2;
 
 /// The one block.
-fn keeping(alloc: Global, value: i16, callee: u32) -> Result<Block<TempInsn>, AllocError>
+fn kept_sum_block(alloc: Global, value: i16, callee: u32) -> Result<Block<TempInsn>, AllocError>
     ensures { IfOk result (λ block. block ≡ spec.kept_sum value callee) }
 {
     let mut block = Block::new(alloc);
@@ -77,7 +77,7 @@ fn function(
 {
     let name = Name::from_slice(alloc, name)?;
     let mut blocks = Seq::new(alloc);
-    blocks.push(keeping(alloc, value, callee)?)?;
+    blocks.push(kept_sum_block(alloc, value, callee)?)?;
     Ok(Func {
         name,
         params: 0,

@@ -55,15 +55,15 @@ module _ (whole : List TempInsn) (bottom : List Bool) (t : ℕ) where
       further : (q : ℕ) × (2 * suc number ≤ q) × IsOfInsns (suc number) xs t q → (q : ℕ) × (2 * number ≤ q) × IsOfInsns number (x ∷ xs) t q
       further (q, low, is) = (q, omega (arith, low), inr is)
 
-  abbrev Marked : (number : ℕ) (xs : List TempInsn) (q : ℕ) → Type 0
-  Marked number xs q = IsOfInsns number xs t q ⊎ IsBehind number (number + length xs) bottom t q
+  abbrev IsMarked : (number : ℕ) (xs : List TempInsn) (q : ℕ) → Type 0
+  IsMarked number xs q = IsOfInsns number xs t q ⊎ IsBehind number (number + length xs) bottom t q
 
   -- what is live at the bottom is so behind the last instruction
-  behind_last : (number p : ℕ) (x : TempInsn) (xs : List TempInsn) → p ≤ 2 * number + 1 → has bottom t ≡ true → (q : ℕ) × (p ≤ q) × Marked number (x ∷ xs) q
+  behind_last : (number p : ℕ) (x : TempInsn) (xs : List TempInsn) → p ≤ 2 * number + 1 → has bottom t ≡ true → (q : ℕ) × (p ≤ q) × IsMarked number (x ∷ xs) q
   behind_last number p x xs low h =
       (2 * (number + suc (length xs)) - 1, omega (arith, low), inr (record { some = omega arith; live = h; is = omega arith }))
 
-  at_marked : (number p at : ℕ) (x : TempInsn) (xs : List TempInsn) → drop at whole ≡ x ∷ xs → present_at Live t p number at x ≡ true → (q : ℕ) × (p ≤ q) × Marked number (x ∷ xs) q
+  at_marked : (number p at : ℕ) (x : TempInsn) (xs : List TempInsn) → drop at whole ≡ x ∷ xs → present_at Live t p number at x ≡ true → (q : ℕ) × (p ≤ q) × IsMarked number (x ∷ xs) q
   at_marked number p at x xs e h =
       ⊎_elim
       (λ early. let place : p ≡ 2 * number = eqb-true p (2 * number) (and_one (p == 2 * number) (has_register (reads_of x) t || Live at) early) in
@@ -77,24 +77,24 @@ module _ (whole : List TempInsn) (bottom : List Bool) (t : ℕ) where
       (or_cases (has_register (writes_of x) t) (Live (suc at)) (and_two (p == 2 * number + 1) (has_register (writes_of x) t || Live (suc at)) late)))
       (or_cases ((p == 2 * number) && (has_register (reads_of x) t || Live at)) ((p == 2 * number + 1) && (has_register (writes_of x) t || Live (suc at))) h)
     where
-      low : (p : ℕ) → p ≡ 2 * number → (q : ℕ) × (2 * number ≤ q) × IsOfInsns number (x ∷ xs) t q → (q : ℕ) × (p ≤ q) × Marked number (x ∷ xs) q
+      low : (p : ℕ) → p ≡ 2 * number → (q : ℕ) × (2 * number ≤ q) × IsOfInsns number (x ∷ xs) t q → (q : ℕ) × (p ≤ q) × IsMarked number (x ∷ xs) q
       low p place (q, below, is) = (q, omega (arith, below, place), inl is)
 
-      high : (p : ℕ) → p ≡ 2 * number + 1 → (q : ℕ) × (2 * suc number ≤ q) × IsOfInsns (suc number) xs t q → (q : ℕ) × (p ≤ q) × Marked number (x ∷ xs) q
+      high : (p : ℕ) → p ≡ 2 * number + 1 → (q : ℕ) × (2 * suc number ≤ q) × IsOfInsns (suc number) xs t q → (q : ℕ) × (p ≤ q) × IsMarked number (x ∷ xs) q
       high p place (q, below, is) = (q, omega (arith, below, place), inl (inr is))
 
-  pub point_marked : (xs : List TempInsn) (number at p : ℕ) → drop at whole ≡ xs → present_from Live t p number at xs ≡ true → (q : ℕ) × (p ≤ q) × Marked number xs q
+  pub point_marked : (xs : List TempInsn) (number at p : ℕ) → drop at whole ≡ xs → present_from Live t p number at xs ≡ true → (q : ℕ) × (p ≤ q) × IsMarked number xs q
   point_marked [] number at p e h = let no : ⊥ = cc in absurd no
   point_marked (x ∷ xs) number at p e h =
       ⊎_elim (at_marked number p at x xs e)
       (λ later. further (point_marked xs (suc number) (suc at) p (drop_first whole at x xs e).1 later))
       (or_cases (present_at Live t p number at x) (present_from Live t p (suc number) (suc at) xs) h)
     where
-      wider : (q : ℕ) → Marked (suc number) xs q → Marked number (x ∷ xs) q
+      wider : (q : ℕ) → IsMarked (suc number) xs q → IsMarked number (x ∷ xs) q
       wider q (inl is) = inl (inr is)
       wider q (inr b) = let some = b.some in let place = b.is in inr (record { some = omega (arith, some); live = b.live; is = omega (arith, place) })
 
-      further : (q : ℕ) × (p ≤ q) × Marked (suc number) xs q → (q : ℕ) × (p ≤ q) × Marked number (x ∷ xs) q
+      further : (q : ℕ) × (p ≤ q) × IsMarked (suc number) xs q → (q : ℕ) × (p ≤ q) × IsMarked number (x ∷ xs) q
       further (q, below, is) = (q, below, wider q is)
 
   live_at_end : (at : ℕ) → at ≡ length whole → has bottom t ≡ true → drop at whole ≡ [] → Live at ≡ true
@@ -103,7 +103,7 @@ module _ (whole : List TempInsn) (bottom : List Bool) (t : ℕ) where
       (le-leb at (length whole) (omega (arith, is)))
       (ap (λ ys. reads_first reads_of writes_of ys t || (not (some_writes writes_of ys t) && has bottom t)) e ∙ h)
 
-  pub marked_point : (xs : List TempInsn) (number at p : ℕ) → drop at whole ≡ xs → at + length xs ≡ length whole → Marked number xs p → present_from Live t p number at xs ≡ true
+  pub marked_point : (xs : List TempInsn) (number at p : ℕ) → drop at whole ≡ xs → at + length xs ≡ length whole → IsMarked number xs p → present_from Live t p number at xs ≡ true
   marked_point [] number at p e count (inl m) = absurd m
   marked_point [] number at p e count (inr b) = absurd (let some = b.some in omega (arith, some))
   marked_point (x ∷ xs) number at p e count (inl (inl (inl (is, place)))) =

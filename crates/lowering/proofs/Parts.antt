@@ -26,7 +26,7 @@ use Rattle.lowering_functions.specs.Parts.{locals_parts, first_parts, stmt_parts
 use Rattle.lowering_functions.specs.Scopes.{LocalHasSize}
 use Rattle.c_layout_laws.specs.Laws.{is_alignment}
 use Rattle.c_layout_laws.proofs.Truth.{no_true, front, back, either}
-use Rattle.c_layout_laws.proofs.Layouts.{aligned}
+use Rattle.c_layout_laws.proofs.Layouts.{aligned_type}
 use Rattle.lowering_bounds.specs.model.Depths.{depths, depths_above, depths_of_each, optional_depths, locals_depths, first_depths, stmt_depths, else_depths, stmts_depths, sections_depths, stmt_locals}
 use Rattle.lowering_bounds.proofs.Typing.{one, two, three}
 use Rattle.lowering_bounds.proofs.Statements.{pair, triple, four, defaults, one_default}
@@ -242,7 +242,7 @@ local_size ds structs l h =
     let whole = front (is_object_type ds ty) (is_scalar ty || l.in_memory) h in
     let both = front (is_valid_type ds ty && is_object ds ty) (nat_le (depth_of ds ty) most_depth) whole in
     let object = back (is_valid_type ds ty) (is_object ds ty) both in
-    (object, omega (arith, small (align_of ds ty) (aligned ds structs ty (front (is_valid_type ds ty) (is_object ds ty) both) object)))
+    (object, omega (arith, small (align_of ds ty) (aligned_type ds structs ty (front (is_valid_type ds ty) (is_object ds ty) both) object)))
 
 -- ---- a function
 

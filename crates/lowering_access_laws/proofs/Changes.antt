@@ -1,7 +1,7 @@
 -- What a write leaves of the memories of both sides.
 use Rattle.std.proofs.Common.{◌≡◌, ℕ, ℤ, pos, ◌+ℤ◌, Bool, true, false, ◌&&◌, Option, Some, None, Result, Ok, Err, length, refl, sym, ap, ◌∙◌, subst, arith, inl, inr}
 use Rattle.std.specs.Prelude.{if◌then◌else◌}
-use Rattle.std.proofs.lemmas.Bool.{cases_eq}
+use Rattle.std.proofs.lemmas.Bool.{cases_eq, and_parts}
 use Rattle.mem_model.specs.declared.value.Ptr.{Ptr}
 use Rattle.mem_model.specs.declared.value.Value.{Value}
 use Rattle.mem_model.specs.declared.value.Value.TheVariants.{Word, Address, Unset}
@@ -13,7 +13,6 @@ use Rattle.mem_model.specs.Pointers.{ptr_plus, is_offset, pointer_plus}
 use Rattle.mem_model.specs.Related.{Names, IsLocal}
 use Rattle.mem_model.proofs.Changes.{store_at-ok, outside-stands, length-cells_of, changes_cells}
 use Rattle.mem_model.proofs.Pointers.{when-some, when-true, and-true}
-use Rattle.mem_model.proofs.RowValues.{both}
 use Rattle.c_arithmetic.specs.declared.integer_type.IntegerType.{IntegerType}
 use Rattle.c_semantics.specs.Runs.{CallState, in_world}
 use Rattle.vm_meaning.specs.Operations as vm
@@ -84,7 +83,7 @@ pointer_stays f g m n m1 n1 t t1 (Word k) u z x e = absurd (cc)
 pointer_stays f g m n m1 n1 t t1 Unset u z x e = absurd (cc)
 pointer_stays f g m n m1 n1 t t1 (Address q) u z x e =
     let h = when-some (is_live m q.object && is_offset (q.offset +ℤ z) (size_in m q.object)) (Address (ptr_plus q z)) u e in
-    let tests = both (is_live m q.object) (is_offset (q.offset +ℤ z) (size_in m q.object)) h.0 in
+    let tests = and_parts (is_live m q.object) (is_offset (q.offset +ℤ z) (size_in m q.object)) h.0 in
     when-true (is_live m1 q.object && is_offset (q.offset +ℤ z) (size_in m1 q.object)) (Address (ptr_plus q z)) u
     (and-true (is_live m1 q.object) (is_offset (q.offset +ℤ z) (size_in m1 q.object)) (x.lives q.object ∙ tests.0) (ap (is_offset (q.offset +ℤ z)) (x.sizes q.object tests.0) ∙ tests.1)) h.1
 

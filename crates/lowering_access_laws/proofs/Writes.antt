@@ -17,7 +17,7 @@ use Rattle.c_arithmetic.specs.IntegerTypes.{bytes}
 use Rattle.c_typed_tree.specs.Types.{PlainType, Pointer, Struct}
 use Rattle.c_typed_tree.specs.Layout.{size_of, align_of}
 use Rattle.c_semantics.specs.Reasons.{UsesNoValue, OverlapsItself}
-use Rattle.c_semantics.specs.Runs.{CallState, Run, in_world, use_value, undefined, set_memory, ◌>>=◌}
+use Rattle.c_semantics.specs.Runs.{CallState, Run, in_world, use_value, undefined_behaviour, set_memory, ◌>>=◌}
 use Rattle.c_semantics.specs.Objects as obj
 use Rattle.c_semantics.specs.Objects.{Scope, access, write_at}
 use Rattle.suifvm_ir.specs.declared.types.MemoryType.{MemoryType}
@@ -30,7 +30,8 @@ use Rattle.lowering_code.specs.declared.item.CodeItem.{CodeItem}
 use Rattle.lowering_code.specs.Registers.{memory_type}
 use Rattle.lowering_code.specs.Expressions.{plain_of, cap_offset, alignment_of, store_code, copy_code}
 use Rattle.lowering_states.specs.Places.{CodePlace}
-use Rattle.lowering_states.specs.Runs.{opens, CodeObservation, NotDefined, finish}
+use Rattle.lowering_states.specs.Runs.{CodeObservation, NotDefined, finish}
+use Rattle.lowering_states.specs.model.Opens.{opens}
 use Rattle.lowering_states.specs.States.{IsHeld}
 use Rattle.lowering_states.proofs.Steps.{meets_anything, meets_same, plain, used_meets, access_meets}
 use Rattle.lowering_states.proofs.States.{fits_after}
@@ -40,7 +41,7 @@ use Rattle.lowering_values.proofs.Accesses.{memories_correspond}
 use Rattle.lowering_expression_places.proofs.Behind.{at_plain}
 use Rattle.lowering_expression_laws.specs.Parts.{Setting, EndsSo, Stands, Fit, Aft}
 use Rattle.lowering_expression_laws.specs.Laws.{IsScalarType}
-use Rattle.lowering_expression_laws.proofs.Forms.{bound}
+use Rattle.lowering_expression_laws.proofs.Forms.{bound_run}
 use Rattle.lowering_access_laws.specs.Laws.{IsAlignment, IsWholeStruct, Leaves, WritesMeet}
 use Rattle.lowering_access_laws.proofs.Changes.{StoreIs, Stores, changes_of, storable, store_is, after_write}
 
@@ -116,9 +117,9 @@ module _ (c : Setting) (found : slice_get c.functions c.number ≡ Some c.code) 
     integer_store t0 Unset is e set = nowhere Unset v (λ p same. cc) set t0
     integer_store t0 (Address p) is e set =
         let same : vm.memory_integer mt ≡ Some t0 = ap (λ z. vm.memory_integer (memory_type z)) e ∙ memory-plain t0 in
-        bound c found (use_value UsesNoValue v s) (obj.store (bytes t0) (Address p)) K q r s.world m
+        bound_run c found (use_value UsesNoValue v s) (obj.store (bytes t0) (Address p)) K q r s.world m
         (used_meets c.rooms c.functions UsesNoValue v s (λ v1 u. finish (obj.store (bytes t0) (Address p) v1 u) K) _ (λ set1.
-        bound c found (access (store_at s.world.outer.memory p (bytes t0) v) s) set_memory K q r s.world m
+        bound_run c found (access (store_at s.world.outer.memory p (bytes t0) v) s) set_memory K q r s.world m
         (access_meets c.rooms c.functions (store_at s.world.outer.memory p (bytes t0) v) s (λ m1 u. K tt (in_world u (with_memory u.world m1))) _ (λ m1 em.
         store_meets p m1 is (subst (λ z. 0 < vm.access_bytes z) (sym same) (some_bytes t0)) (subst (λ z. vm.is_storable z v ≡ true) (sym same) (number_storable t0 v (subst (λ z. IsHeld z v) e held) set))
         (subst (λ z. store_at s.world.outer.memory p (vm.access_bytes z) v ≡ Ok m1) (sym same) em)))))
@@ -129,9 +130,9 @@ module _ (c : Setting) (found : slice_get c.functions c.number ≡ Some c.code) 
     pointer_store target Unset is e set = nowhere_pointer Unset v (λ p same. cc) set target
     pointer_store target (Address p) is e set =
         let same : vm.memory_integer mt ≡ None = ap (λ z. vm.memory_integer (memory_type z)) e in
-        bound c found (use_value UsesNoValue v s) (obj.store 8 (Address p)) K q r s.world m
+        bound_run c found (use_value UsesNoValue v s) (obj.store 8 (Address p)) K q r s.world m
         (used_meets c.rooms c.functions UsesNoValue v s (λ v1 u. finish (obj.store 8 (Address p) v1 u) K) _ (λ set1.
-        bound c found (access (store_at s.world.outer.memory p 8 v) s) set_memory K q r s.world m
+        bound_run c found (access (store_at s.world.outer.memory p 8 v) s) set_memory K q r s.world m
         (access_meets c.rooms c.functions (store_at s.world.outer.memory p 8 v) s (λ m1 u. K tt (in_world u (with_memory u.world m1))) _ (λ m1 em.
         store_meets p m1 is (subst (λ z. 0 < vm.access_bytes z) (sym same) (omega arith)) (subst (λ z. vm.is_storable z v ≡ true) (sym same) (pointer_storable v set))
         (subst (λ z. store_at s.world.outer.memory p (vm.access_bytes z) v ≡ Ok m1) (sym same) em)))))
@@ -185,10 +186,10 @@ module _ (c : Setting) (found : slice_get c.functions c.number ≡ Some c.code) 
 
     by_overlap : (p p1 : Ptr) → IsValueOf f (Address p) (r to) → IsValueOf f (Address p1) (r from) → (x : Bool) → overlaps p p1 size ≡ x → EndsSo c (finish (write_at c.structs (Struct number) (Address p) (Address p1) s) K) q r s.world m
     unfolding opens
-    by_overlap p p1 a b true e = meets_anything c.rooms c.functions (ap (λ z. finish (if◌then◌else◌ {A = Run (Unit {0})} z (undefined OverlapsItself) (access (copy_at s.world.outer.memory p p1 size align) >>= set_memory) s) K) e)
+    by_overlap p p1 a b true e = meets_anything c.rooms c.functions (ap (λ z. finish (if◌then◌else◌ {A = Run (Unit {0})} z (undefined_behaviour OverlapsItself) (access (copy_at s.world.outer.memory p p1 size align) >>= set_memory) s) K) e)
     by_overlap p p1 a b false e =
-        meets_same c.rooms c.functions (ap (λ z. finish (if◌then◌else◌ {A = Run (Unit {0})} z (undefined OverlapsItself) (access (copy_at s.world.outer.memory p p1 size align) >>= set_memory) s) K) e)
-        (bound c found (access (copy_at s.world.outer.memory p p1 size align) s) set_memory K q r s.world m
+        meets_same c.rooms c.functions (ap (λ z. finish (if◌then◌else◌ {A = Run (Unit {0})} z (undefined_behaviour OverlapsItself) (access (copy_at s.world.outer.memory p p1 size align) >>= set_memory) s) K) e)
+        (bound_run c found (access (copy_at s.world.outer.memory p p1 size align) s) set_memory K q r s.world m
         (access_meets c.rooms c.functions (copy_at s.world.outer.memory p p1 size align) s (λ m1 u. K tt (in_world u (with_memory u.world m1))) _ (λ m1 em. copy_meets p p1 a b m1 em)))
 
     struct_written : (at v : Value) → IsValueOf f at (r to) → IsValueOf f v (r from) → EndsSo c (finish (write_at c.structs (Struct number) at v s) K) q r s.world m

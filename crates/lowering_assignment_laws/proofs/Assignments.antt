@@ -29,7 +29,8 @@ use Rattle.lowering_code.specs.declared.item.CodeItem.{CodeItem}
 use Rattle.lowering_code.specs.Registers.{register_type, value_register, address_register}
 use Rattle.lowering_code.specs.Expressions.{store_code, move_code, set_scalar_code, register_of, assign_code, plus_of, expr_code, place_code}
 use Rattle.lowering_states.specs.Places.{CodePlace, next_place}
-use Rattle.lowering_states.specs.Runs.{opens, CodeObservation, NotDefined, finish}
+use Rattle.lowering_states.specs.Runs.{CodeObservation, NotDefined, finish}
+use Rattle.lowering_states.specs.model.Opens.{opens}
 use Rattle.lowering_states.specs.States.{IsHeld, IsInRegister, KeepsLower, type_at}
 use Rattle.lowering_states.proofs.Steps.{meets_anything, meets_same, used_meets}
 use Rattle.lowering_states.proofs.States.{set_other, temporary_past, kept_on, kept_local, kept_temporary, kept_reads, is_at, after_on, fits_temporary, fits_local}
@@ -37,7 +38,7 @@ use Rattle.lowering_values.specs.Laws.{IsMoved}
 use Rattle.lowering_expression_places.proofs.Behind.{at_plain}
 use Rattle.lowering_expression_laws.specs.Parts.{Setting, first_depth, EndsSo, Stands, Fit, Aft, Follows, ExprMeets}
 use Rattle.lowering_expression_laws.specs.Laws.{IsScalarType}
-use Rattle.lowering_expression_laws.proofs.Forms.{insn_on, bound}
+use Rattle.lowering_expression_laws.proofs.Forms.{insn_on, bound_run}
 use Rattle.lowering_place_laws.specs.Places.{left_of, PlaceMeets}
 use Rattle.lowering_access_laws.proofs.Changes.{moved_stays}
 use Rattle.lowering_access_laws.proofs.Writes.{writes_meet}
@@ -66,15 +67,15 @@ module _ (c : Setting) (found : slice_get c.functions c.number ≡ Some c.code) 
         let code_e = ap (λ z. assign_code L c.structs c.locals d None ty (type_of y) (plus_of L c.structs c.locals (e.Local ty k) 0) z (λ is. place_code L c.structs c.locals d (e.Local ty k) 0 is) (λ j is. expr_code L c.structs c.locals j y is) rest) (register_is c found k l el em) in
         let run : Value → Run Value = λ v. assign_value c.structs ty (type_of y) None (obj.Register k) v in
         meets_same c.rooms c.functions (ap (λ z. finish (and_then (z s) (λ q1 t. and_then (eval c.structs c.locals c.calls scope y t) (assign_value c.structs ty (type_of y) None q1))) K) (register_place c found k l scope el em))
-        (bound c found (eval c.structs c.locals c.calls scope y s) run K p1 r s.world m
+        (bound_run c found (eval c.structs c.locals c.calls scope y s) run K p1 r s.world m
         (hy.by d (move_code ty k reg rest) heads p1 f scope r s m (λ v t. finish (run v t) K) (subst (λ z. Stands c heads p1 z) code_e at) fit low
         (λ q v g t q1 m1 at1 aft fit1 kept held stands.
         let held1 : IsHeld ty v = subst (λ z. IsHeld z v) ey held in
         let stands1 : IsInRegister g ty v (q1 reg) = subst (λ z. IsInRegister g z v (q1 (value_register L d z))) ey stands in
         let rel = scalar_in g ty v (q1 reg) scalar stands1 in
         let t1 : CallState = with_registers t (with_local_value t.registers k v) in
-        bound c found (and_then (use_value UsesNoValue v t) (write_register k)) (λ _. pure (assignment_value ty (obj.Register k) v)) K q q1 t.world m1
-        (bound c found (use_value UsesNoValue v t) (write_register k) (λ _ u. K (assignment_value ty (obj.Register k) v) u) q q1 t.world m1
+        bound_run c found (and_then (use_value UsesNoValue v t) (write_register k)) (λ _. pure (assignment_value ty (obj.Register k) v)) K q q1 t.world m1
+        (bound_run c found (use_value UsesNoValue v t) (write_register k) (λ _ u. K (assignment_value ty (obj.Register k) v) u) q q1 t.world m1
         (used_meets c.rooms c.functions UsesNoValue v t (λ v1 u. K (assignment_value ty (obj.Register k) v) (with_registers u (with_local_value u.registers k v1))) _ (λ set.
         meets_same c.rooms c.functions (ap (λ z. K z t1) (assigned_value ty k v scalar))
         (insn_on c found (n.Unary Move (register_type ty) k reg) q q1 t.world m1 (q1 reg ∷ []) at1.has.0 refl
@@ -109,7 +110,7 @@ module _ (c : Setting) (found : slice_get c.functions c.number ≡ Some c.code) 
       by_set : (x : Bool) → vm.is_set z ≡ x → EndsSo c (finish (and_then (write_at c.structs ty at z t) (λ _. pure v)) K) q r1 t.world m1
       by_set false none = meets_anything c.rooms c.functions (unset_write ty at z v t K scalar none)
       by_set true set =
-          bound c found (write_at c.structs ty at z t) (λ _. pure v) K q r1 t.world m1
+          bound_run c found (write_at c.structs ty at z t) (λ _. pure v) K q r1 t.world m1
           ((writes_meet c found).scalars ty scalar (address_register L d) plus (value_register L o ty) (move_code ty (value_register L d ty) from rest) heads q base at z g scope r1 t m1 (λ _ u1. K v u1) stands fit
           heldz (scalar_in g ty z (r1 (value_register L o ty)) scalar inz) rel moved
           (λ u1 n1 at1 aft1 fit1.
@@ -140,10 +141,10 @@ module _ (c : Setting) (found : slice_get c.functions c.number ≡ Some c.code) 
         ap (λ z. assign_code L c.structs c.locals d None ty (type_of y) left z (λ is. place_code L c.structs c.locals d x 0 is) (λ j is. expr_code L c.structs c.locals j y is) rest) none
         ∙ scalar_code ty (type_of y) d left (λ is. place_code L c.structs c.locals d x 0 is) (λ j is. expr_code L c.structs c.locals j y is) rest scalar in
         let run : obj.ValuePlace → Run Value = λ z t. and_then (eval c.structs c.locals c.calls scope y t) (assign_value c.structs ty (type_of y) None z) in
-        bound c found (place c.structs c.locals c.calls scope x s) run K p1 r s.world m
+        bound_run c found (place c.structs c.locals c.calls scope x s) run K p1 r s.world m
         (hx.by d 0 (expr_code L c.structs c.locals (suc d) y tail) heads p1 f scope r s m (λ z t. finish (run z t) K) (omega arith) (omega arith) (subst (λ z. Stands c heads p1 z) code_e at) fit low
         (λ q base place g t q1 m1 at1 aft fit1 kept held stands small is_base.
-        bound c found (eval c.structs c.locals c.calls scope y t) (assign_value c.structs ty (type_of y) None (obj.At place)) K q q1 t.world m1
+        bound_run c found (eval c.structs c.locals c.calls scope y t) (assign_value c.structs ty (type_of y) None (obj.At place)) K q q1 t.world m1
         (hy.by (suc d) tail heads q g scope q1 t m1 (λ v u. finish (assign_value c.structs ty (type_of y) None (obj.At place) v u) K) at1 fit1 (omega (arith, aft.turned, low))
         (λ q2 v h u q3 m2 at2 aft2 fit2 kept2 held2 stands2.
         let held3 : IsHeld ty v = subst (λ z. IsHeld z v) ey held2 in

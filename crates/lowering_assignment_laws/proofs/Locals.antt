@@ -27,7 +27,8 @@ use Rattle.vm_meaning.specs.Behave.{set_register}
 use Rattle.lowering_code.specs.Registers.{register_type, value_register, address_register, object_index}
 use Rattle.lowering_code.specs.Expressions.{plain_of, register_if, local_code, load_code}
 use Rattle.lowering_states.specs.Places.{next_place}
-use Rattle.lowering_states.specs.Runs.{opens, CodeObservation, finish}
+use Rattle.lowering_states.specs.Runs.{CodeObservation, finish}
+use Rattle.lowering_states.specs.model.Opens.{opens}
 use Rattle.lowering_states.specs.States.{IsHeld, type_at}
 use Rattle.lowering_states.proofs.Steps.{meets_same, used_meets, known_meets}
 use Rattle.lowering_states.proofs.States.{kept_all, kept_temporary, is_in, is_at, value_at, after_same, fits_temporary}
@@ -36,7 +37,7 @@ use Rattle.lowering_values.proofs.Operators.{unary_is}
 use Rattle.lowering_expression_places.proofs.Behind.{at_plain}
 use Rattle.lowering_expression_laws.specs.Parts.{Setting, first_depth, Stands, ExprMeets}
 use Rattle.lowering_expression_laws.specs.Laws.{IsScalarType}
-use Rattle.lowering_expression_laws.proofs.Forms.{word_held, insn_on, bound}
+use Rattle.lowering_expression_laws.proofs.Forms.{word_held, insn_on, bound_run}
 use Rattle.lowering_place_laws.specs.Laws.{HasWholeIntegers}
 use Rattle.lowering_place_laws.proofs.Places.{byte_of, address_meets, address_of}
 use Rattle.lowering_place_laws.proofs.Accesses.{load_on}
@@ -93,7 +94,7 @@ module _ (c : Setting) (found : slice_get c.functions c.number ≡ Some c.code) 
         let at2 = subst (λ z. Stands c heads place (local_code L c.structs c.locals d ty k z rest)) (register_is k l el em) at in
         let w = r k in
         meets_same c.rooms c.functions (ap (λ z. finish (and_then (z s) (read ty)) K) (register_place k l scope el em))
-        (bound c found (use_value ReadsUnwritten (s.registers k) s) (as_held ty) K place r s.world m
+        (bound_run c found (use_value ReadsUnwritten (s.registers k) s) (as_held ty) K place r s.world m
         (used_meets c.rooms c.functions ReadsUnwritten (s.registers k) s (λ v t. finish (as_held ty v t) K) _ (λ set.
         meets_same c.rooms c.functions (read_as ty (s.registers k) s K scalar held set)
         (insn_on c found (n.Unary Move (register_type ty) reg k) place r s.world m (w ∷ []) at2.has.0 refl
@@ -113,8 +114,8 @@ module _ (c : Setting) (found : slice_get c.functions c.number ≡ Some c.code) 
         meets_same c.rooms c.functions
         (ap (λ z. finish (and_then (local_place scope k z s) (read ty)) K) el
         ∙ ap (λ z. finish (and_then (if◌then◌else◌ {A = Run obj.ValuePlace} z (λ t. and_then (or_undefined UsesDeadObject (scope k) t) (λ o. pure (obj.At (start_pointer o)))) (pure (obj.Register k)) s) (read ty)) K) em)
-        (bound c found (and_then (or_undefined UsesDeadObject (scope k) s) (λ o. pure (obj.At (start_pointer o)))) (read ty) K place r s.world m
-        (bound c found (or_undefined UsesDeadObject (scope k) s) (λ o. pure (obj.At (start_pointer o))) (λ z t. finish (read ty z t) K) place r s.world m
+        (bound_run c found (and_then (or_undefined UsesDeadObject (scope k) s) (λ o. pure (obj.At (start_pointer o)))) (read ty) K place r s.world m
+        (bound_run c found (or_undefined UsesDeadObject (scope k) s) (λ o. pure (obj.At (start_pointer o))) (λ z t. finish (read ty z t) K) place r s.world m
         (known_meets c.rooms c.functions UsesDeadObject (scope k) s (λ o t. finish (read_at ty (start_pointer o) t) K) _ (λ o here.
         let w = byte_of name 0 in
         address_meets c found d (p.Local (object_index c.locals k)) 0 (load_code L d ty 0 rest) heads place r s.world m at2

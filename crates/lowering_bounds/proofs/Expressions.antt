@@ -45,7 +45,7 @@ use Rattle.lowering_bounds.specs.model.Costs.{items_cost}
 use Rattle.lowering_bounds.specs.model.Fits.{Fits, IsNarrow}
 use Rattle.lowering_bounds.specs.Laws.{TakesArguments}
 use Rattle.lowering_bounds.specs.model.Depths.{depths, depths_above, depths_of_each}
-use Rattle.lowering_bounds.proofs.Typing.{one, two, three, same, local_there, global_reached, struct_whole, copy_paid, Typed, positive, member_struct, large_memory, place_memory, member_fits, some_operands, array_cast, array_place, arguments_count}
+use Rattle.lowering_bounds.proofs.Typing.{one, two, three, same, local_there, global_reached, struct_whole, copy_paid, IsTypedExpr, positive, member_struct, large_memory, place_memory, member_fits, some_operands, array_cast, array_place, arguments_count}
 use Rattle.lowering_bounds.proofs.Pieces as m
 
 pub own_depth : (x : Expr) → 1 ≤ depths x
@@ -105,8 +105,8 @@ module _ (most : ℕ) (fs : List VmFunction) (c : Context) (structs : All (IsLaw
   more : (v w : ℕ) (rest is : List CodeItem) → v ≤ w → Spends v rest is → Spends w rest is
   more v w rest is le a = record { fits = a.fits; cost = omega (arith, le, a.cost); some = omega (arith, le, a.some); wide = λ n h. a.wide n (omega (arith, le, h)) }
 
-  pub spent : (w : ℕ) (rest is : List CodeItem) → Spends w rest is → E (2048 * w) rest is
-  spent w rest is a = record { fits = a.fits; cost = omega (arith, a.cost); wide = λ n h. a.wide n (omega (arith, h)) }
+  pub spent_weight : (w : ℕ) (rest is : List CodeItem) → Spends w rest is → E (2048 * w) rest is
+  spent_weight w rest is a = record { fits = a.fits; cost = omega (arith, a.cost); wide = λ n h. a.wide n (omega (arith, h)) }
 
   record SpendsAll (count w : ℕ) (rest is : List CodeItem) : Type 0 where
     fits : Fits most (m.passes most fs c.globals os) rest → Fits most (m.passes most fs c.globals os) is
@@ -117,7 +117,7 @@ module _ (most : ℕ) (fs : List VmFunction) (c : Context) (structs : All (IsLaw
   -- ---- names
 
   abbrev T : Expr → Type 0
-  T x = Typed c x
+  T x = IsTypedExpr c x
 
   register_small : (j r : ℕ) (o : Option l.Local) → slice_get c.locals j ≡ o → code.register_if L c.structs c.locals j o ≡ Some r → r < L
   register_small j r None is h = let clash : ⊥ = cc in absurd clash

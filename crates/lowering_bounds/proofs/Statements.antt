@@ -175,7 +175,7 @@ module _ (most : ℕ) (fs : List VmFunction) (c : Context) (structs : All (IsLaw
       (declare_emits d _ (front (is_declared c d) (list_all (is_declared c) more) t) (omega (arith, h))) (declares_emits more rest (back (is_declared c d) (list_all (is_declared c) more) t) (omega (arith, h)))
 
   plain_value : (y : Expr) (rest : List CodeItem) → IsTrue (is_value c y) → Has 0 (depths y) → E (2048 * W y) rest (code.value_code L c.structs c.locals y rest)
-  plain_value y rest t h = w.spent most fs c structs lawful calls (W y) rest _ (value_spends y rest (back (not (is_array (type_of y))) (is_typed c y) t) h)
+  plain_value y rest t h = w.spent_weight most fs c structs lawful calls (W y) rest _ (value_spends y rest (back (not (is_array (type_of y))) (is_typed c y) t) h)
 
   first_emits : (first : First) (rest : List CodeItem) → IsTrue (is_first c first) → Has 0 (first_depths first) → E (2048 * first_weight c.structs first) rest (code.first_code L c.structs c.locals first rest)
   first_emits q.Nothing rest t h = m.none most fs c.globals os rest

@@ -187,15 +187,15 @@ copy_paid ds n =
     omega (arith, up, cut)
 
 module _ (c : Context) where
-  abbrev pub Typed : Expr → Type 0
-  Typed x = IsTrue (is_typed c x)
+  abbrev pub IsTypedExpr : Expr → Type 0
+  IsTypedExpr x = IsTrue (is_typed c x)
 
   -- ---- weights
 
   abbrev operands : (ty : PlainType) (xs : Exprs) → IsTrue (is_fit c.structs ty && has_rule c (Comma ty xs) && are_typed c xs) → IsTrue (are_operands ty xs)
   operands ty xs h = (one (is_fit c.structs ty) (are_operands ty xs) (are_typed c xs) h).0
 
-  pub positive : (x : Expr) → Typed x → 0 < expr_weight c.structs x
+  pub positive : (x : Expr) → IsTypedExpr x → 0 < expr_weight c.structs x
   unfolding expr_weight
   positive (Number ty n) h = omega arith
   positive (Local ty k) h = omega arith
@@ -245,7 +245,7 @@ module _ (c : Context) where
   member_struct ty (Struct n) k h = refl
 
   -- a place that is no scalar is in memory
-  pub large_memory : AreLawful → (x : Expr) → Typed x → IsTrue (is_place x) → is_scalar (type_of x) ≡ false → IsTrue (is_in_memory c.locals x)
+  pub large_memory : AreLawful → (x : Expr) → IsTypedExpr x → IsTrue (is_place x) → is_scalar (type_of x) ≡ false → IsTrue (is_in_memory c.locals x)
   large_memory lawful (Local ty k) h p large = local_memory k ty (slice_get c.locals k) refl lawful (back (is_fit c.structs ty) (has_rule c (Local ty k)) h) large
   large_memory lawful (Field ty x k) h p large =
       let o = one (is_fit c.structs ty) (is_place x && is_member c.structs ty (type_of x) k) (is_typed c x) h in
@@ -276,7 +276,7 @@ module _ (c : Context) where
       by false e = let clash : ⊥ = cc in absurd clash
 
   -- a place that no register holds is in memory
-  pub place_memory : AreLawful → (x : Expr) → Typed x → IsTrue (is_place x) → register_of x ≡ None → IsTrue (is_in_memory c.locals x)
+  pub place_memory : AreLawful → (x : Expr) → IsTypedExpr x → IsTrue (is_place x) → register_of x ≡ None → IsTrue (is_in_memory c.locals x)
   place_memory lawful (Local ty k) h p e = unregistered k ty (slice_get c.locals k) (back (is_fit c.structs ty) (has_rule c (Local ty k)) h) e
   place_memory lawful (Field ty x k) h p e =
       let o = one (is_fit c.structs ty) (is_place x && is_member c.structs ty (type_of x) k) (is_typed c x) h in

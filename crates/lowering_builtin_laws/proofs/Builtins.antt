@@ -28,14 +28,15 @@ use Rattle.lowering_code.specs.declared.item.CodeItem.TheVariants.{Plain}
 use Rattle.lowering_code.specs.Registers.{register_type, value_register}
 use Rattle.lowering_code.specs.Expressions.{plain_of}
 use Rattle.lowering_states.specs.Places.{next_place}
-use Rattle.lowering_states.specs.Runs.{opens, CodeObservation, finish}
-use Rattle.lowering_states.proofs.Steps.{meets_same, used_meets, number_meets, turn_meets, turn_less, no_turn, turning, turning_over}
+use Rattle.lowering_states.specs.Runs.{CodeObservation, finish}
+use Rattle.lowering_states.specs.model.Opens.{opens}
+use Rattle.lowering_states.proofs.Steps.{meets_same, used_meets, number_meets, turn_meets, turn_less, no_turn, turning_step, turning_over}
 use Rattle.lowering_states.proofs.States.{kept_all, kept_temporary, value_at, after_on, fits_temporary, fits_after}
 use Rattle.lowering_values.proofs.Integers.{integer_of-plain, residue_small, signed_word}
 use Rattle.lowering_values.proofs.Operators.{word_true}
 use Rattle.lowering_expression_places.proofs.Behind.{at_plain}
 use Rattle.lowering_expression_laws.specs.Parts.{Setting, first_depth, Fit, Aft, ExprMeets}
-use Rattle.lowering_expression_laws.proofs.Forms.{held_word, word_in, bound}
+use Rattle.lowering_expression_laws.proofs.Forms.{held_word, word_in, bound_run}
 
 -- a byte is a word of `int`
 byte_word : (k : ℕ) → k < 256 → extension i.Int k ≡ k
@@ -82,8 +83,8 @@ module _ (c : Setting) (found : slice_get c.functions c.number ≡ Some c.code) 
         let K1 : Value → CallState → CodeObservation = λ v u. finish (call_result T v u) K in
         let k = byte_or_end (next_byte s.world.outer) in
         let word : extension i.Int k ≡ k = next_word s.world.outer.input fit.bytes in
-        bound c found (and_then (turn s) (λ _. get)) (call_result T) K p r s.world m
-        (bound c found (turn s) (λ _. get) K1 p r s.world m
+        bound_run c found (and_then (turn s) (λ _. get)) (call_result T) K p r s.world m
+        (bound_run c found (turn s) (λ _. get) K1 p r s.world m
         (turn_meets c.rooms c.functions s (λ _ t. finish (get t) K1) _
         (λ mt some.
         let t : CallState = in_world s (with_meter s.world mt) in
@@ -91,7 +92,7 @@ module _ (c : Setting) (found : slice_get c.functions c.number ≡ Some c.code) 
         let less = turn_less s.world.meter mt some in
         let aft : Aft c f s m f t1 m = record { names = λ o q e. e; lives = λ o. refl; sizes = λ o l. refl; locals = λ q size h. h; turned = omega (arith, less) } in
         let fit1 : Fit c f scope r t1 m = fits_after aft fit.memory (bytes_left s.world.outer.input fit.bytes) fit in
-        turning c.rooms c.functions c.number c.code found c.own c.waiting insn p r s.world t1.world m m mt (Word k ∷ []) at.has.0 refl some
+        turning_step c.rooms c.functions c.number c.code found c.own c.waiting insn p r s.world t1.world m m mt (Word k ∷ []) at.has.0 refl some
         (ap (λ z. machine.Writes (Word z ∷ []) (outer_with_memory t1.world.outer m)) (sym (next_is (next_byte s.world.outer)))) refl
         (meets_same c.rooms c.functions (result_is k t1 K word)
         (next (next_place p) (Word k) f t1 (set_register reg (Word k) r) m (at_plain c.code.blocks c.last c.end insn at) aft (fits_temporary d (register_type T) (Word k) fit1)
@@ -109,18 +110,18 @@ module _ (c : Setting) (found : slice_get c.functions c.number ≡ Some c.code) 
         let K1 : Value → CallState → CodeObservation = λ v u. finish (call_result T v u) K in
         let K2 : List Value → CallState → CodeObservation = λ vs u. finish (builtin Putchar vs u) K1 in
         let more : Value → Run (List Value) = λ v. pure (v ∷ []) in
-        bound c found (and_then (and_then (and_then (eval c.structs c.locals c.calls scope x s) (use_value UsesNoValue)) more) (builtin Putchar)) (call_result T) K p r s.world m
-        (bound c found (and_then (and_then (eval c.structs c.locals c.calls scope x s) (use_value UsesNoValue)) more) (builtin Putchar) K1 p r s.world m
-        (bound c found (and_then (eval c.structs c.locals c.calls scope x s) (use_value UsesNoValue)) more K2 p r s.world m
-        (bound c found (eval c.structs c.locals c.calls scope x s) (use_value UsesNoValue) (λ v t. K2 (v ∷ []) t) p r s.world m
+        bound_run c found (and_then (and_then (and_then (eval c.structs c.locals c.calls scope x s) (use_value UsesNoValue)) more) (builtin Putchar)) (call_result T) K p r s.world m
+        (bound_run c found (and_then (and_then (eval c.structs c.locals c.calls scope x s) (use_value UsesNoValue)) more) (builtin Putchar) K1 p r s.world m
+        (bound_run c found (and_then (eval c.structs c.locals c.calls scope x s) (use_value UsesNoValue)) more K2 p r s.world m
+        (bound_run c found (eval c.structs c.locals c.calls scope x s) (use_value UsesNoValue) (λ v t. K2 (v ∷ []) t) p r s.world m
         (hx.by d (Plain insn ∷ rest) heads p f scope r s m (λ v t. finish (use_value UsesNoValue v t) (λ v t. K2 (v ∷ []) t)) at fit low
         (λ q v g t q1 m1 at1 aft fit1 kept held stands.
         used_meets c.rooms c.functions UsesNoValue v t (λ v t. K2 (v ∷ []) t) _ (λ set.
-        bound c found (use_number v t) (λ k u. and_then (turn u) (λ _. put_character k)) K1 q q1 t.world m1
+        bound_run c found (use_number v t) (λ k u. and_then (turn u) (λ _. put_character k)) K1 q q1 t.world m1
         (number_meets c.rooms c.functions v t (λ k u. finish (and_then (turn u) (λ _. put_character k)) K1) _ (λ k is.
         let one = word_in g L d (type_of x) i.Int v k q1 ex is held stands in
         let at_from : q1 from ≡ Word k = ap (λ z. q1 (value_register L d z)) ex ∙ one.stands in
-        bound c found (turn t) (λ _. put_character k) K1 q q1 t.world m1
+        bound_run c found (turn t) (λ _. put_character k) K1 q q1 t.world m1
         (turn_meets c.rooms c.functions t (λ _ u. finish (put_character k u) K1) _
         (λ mt some.
         let b = k % 256 in
@@ -129,7 +130,7 @@ module _ (c : Setting) (found : slice_get c.functions c.number ≡ Some c.code) 
         let aft1 : Aft c g t m1 g t1 m1 = record { names = λ o a e. e; lives = λ o. refl; sizes = λ o l. refl; locals = λ a size h. h; turned = omega (arith, less) } in
         let fit2 : Fit c g scope q1 t1 m1 = fits_after aft1 fit1.memory fit1.bytes fit1 in
         let word = byte_word b (below k) in
-        turning c.rooms c.functions c.number c.code found c.own c.waiting insn q q1 t.world t1.world m1 m1 mt (Word b ∷ []) at1.has.0 refl some
+        turning_step c.rooms c.functions c.number c.code found c.own c.waiting insn q q1 t.world t1.world m1 m1 mt (Word b ∷ []) at1.has.0 refl some
         (ap (λ z. if vm.is_set z && true then callee_act (vk.Builtin vi.PutChar) (z ∷ []) (outer_with_memory t.world.outer m1) else fails (outer_with_memory t.world.outer m1)) at_from) refl
         (meets_same c.rooms c.functions (result_is b t1 K word)
         (next (next_place q) (Word b) g t1 (set_register reg (Word b) q1) m1 (at_plain c.code.blocks c.last c.end insn at1) (after_on {n1 = m1} aft aft1) (fits_temporary d (register_type T) (Word b) fit2)
@@ -143,8 +144,8 @@ module _ (c : Setting) (found : slice_get c.functions c.number ≡ Some c.code) 
     by = λ d rest heads p f scope r s m K at fit low next.
         let insn : VmInsn = n.Call None (vk.Builtin vi.Abort) [] in
         let K1 : Value → CallState → CodeObservation = λ v u. finish (call_result Void v u) K in
-        bound c found (and_then (turn s) (λ _. trap 2)) (call_result Void) K p r s.world m
-        (bound c found (turn s) (λ _. trap 2) K1 p r s.world m
+        bound_run c found (and_then (turn s) (λ _. trap 2)) (call_result Void) K p r s.world m
+        (bound_run c found (turn s) (λ _. trap 2) K1 p r s.world m
         (turn_meets c.rooms c.functions s (λ _ t. finish (trap {A = Value} 2 t) K1) _
         (λ mt some. turning_over c.rooms c.functions c.number c.code found c.own c.waiting insn p r s.world m mt (machine.Traps 2) at.has.0 refl some refl refl)
         (λ none. no_turn c.rooms c.functions c.number c.code found c.own c.waiting insn p r s.world m at.has.0 refl none refl)));
@@ -159,18 +160,18 @@ module _ (c : Setting) (found : slice_get c.functions c.number ≡ Some c.code) 
         let K1 : Value → CallState → CodeObservation = λ v u. finish (call_result Void v u) K in
         let K2 : List Value → CallState → CodeObservation = λ vs u. finish (builtin Exit vs u) K1 in
         let more : Value → Run (List Value) = λ v. pure (v ∷ []) in
-        bound c found (and_then (and_then (and_then (eval c.structs c.locals c.calls scope x s) (use_value UsesNoValue)) more) (builtin Exit)) (call_result Void) K p r s.world m
-        (bound c found (and_then (and_then (eval c.structs c.locals c.calls scope x s) (use_value UsesNoValue)) more) (builtin Exit) K1 p r s.world m
-        (bound c found (and_then (eval c.structs c.locals c.calls scope x s) (use_value UsesNoValue)) more K2 p r s.world m
-        (bound c found (eval c.structs c.locals c.calls scope x s) (use_value UsesNoValue) (λ v t. K2 (v ∷ []) t) p r s.world m
+        bound_run c found (and_then (and_then (and_then (eval c.structs c.locals c.calls scope x s) (use_value UsesNoValue)) more) (builtin Exit)) (call_result Void) K p r s.world m
+        (bound_run c found (and_then (and_then (eval c.structs c.locals c.calls scope x s) (use_value UsesNoValue)) more) (builtin Exit) K1 p r s.world m
+        (bound_run c found (and_then (eval c.structs c.locals c.calls scope x s) (use_value UsesNoValue)) more K2 p r s.world m
+        (bound_run c found (eval c.structs c.locals c.calls scope x s) (use_value UsesNoValue) (λ v t. K2 (v ∷ []) t) p r s.world m
         (hx.by d (Plain insn ∷ rest) heads p f scope r s m (λ v t. finish (use_value UsesNoValue v t) (λ v t. K2 (v ∷ []) t)) at fit low
         (λ q v g t q1 m1 at1 aft fit1 kept held stands.
         used_meets c.rooms c.functions UsesNoValue v t (λ v t. K2 (v ∷ []) t) _ (λ set.
-        bound c found (use_number v t) (λ k u. and_then (turn u) (λ _. exit k)) K1 q q1 t.world m1
+        bound_run c found (use_number v t) (λ k u. and_then (turn u) (λ _. exit k)) K1 q q1 t.world m1
         (number_meets c.rooms c.functions v t (λ k u. finish (and_then (turn u) (λ _. exit k)) K1) _ (λ k is.
         let one = word_in g L d (type_of x) i.Int v k q1 ex is held stands in
         let at_from : q1 from ≡ Word k = ap (λ z. q1 (value_register L d z)) ex ∙ one.stands in
-        bound c found (turn t) (λ _. exit k) K1 q q1 t.world m1
+        bound_run c found (turn t) (λ _. exit k) K1 q q1 t.world m1
         (turn_meets c.rooms c.functions t (λ _ u. finish (exit {A = Value} k u) K1) _
         (λ mt some.
         turning_over c.rooms c.functions c.number c.code found c.own c.waiting insn q q1 t.world m1 mt (machine.Exits (k % 256)) at1.has.0 refl some

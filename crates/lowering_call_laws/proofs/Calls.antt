@@ -30,15 +30,16 @@ use Rattle.lowering_code.specs.declared.item.CodeItem.TheVariants.{Plain}
 use Rattle.lowering_code.specs.Registers.{register_type, value_register}
 use Rattle.lowering_code.specs.Expressions.{plain_of, destination_of, call_registers, exprs_code}
 use Rattle.lowering_states.specs.Places.{CodePlace, next_place}
-use Rattle.lowering_states.specs.Runs.{opens, CodeObservation, finish, frame_of}
+use Rattle.lowering_states.specs.Runs.{CodeObservation, finish, frame_of}
+use Rattle.lowering_states.specs.model.Opens.{opens}
 use Rattle.lowering_states.specs.States.{IsHeld, IsInRegister, KeepsLower}
-use Rattle.lowering_states.proofs.Steps.{meets_same, used_meets, turn_meets, turn_less, no_turn, calling, resume_meets}
+use Rattle.lowering_states.proofs.Steps.{meets_same, used_meets, turn_meets, turn_less, no_turn, calling_step, resume_meets}
 use Rattle.lowering_states.proofs.States.{kept_all, kept_on, kept_temporary, kept_reads, is_in, is_at, after_same, after_on, fits_temporary, fits_after}
 use Rattle.lowering_values.proofs.Integers.{integer_of-plain, word_is}
 use Rattle.lowering_expression_places.proofs.Behind.{at_plain}
 use Rattle.lowering_expression_laws.specs.Parts.{Setting, first_depth, EndsSo, Stands, Fit, Aft, ExprMeets}
 use Rattle.lowering_expression_laws.specs.Laws.{IsScalarType}
-use Rattle.lowering_expression_laws.proofs.Forms.{word_held, bound}
+use Rattle.lowering_expression_laws.proofs.Forms.{word_held, bound_run}
 use Rattle.lowering_call_laws.specs.Laws.{CallsWithoutResultsMeet, AreArguments, ArgumentsMeet, FunctionMeets, CallsMeet}
 
 scalar_in : (f : Names) (ty : PlainType) (v w : Value) → IsScalarType ty → IsInRegister f ty v w → IsValueOf f v w
@@ -101,12 +102,12 @@ module _ (c : Setting) (found : slice_get c.functions c.number ≡ Some c.code) 
   arguments [] no_exprs all d rest heads p f scope r s m K at fit low next = next p [] f s r m at after_same fit kept_all tt
   arguments (ty ∷ tys) (more_exprs x xs) all d rest heads p f scope r s m K at fit low next =
       let more : Value → Run (List Value) = λ v t. and_then (evals c.structs c.locals c.calls scope xs t) (λ vs. pure (v ∷ vs)) in
-      bound c found (and_then (eval c.structs c.locals c.calls scope x s) (use_value UsesNoValue)) more K p r s.world m
-      (bound c found (eval c.structs c.locals c.calls scope x s) (use_value UsesNoValue) (λ v t. finish (more v t) K) p r s.world m
+      bound_run c found (and_then (eval c.structs c.locals c.calls scope x s) (use_value UsesNoValue)) more K p r s.world m
+      (bound_run c found (eval c.structs c.locals c.calls scope x s) (use_value UsesNoValue) (λ v t. finish (more v t) K) p r s.world m
       (all.2.by d (exprs_code L c.structs c.locals (suc d) xs rest) heads p f scope r s m (λ v t. finish (use_value UsesNoValue v t) (λ v t1. finish (more v t1) K)) at fit low
       (λ q v g t q1 m1 at1 aft fit1 kept held stands.
       used_meets c.rooms c.functions UsesNoValue v t (λ v t1. finish (more v t1) K) _ (λ set.
-      bound c found (evals c.structs c.locals c.calls scope xs t) (λ vs. pure (v ∷ vs)) K q q1 t.world m1
+      bound_run c found (evals c.structs c.locals c.calls scope xs t) (λ vs. pure (v ∷ vs)) K q q1 t.world m1
       (arguments tys xs all.3 (suc d) rest heads q g scope q1 t m1 (λ vs u. K (v ∷ vs) u) at1 fit1 (omega (arith, aft.turned, low))
       (λ q2 vs h u q3 m2 at2 aft2 fit2 kept2 rels.
       let reg = value_register L d (type_of x) in
@@ -131,15 +132,15 @@ module _ (c : Setting) (found : slice_get c.functions c.number ≡ Some c.code) 
         let ws = map q1 registers in
         let K1 : Value → CallState → CodeObservation = λ v u. finish (call_result ty v u) K in
         meets_same c.rooms c.functions (ap (λ z. finish (z t) K1) (callee.is vs))
-        (bound c found (turn t) (λ _. within_call c.rooms k (callee.body vs)) K1 q q1 t.world m1
+        (bound_run c found (turn t) (λ _. within_call c.rooms k (callee.body vs)) K1 q q1 t.world m1
         (turn_meets c.rooms c.functions t (λ _ t1. finish (within_call c.rooms k (callee.body vs) t1) K1) _
         (λ mt some.
         let less = turn_less t.world.meter mt some in
         let w : World = enter_function c.rooms k (with_meter t.world mt) in
         let inner : CallState = record { registers = λ j. Unset; world = w } in
         let back : Value → Run Value = λ v u. Gives v (record { registers = t.registers; world = leave_function c.rooms k u.world }) in
-        bound c found (callee.body vs inner) back K1 q q1 t.world m1
-        (calling c.rooms c.functions c.number c.code found c.own c.waiting insn q q1 t.world m1 mt k callee.code ws at.has.0 refl some callee.found
+        bound_run c found (callee.body vs inner) back K1 q q1 t.world m1
+        (calling_step c.rooms c.functions c.number c.code found c.own c.waiting insn q q1 t.world m1 mt k callee.code ws at.has.0 refl some callee.found
         (ap (λ z. if z then machine.Calls k ws (outer_with_memory t.world.outer m1) else machine.Stops machine.HasNoMeaning (outer_with_memory t.world.outer m1)) (all_set g tys vs ws rels))
         (callee.by vs ws g inner m1 (frame_of c.number c.own q q1 ∷ c.waiting) (λ v u. finish (back v u) K1) rels fit.statics fit.memory fit.small fit.bytes (omega (arith, less, low))
         (λ v us h u n1 held rel aft1 mem bytes.
@@ -157,8 +158,8 @@ module _ (c : Setting) (found : slice_get c.functions c.number ≡ Some c.code) 
           let registers = call_registers L c.structs c.locals d xs in
           let reg = value_register L d ty in
           let at2 = subst (λ z. Stands c heads p (exprs_code L c.structs c.locals d xs (Plain (n.Call z (vk.Function k) registers) ∷ rest))) (destination_is c d ty scalar) at in
-          bound c found (and_then (evals c.structs c.locals c.calls scope xs s) (c.calls k)) (call_result ty) K p r s.world m
-          (bound c found (evals c.structs c.locals c.calls scope xs s) (c.calls k) (λ v u. finish (call_result ty v u) K) p r s.world m
+          bound_run c found (and_then (evals c.structs c.locals c.calls scope xs s) (c.calls k)) (call_result ty) K p r s.world m
+          (bound_run c found (evals c.structs c.locals c.calls scope xs s) (c.calls k) (λ v u. finish (call_result ty v u) K) p r s.world m
           (arguments tys xs all d (Plain (n.Call (Some reg) (vk.Function k) registers) ∷ rest) heads p f scope r s m (λ vs t. finish (c.calls k vs t) (λ v u. finish (call_result ty v u) K)) at2 fit low
           (λ q vs g t q1 m1 at1 aft fit1 kept rels.
           call_leads (Some reg) d rest heads scope K q vs g t q1 m1 at1 fit1 rels (omega (arith, aft.turned, low))
@@ -175,8 +176,8 @@ module _ (c : Setting) (found : slice_get c.functions c.number ≡ Some c.code) 
   voids k tys xs callee all = record {
     by = λ d rest heads p f scope r s m K at fit low next.
         let registers = call_registers L c.structs c.locals d xs in
-        bound c found (and_then (evals c.structs c.locals c.calls scope xs s) (c.calls k)) (call_result Void) K p r s.world m
-        (bound c found (evals c.structs c.locals c.calls scope xs s) (c.calls k) (λ v u. finish (call_result Void v u) K) p r s.world m
+        bound_run c found (and_then (evals c.structs c.locals c.calls scope xs s) (c.calls k)) (call_result Void) K p r s.world m
+        (bound_run c found (evals c.structs c.locals c.calls scope xs s) (c.calls k) (λ v u. finish (call_result Void v u) K) p r s.world m
         (arguments tys xs all d (Plain (n.Call None (vk.Function k) registers) ∷ rest) heads p f scope r s m (λ vs t. finish (c.calls k vs t) (λ v u. finish (call_result Void v u) K)) at fit low
         (λ q vs g t q1 m1 at1 aft fit1 kept rels.
         call_leads Void k tys xs callee None d rest heads scope K q vs g t q1 m1 at1 fit1 rels (omega (arith, aft.turned, low))

@@ -33,7 +33,8 @@ use Rattle.lowering_code.specs.declared.operation.RegisterOperation.TheVariants.
 use Rattle.lowering_code.specs.Registers.{register_type, temporary, value_register}
 use Rattle.lowering_code.specs.Expressions.{plain_of, keeps_register, narrow_type, operation_of, operation_insn, convert_code, combine_in}
 use Rattle.lowering_states.specs.Places.{CodePlace, next_place}
-use Rattle.lowering_states.specs.Runs.{opens, CodeObservation, finish}
+use Rattle.lowering_states.specs.Runs.{CodeObservation, finish}
+use Rattle.lowering_states.specs.model.Opens.{opens}
 use Rattle.lowering_states.specs.States.{IsHeld, IsInRegister, KeepsLower}
 use Rattle.lowering_states.proofs.Steps.{traps, number_meets, outcome_meets}
 use Rattle.lowering_states.proofs.States.{set_same, set_other, other_depth, fits_temporary}
@@ -43,7 +44,7 @@ use Rattle.lowering_values.proofs.Operators.{operators_correspond}
 use Rattle.lowering_expression_places.proofs.Behind.{at_plain}
 use Rattle.lowering_expression_laws.specs.Parts.{Setting, first_depth, EndsSo, Stands, Fit}
 use Rattle.lowering_expression_laws.specs.Laws.{result_type}
-use Rattle.lowering_expression_laws.proofs.Forms.{WordIn, word_in, insn_on, bound, result_word}
+use Rattle.lowering_expression_laws.proofs.Forms.{WordIn, word_in, insn_on, bound_run, result_word}
 
 -- ---- registers
 
@@ -155,11 +156,11 @@ module _ (c : Setting) (found : slice_get c.functions c.number ≡ Some c.code) 
     values_lead v w K q r at fit hv iv hw iw next =
         let back : Value → Run Value = convert_word t left in
         let run : Value → Run Value = λ x u. and_then (integers op t right x w u) back in
-        bound c found (convert_word left t v s) run K q r s.world m
-        (bound c found (use_number v s) (λ k. pure (Word (conversion left t k))) (λ x u. finish (run x u) K) q r s.world m
+        bound_run c found (convert_word left t v s) run K q r s.world m
+        (bound_run c found (use_number v s) (λ k. pure (Word (conversion left t k))) (λ x u. finish (run x u) K) q r s.world m
         (number_meets c.rooms c.functions v s (λ k u. finish (run (Word (conversion left t k)) u) K) _ (λ x is.
         let whole : ℕ → Run Value = λ y. outcome (integers_with op t right (conversion left t x) y) in
-        bound c found (and_then (use_number w s) whole) back K q r s.world m
-        (bound c found (use_number w s) whole (λ z u. finish (back z u) K) q r s.world m
+        bound_run c found (and_then (use_number w s) whole) back K q r s.world m
+        (bound_run c found (use_number w s) whole (λ z u. finish (back z u) K) q r s.world m
         (number_meets c.rooms c.functions w s (λ y u. finish (whole y u) (λ z u1. finish (back z u1) K)) _ (λ y is2.
         words_lead x y K q r at fit (word_in g L o (plain_of left) left v x r refl is hv iv) (word_in g L d (plain_of right) right w y r refl is2 hw iw) next))))))

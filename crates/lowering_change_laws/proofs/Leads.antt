@@ -31,7 +31,8 @@ use Rattle.lowering_code.specs.declared.item.CodeItem.{CodeItem}
 use Rattle.lowering_code.specs.Registers.{register_type, value_register}
 use Rattle.lowering_code.specs.Expressions.{plain_of, constant_code, combine_in, combine_code, stepped_code}
 use Rattle.lowering_states.specs.Places.{CodePlace, next_place}
-use Rattle.lowering_states.specs.Runs.{opens, CodeObservation, finish}
+use Rattle.lowering_states.specs.Runs.{CodeObservation, finish}
+use Rattle.lowering_states.specs.model.Opens.{opens}
 use Rattle.lowering_states.specs.States.{IsHeld, IsInRegister, KeepsLower}
 use Rattle.lowering_states.proofs.Steps.{meets_same, number_meets, known_meets}
 use Rattle.lowering_states.proofs.States.{set_other, other_depth, kept_all, kept_on, kept_temporary, is_at, fits_temporary}
@@ -40,7 +41,7 @@ use Rattle.lowering_values.proofs.Integers.{integer_of-plain}
 use Rattle.lowering_expression_places.proofs.Behind.{at_plain}
 use Rattle.lowering_expression_laws.specs.Parts.{Setting, first_depth, EndsSo, Stands, Fit}
 use Rattle.lowering_expression_laws.specs.Laws.{result_type}
-use Rattle.lowering_expression_laws.proofs.Forms.{held_word, word_in, value_of_word, insn_on, bound}
+use Rattle.lowering_expression_laws.proofs.Forms.{held_word, word_in, value_of_word, insn_on, bound_run}
 use Rattle.lowering_place_laws.proofs.Places.{moved_held}
 use Rattle.lowering_operand_laws.proofs.Operands.{promoted_again}
 use Rattle.lowering_pointer_laws.proofs.Moves.{moved_by, moved_leads}
@@ -186,7 +187,7 @@ module _ (c : Setting) (found : slice_get c.functions c.number ≡ Some c.code) 
     pointers_add t o d free low apart above below_o below_d heads g scope u m w q1 hw iw rest K q r old at fit kept held stands next =
         let moves : ℕ → Run Value = λ k. move_elements old (value t k *ℤ pos size) in
         meets_same c.rooms c.functions (ap (λ z. finish (move_by c.structs target z old w u) K) (integer_of-plain t))
-        (bound c found (use_number w u) moves K q r u.world m
+        (bound_run c found (use_number w u) moves K q r u.world m
         (number_meets c.rooms c.functions w u (λ k u1. finish (moves k u1) K) _ (λ k is.
         known_meets c.rooms c.functions (move_reason u.world.outer.memory old) (element_plus u.world.outer.memory old (value t k *ℤ pos size)) u K _ (λ result e.
         let moved = moved_by u.world.outer.memory old (value t k *ℤ pos size) result e in
@@ -200,7 +201,7 @@ module _ (c : Setting) (found : slice_get c.functions c.number ≡ Some c.code) 
     pointers_subtract t o d free low apart above below_o below_d heads g scope u m w q1 hw iw rest K q r old at fit kept held stands next =
         let moves : ℕ → Run Value = λ k. move_elements old (neg_ℤ (value t k) *ℤ pos size) in
         meets_same c.rooms c.functions (ap (λ z. finish (pointer_and_integer c.structs b.Subtract target z old w u) K) (integer_of-plain t))
-        (bound c found (use_number w u) moves K q r u.world m
+        (bound_run c found (use_number w u) moves K q r u.world m
         (number_meets c.rooms c.functions w u (λ k u1. finish (moves k u1) K) _ (λ k is.
         known_meets c.rooms c.functions (move_reason u.world.outer.memory old) (element_plus u.world.outer.memory old (neg_ℤ (value t k) *ℤ pos size)) u K _ (λ result e.
         let moved = moved_by u.world.outer.memory old (neg_ℤ (value t k) *ℤ pos size) result e in

@@ -30,7 +30,8 @@ use Rattle.lowering_code.specs.declared.item.CodeItem.{CodeItem}
 use Rattle.lowering_code.specs.Registers.{register_type, value_register, address_register}
 use Rattle.lowering_code.specs.Expressions.{load_from, store_code, move_code, combine_code, combine_memory_code, stepped_code, step_register_code, step_memory_code, change_code, register_of, assign_code, expr_code, place_code}
 use Rattle.lowering_states.specs.Places.{CodePlace, next_place}
-use Rattle.lowering_states.specs.Runs.{opens, CodeObservation, finish}
+use Rattle.lowering_states.specs.Runs.{CodeObservation, finish}
+use Rattle.lowering_states.specs.model.Opens.{opens}
 use Rattle.lowering_states.specs.States.{IsHeld, IsInRegister, KeepsLower}
 use Rattle.lowering_states.proofs.Steps.{meets_same}
 use Rattle.lowering_states.proofs.States.{set_same, set_other, other_depth, kept_all, kept_on, kept_temporary, kept_reads, is_in, is_at, after_on, fits_temporary}
@@ -38,7 +39,7 @@ use Rattle.lowering_values.specs.Laws.{IsMoved}
 use Rattle.lowering_expression_places.proofs.Behind.{at_plain}
 use Rattle.lowering_expression_laws.specs.Parts.{Setting, first_depth, EndsSo, Stands, Fit, Aft, Follows, ExprMeets}
 use Rattle.lowering_expression_laws.specs.Laws.{IsScalarType}
-use Rattle.lowering_expression_laws.proofs.Forms.{held_word, insn_on, bound}
+use Rattle.lowering_expression_laws.proofs.Forms.{held_word, insn_on, bound_run}
 use Rattle.lowering_place_laws.specs.Places.{left_of, PlaceMeets}
 use Rattle.lowering_place_laws.proofs.Accesses.{loads_lead, pointers_lead}
 use Rattle.lowering_access_laws.proofs.Changes.{moved_stays}
@@ -79,12 +80,12 @@ module _ (c : Setting) (found : slice_get c.functions c.number ≡ Some c.code) 
       let tail : List CodeItem = store_code ty (address_register L d) plus reg (move_code ty (value_register L d ty) reg rest) in
       let put : Value → Run Value = λ w u1. and_then (write_at c.structs ty at w u1) (λ _. pure w) in
       let run : Value → Run Value = λ old u1. and_then (change old u1) put in
-      bound c found (read_at ty at t) run K q r1 t.world m1
+      bound_run c found (read_at ty at t) run K q r1 t.world m1
       (scalars_lead reg (address_register L d) plus (code tail) heads g scope t m1 (λ old u1. finish (run old u1) K) q r1 base at fit rel moved stands
       (λ old w held set relw at2.
       let r2 : Registers = set_register reg w r1 in
       let low : r2 (address_register L d) ≡ r1 (address_register L d) = set_other r1 reg (address_register L d) w (λ same. other_depth L d o P64 (register_type ty) above same) in
-      bound c found (change old t) put K (next_place q) r2 t.world m1
+      bound_run c found (change old t) put K (next_place q) r2 t.world m1
       (lead tail (λ w1 u1. finish (put w1 u1) K) (next_place q) r2 old at2 (fits_temporary o (register_type ty) w fit) (kept_set (register_type ty) w kept_but) held (is_at g ty old w r1 reg (is_in g ty old w relw))
       (λ q3 z r3 at3 fit3 kept3 heldz inz.
       let same_base : r3 (address_register L d) ≡ r1 (address_register L d) = kept_reads {e = suc d} d P64 (omega arith) kept3 ∙ low in
@@ -106,7 +107,7 @@ module _ (c : Setting) (found : slice_get c.functions c.number ≡ Some c.code) 
       let change : Value → Run Value = step_value c.structs sop ty in
       let put : Value → Value → Run Value = λ old w u1. and_then (write_at c.structs ty at w u1) (λ _. pure old) in
       let run : Value → Run Value = λ old u1. and_then (change old u1) (put old) in
-      bound c found (read_at ty at t) run K q r1 t.world m1
+      bound_run c found (read_at ty at t) run K q r1 t.world m1
       (scalars_lead reg (address_register L d) plus (move_code ty high reg (stepped_code L c.structs sop o ty tail)) heads g scope t m1 (λ old u1. finish (run old u1) K) q r1 base at fit rel moved stands
       (λ old w held set relw at2.
       let r2 : Registers = set_register reg w r1 in
@@ -114,7 +115,7 @@ module _ (c : Setting) (found : slice_get c.functions c.number ≡ Some c.code) 
       let there : r2 reg ≡ w = set_same r1 reg w in
       let kept1 : KeepsLower L (suc d) r1 r2 = kept_temporary e (register_type ty) w (omega arith) kept_all in
       let kept2 : KeepsLower L (suc (suc d)) r2 r3 = kept_temporary o (register_type ty) w (omega arith) kept_all in
-      bound c found (change old t) (put old) K (next_place q) r2 t.world m1
+      bound_run c found (change old t) (put old) K (next_place q) r2 t.world m1
       (insn_on c found (n.Unary Move (register_type ty) high reg) (next_place q) r2 t.world m1 (w ∷ []) at2.has.0 refl
       (ap (λ x. writes (vm.unary_answer Move (register_type ty) x) (outer_with_memory t.world.outer m1)) there ∙ ap (λ x. writes x (outer_with_memory t.world.outer m1)) (moves g ty old w scalar held relw set))
       (lead o heads g scope t m1 r3 tail (λ w1 u1. finish (put old w1 u1) K) (next_place (next_place q)) r3 old (at_plain c.code.blocks c.last c.end _ at2)
@@ -144,10 +145,10 @@ module _ (c : Setting) (found : slice_get c.functions c.number ≡ Some c.code) 
         meets_same c.rooms c.functions
         (ap (λ v. finish (and_then (place c.structs c.locals c.calls scope x s) (λ z t. and_then (eval c.structs c.locals c.calls scope y t) (assign_value c.structs ty (type_of y) v z))) K) eo
         ∙ ap (λ v. finish (and_then (place c.structs c.locals c.calls scope x s) (λ z t. and_then (eval c.structs c.locals c.calls scope y t) (assign_value c.structs ty v (Some o) z))) K) ey)
-        (bound c found (place c.structs c.locals c.calls scope x s) run K p1 r s.world m
+        (bound_run c found (place c.structs c.locals c.calls scope x s) run K p1 r s.world m
         (hx.by d 0 (of_y (suc d) tail) heads p1 f scope r s m (λ z t. finish (run z t) K) (omega arith) (omega arith) (subst (λ z. Stands c heads p1 z) code_e at) fit low
         (λ q base there g t q1 m1 at1 aft fit1 kept held stands small is_base.
-        bound c found (eval c.structs c.locals c.calls scope y t) (assign_value c.structs ty right (Some o) (obj.At there)) K q q1 t.world m1
+        bound_run c found (eval c.structs c.locals c.calls scope y t) (assign_value c.structs ty right (Some o) (obj.At there)) K q q1 t.world m1
         (hy.by (suc d) tail heads q g scope q1 t m1 (λ v u1. finish (assign_value c.structs ty right (Some o) (obj.At there) v u1) K) at1 fit1 (omega (arith, aft.turned, low))
         (λ q2 v h u1 q3 m2 at2 aft2 fit2 kept2 held2 stands2.
         let same_base : q3 (address_register L d) ≡ q1 (address_register L d) = kept_reads {e = suc d} d P64 (omega arith) kept2 in
@@ -170,7 +171,7 @@ module _ (c : Setting) (found : slice_get c.functions c.number ≡ Some c.code) 
       by = λ d rest heads p1 f scope r s m K at fit low next.
           let plus : ℕ = left_of c x 0 in
           let run : obj.ValuePlace → Run Value = update c.structs ty (step_value c.structs step.Increment ty) new_value in
-          bound c found (place c.structs c.locals c.calls scope x s) run K p1 r s.world m
+          bound_run c found (place c.structs c.locals c.calls scope x s) run K p1 r s.world m
           (hx.by d 0 (step_memory_code L c.structs step.Increment false d plus ty rest) heads p1 f scope r s m (λ z t. finish (run z t) K) (omega arith) (omega arith) (subst (λ z. Stands c heads p1 z) (in_memory step.Increment false d rest) at) fit low
           (λ q base there g t q1 m1 at1 aft fit1 kept held stands small is_base.
           changed_on d (suc d) plus (omega arith) rest heads f g scope r q1 s t m m1 K q base there (step_value c.structs step.Increment ty) (λ is. stepped_code L c.structs step.Increment (suc d) ty is) (lead (suc d) heads g scope t m1 q1)
@@ -183,7 +184,7 @@ module _ (c : Setting) (found : slice_get c.functions c.number ≡ Some c.code) 
       by = λ d rest heads p1 f scope r s m K at fit low next.
           let plus : ℕ = left_of c x 0 in
           let run : obj.ValuePlace → Run Value = update c.structs ty (step_value c.structs step.Decrement ty) new_value in
-          bound c found (place c.structs c.locals c.calls scope x s) run K p1 r s.world m
+          bound_run c found (place c.structs c.locals c.calls scope x s) run K p1 r s.world m
           (hx.by d 0 (step_memory_code L c.structs step.Decrement false d plus ty rest) heads p1 f scope r s m (λ z t. finish (run z t) K) (omega arith) (omega arith) (subst (λ z. Stands c heads p1 z) (in_memory step.Decrement false d rest) at) fit low
           (λ q base there g t q1 m1 at1 aft fit1 kept held stands small is_base.
           changed_on d (suc d) plus (omega arith) rest heads f g scope r q1 s t m m1 K q base there (step_value c.structs step.Decrement ty) (λ is. stepped_code L c.structs step.Decrement (suc d) ty is) (lead (suc d) heads g scope t m1 q1)
@@ -196,7 +197,7 @@ module _ (c : Setting) (found : slice_get c.functions c.number ≡ Some c.code) 
       by = λ d rest heads p1 f scope r s m K at fit low next.
           let plus : ℕ = left_of c x 0 in
           let run : obj.ValuePlace → Run Value = update c.structs ty (step_value c.structs sop ty) old_value in
-          bound c found (place c.structs c.locals c.calls scope x s) run K p1 r s.world m
+          bound_run c found (place c.structs c.locals c.calls scope x s) run K p1 r s.world m
           (hx.by d 0 (step_memory_code L c.structs sop true d plus ty rest) heads p1 f scope r s m (λ z t. finish (run z t) K) (omega arith) (omega arith) (subst (λ z. Stands c heads p1 z) (in_memory sop true d rest) at) fit low
           (λ q base there g t q1 m1 at1 aft fit1 kept held stands small is_base.
           behind_on sop lead d plus rest heads f g scope r q1 s t m m1 K q base there at1 aft fit1 kept stands (is_base there (inl (refl, refl))) next));

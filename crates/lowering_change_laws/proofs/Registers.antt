@@ -32,14 +32,15 @@ use Rattle.lowering_code.specs.declared.item.CodeItem.{CodeItem}
 use Rattle.lowering_code.specs.Registers.{register_type, value_register}
 use Rattle.lowering_code.specs.Expressions.{move_code, combine_code, stepped_code, step_register_code, step_memory_code, change_code, assign_code, register_if, plus_of, expr_code, place_code}
 use Rattle.lowering_states.specs.Places.{CodePlace, next_place}
-use Rattle.lowering_states.specs.Runs.{opens, CodeObservation, finish}
+use Rattle.lowering_states.specs.Runs.{CodeObservation, finish}
+use Rattle.lowering_states.specs.model.Opens.{opens}
 use Rattle.lowering_states.specs.States.{IsHeld, IsInRegister, KeepsLower, type_at}
 use Rattle.lowering_states.proofs.Steps.{meets_same, used_meets}
 use Rattle.lowering_states.proofs.States.{set_same, set_other, temporary_past, kept_all, kept_on, kept_local, kept_temporary, kept_reads, is_in, is_at, after_same, fits_temporary, fits_local}
 use Rattle.lowering_expression_places.proofs.Behind.{at_plain}
 use Rattle.lowering_expression_laws.specs.Parts.{Setting, first_depth, EndsSo, Stands, Fit, Aft, Follows, ExprMeets}
 use Rattle.lowering_expression_laws.specs.Laws.{IsScalarType}
-use Rattle.lowering_expression_laws.proofs.Forms.{insn_on, bound}
+use Rattle.lowering_expression_laws.proofs.Forms.{insn_on, bound_run}
 use Rattle.lowering_assignment_laws.proofs.Locals.{moves, read_as, register_place, register_is}
 use Rattle.lowering_assignment_laws.proofs.Assignments.{scalar_in}
 use Rattle.lowering_change_laws.proofs.Combine.{kept_but, kept_set}
@@ -69,13 +70,13 @@ module _ (c : Setting) (found : slice_get c.functions c.number ≡ Some c.code) 
       let rel = fit.locals k within in
       let put : Value → Value → Run Value = λ v z u1. and_then (write c.structs ty (obj.Register k) z u1) (λ _. pure (pick v z)) in
       let run : Value → Run Value = λ v u1. and_then (change v u1) (put v) in
-      bound c found (and_then (use_value ReadsUnwritten old u) (as_held ty)) run K q q1 u.world m1
-      (bound c found (use_value ReadsUnwritten old u) (as_held ty) (λ v u1. finish (run v u1) K) q q1 u.world m1
+      bound_run c found (and_then (use_value ReadsUnwritten old u) (as_held ty)) run K q q1 u.world m1
+      (bound_run c found (use_value ReadsUnwritten old u) (as_held ty) (λ v u1. finish (run v u1) K) q q1 u.world m1
       (used_meets c.rooms c.functions ReadsUnwritten old u (λ v u1. finish (as_held ty v u1) (λ v2 u2. finish (run v2 u2) K)) _ (λ set.
       meets_same c.rooms c.functions (read_as ty old u (λ v u1. finish (run v u1) K) scalar held set)
       (insn_on c found (n.Unary Move (register_type ty) reg k) q q1 u.world m1 (w0 ∷ []) at.has.0 refl
       (ap (λ z. writes z (outer_with_memory u.world.outer m1)) (moves g ty old w0 scalar held rel set))
-      (bound c found (change old u) (put old) K (next_place q) (set_register reg w0 q1) u.world m1
+      (bound_run c found (change old u) (put old) K (next_place q) (set_register reg w0 q1) u.world m1
       (next old w0 held rel set (at_plain c.code.blocks c.last c.end _ at) (fits_temporary d (register_type ty) w0 fit)))))))
 
   -- the new value stands at a depth, and is put into the local; the registers of expressions stay
@@ -88,8 +89,8 @@ module _ (c : Setting) (found : slice_get c.functions c.number ≡ Some c.code) 
       let reg : ℕ = value_register L o ty in
       let within : k < length c.locals = slice_get_within c.locals k l el in
       let rel : IsValueOf g z (r3 reg) = scalar_in g ty z (r3 reg) scalar stands in
-      bound c found (and_then (use_value UsesNoValue z u) (write_register k)) (λ _. pure v) K q3 r3 u.world m1
-      (bound c found (use_value UsesNoValue z u) (write_register k) (λ _ u1. K v u1) q3 r3 u.world m1
+      bound_run c found (and_then (use_value UsesNoValue z u) (write_register k)) (λ _. pure v) K q3 r3 u.world m1
+      (bound_run c found (use_value UsesNoValue z u) (write_register k) (λ _ u1. K v u1) q3 r3 u.world m1
       (used_meets c.rooms c.functions UsesNoValue z u (λ v1 u1. K v (put_in k v1 u1)) _ (λ set.
       insn_on c found (n.Unary Move (register_type ty) k reg) q3 r3 u.world m1 (r3 reg ∷ []) at.has.0 refl
       (ap (λ x. writes x (outer_with_memory u.world.outer m1)) (moves g ty z (r3 reg) scalar held rel set))
@@ -169,7 +170,7 @@ module _ (c : Setting) (found : slice_get c.functions c.number ≡ Some c.code) 
         (ap (λ z. finish (and_then (z s) (λ q1 t1. and_then (eval c.structs c.locals c.calls scope y t1) (assign_value c.structs ty (type_of y) (operator_of op) q1))) K) (register_place c found k l scope el em)
         ∙ ap (λ z. finish (and_then (eval c.structs c.locals c.calls scope y s) (assign_value c.structs ty (type_of y) z (obj.Register k))) K) eo
         ∙ ap (λ z. finish (and_then (eval c.structs c.locals c.calls scope y s) (assign_value c.structs ty z (Some o) (obj.Register k))) K) ey)
-        (bound c found (eval c.structs c.locals c.calls scope y s) run K p1 r s.world m
+        (bound_run c found (eval c.structs c.locals c.calls scope y s) run K p1 r s.world m
         (hy.by (suc d) tail heads p1 f scope r s m (λ v u1. finish (run v u1) K) (subst (λ z. Stands c heads p1 z) code_e at) fit low
         (λ q v g u1 q1 m1 at1 aft fit1 kept held stands.
         changed_on d rest heads f g scope r q1 s u1 m m1 K q (λ old. combine c.structs o ty right old v) (λ is. combine_code L c.structs o d (suc d) (suc (suc d)) ty right is)

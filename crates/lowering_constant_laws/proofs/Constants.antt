@@ -28,7 +28,7 @@ use Rattle.c_semantics.specs.Objects as objects
 use Rattle.c_semantics.specs.Objects.{Scope, ValuePlace}
 use Rattle.c_semantics.specs.Operators.{outcome, integers, apply_binary, apply_unary, test, pure_truth, convert}
 use Rattle.c_semantics.specs.Evaluates.{Functions, choose, converted_from, eval, place, value_of_last}
-use Rattle.lowering_states.specs.Runs.{opens}
+use Rattle.lowering_states.specs.model.Opens.{opens}
 use Rattle.lowering_bounds.proofs.Typing.{one, two, three, same}
 use Rattle.c_layout_laws.proofs.Truth.{front, back}
 use Rattle.lowering_constant_laws.specs.Laws.{ConstantsAreGiven}
@@ -42,12 +42,12 @@ same_value : (m n : ℕ) → Some m ≡ Some n → m ≡ n
 same_value m n e = cc
 
 -- what was found on the way
-pub record Found (f : ℕ → Option ℕ) (first : Option ℕ) (n : ℕ) : Type 0 where
+pub record FoundValue (f : ℕ → Option ℕ) (first : Option ℕ) (n : ℕ) : Type 0 where
   pub value : ℕ
   pub is_there : first ≡ Some value
   pub leads : f value ≡ Some n
 
-then_found : (f : ℕ → Option ℕ) (first : Option ℕ) (n : ℕ) → option_and_then f first ≡ Some n → Found f first n
+then_found : (f : ℕ → Option ℕ) (first : Option ℕ) (n : ℕ) → option_and_then f first ≡ Some n → FoundValue f first n
 then_found f None n e = absent n e
 then_found f (Some m) n e = record { value = m; is_there = refl; leads = e }
 
@@ -208,7 +208,7 @@ converted_given : (from to : PlainType) (run : Run Value) (at : Run ValuePlace) 
 unfolding opens
 converted_given from to run at x n s hx e = by from to (then_found (converted_value (integer_of from) (integer_of to)) x n e)
   where
-    by : (from to : PlainType) → Found (converted_value (integer_of from) (integer_of to)) x n → converted_from from to run at s ≡ Gives (Word n) s
+    by : (from to : PlainType) → FoundValue (converted_value (integer_of from) (integer_of to)) x n → converted_from from to run at s ≡ Gives (Word n) s
     by Void to h = absent n h.leads
     by (Pointer t) to h = absent n h.leads
     by (Array t k) to h = absent n h.leads
@@ -222,13 +222,13 @@ converted_given from to run at x n s hx e = by from to (then_found (converted_va
 -- ---- expressions
 
 module _ (k : Context) (ls : List l.Local) (functions : Functions) (scope : Scope) where
-  abbrev Given : Expr → ℕ → CallState → Type 0
-  Given x n s = GivesWord (eval k.structs ls functions scope x) n s
+  abbrev GivesConstant : Expr → ℕ → CallState → Type 0
+  GivesConstant x n s = GivesWord (eval k.structs ls functions scope x) n s
 
   same_as : (ty : PlainType) (x : Expr) → IsTrue (is_promoted (type_of x) && is_same_type (type_of x) ty) → type_of x ≡ ty
   same_as ty x h = same (type_of x) ty (back (is_promoted (type_of x)) (is_same_type (type_of x) ty) h)
 
-  operands : (op : BinaryOp) (x y : Expr) (n : ℕ) (s : CallState) → ((m : ℕ) → constant x ≡ Some m → Given x m s) → ((m : ℕ) → constant y ≡ Some m → Given y m s) → both_values (binary_value op (integer_of (type_of x)) (integer_of (type_of y))) (constant x) (constant y) ≡ Some n
+  operands : (op : BinaryOp) (x y : Expr) (n : ℕ) (s : CallState) → ((m : ℕ) → constant x ≡ Some m → GivesConstant x m s) → ((m : ℕ) → constant y ≡ Some m → GivesConstant y m s) → both_values (binary_value op (integer_of (type_of x)) (integer_of (type_of y))) (constant x) (constant y) ≡ Some n
       → and_then (eval k.structs ls functions scope x s) (λ v t. and_then (eval k.structs ls functions scope y t) (λ w. apply_binary k.structs op (type_of x) (type_of y) v w)) ≡ Gives (Word n) s
   operands op x y n s hx hy e = both_given k.structs op (type_of x) (type_of y) (eval k.structs ls functions scope x) (eval k.structs ls functions scope y) (constant x) (constant y) n s hx hy e
 
@@ -238,7 +238,7 @@ module _ (k : Context) (ls : List l.Local) (functions : Functions) (scope : Scop
   mutual
     unfolding opens
 
-    given : (x : Expr) (n : ℕ) → IsTrue (is_typed k x) → constant x ≡ Some n → (s : CallState) → Given x n s
+    given : (x : Expr) (n : ℕ) → IsTrue (is_typed k x) → constant x ≡ Some n → (s : CallState) → GivesConstant x n s
     given (Number ty m) n h e s = ap (λ z. Gives (Word z) s) (given_if (is_integer ty) m n e)
     given (Local ty j) n h e s = absent n e
     given (Global ty j) n h e s = absent n e

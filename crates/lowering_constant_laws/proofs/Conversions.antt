@@ -27,7 +27,8 @@ use Rattle.lowering_code.specs.declared.item.CodeItem.TheVariants.{Plain}
 use Rattle.lowering_code.specs.Registers.{value_register, address_register}
 use Rattle.lowering_code.specs.Expressions.{plain_of, plus_of, conversion_code, expr_code, place_code}
 use Rattle.lowering_states.specs.Places.{next_place}
-use Rattle.lowering_states.specs.Runs.{opens, CodeObservation, NotDefined, finish}
+use Rattle.lowering_states.specs.Runs.{CodeObservation, NotDefined, finish}
+use Rattle.lowering_states.specs.model.Opens.{opens}
 use Rattle.lowering_states.proofs.Steps.{finish-bind, meets_anything, meets_same}
 use Rattle.lowering_states.proofs.States.{kept_temporary, value_at, fits_temporary}
 use Rattle.lowering_expression_places.proofs.Behind.{at_plain}

@@ -16,7 +16,8 @@ use Rattle.vm_meaning.specs.Behave.{Registers}
 use Rattle.lowering_code.specs.declared.item.CodeItem.{CodeItem}
 use Rattle.lowering_code.specs.Registers.{object_index}
 use Rattle.lowering_states.specs.Places.{CodePlace, start_of_block}
-use Rattle.lowering_states.specs.Runs.{opens, CodeObservation, Resumes}
+use Rattle.lowering_states.specs.Runs.{CodeObservation, Resumes}
+use Rattle.lowering_states.specs.model.Opens.{opens}
 use Rattle.lowering_states.proofs.States.{ne_eqb, fits_unset}
 use Rattle.lowering_expression_laws.specs.Parts.{Setting, EndsSo, Stands, Fit, Aft}
 use Rattle.lowering_object_laws.proofs.Objects.{objects_begin_and_end}
@@ -42,7 +43,7 @@ Remembers w v = (x : Memory) × (v ≡ with_memory w x)
 
 module _ (c : Setting) where
   -- the states in which a run stands whose locals began, and how it leaves them
-  pub record Begun (scope : Scope) (f : Names) (r : Registers) (s : CallState) (m : Memory) (ks : List ℕ) : Type 0 where
+  pub record BegunLocals (scope : Scope) (f : Names) (r : Registers) (s : CallState) (m : Memory) (ks : List ℕ) : Type 0 where
     pub names : Names
     pub inner : Scope
     pub start : CallState
@@ -63,7 +64,7 @@ module _ (c : Setting) where
 
   -- one local more, where the others begin in every state
   module _ (k : ℕ) (ks : List ℕ) (may : MayDeclareAll c.structs c.locals (k ∷ ks)) (once : (j : ℕ) → times j (k ∷ ks) ≤ 1) (scope : Scope) (apart : (j : ℕ) → 0 < times j (k ∷ ks) → scope j ≡ None) (f : Names) (r : Registers) (s : CallState) (m : Memory) (fit : Fit c f scope r s m)
-      (others : (scope1 : Scope) → ((j : ℕ) → 0 < times j ks → scope1 j ≡ None) → (f1 : Names) (s1 : CallState) → Fit c f1 scope1 r s1 m → Begun scope1 f1 r s1 m ks) where
+      (others : (scope1 : Scope) → ((j : ℕ) → 0 < times j ks → scope1 j ≡ None) → (f1 : Names) (s1 : CallState) → Fit c f1 scope1 r s1 m → BegunLocals scope1 f1 r s1 m ks) where
     abbrev l : Local
     l = may.0.local
 
@@ -88,11 +89,11 @@ module _ (c : Setting) where
         ap (λ z. with_local c.structs k z (more run) scope s) may.0.found
         ∙ ap (λ z. if◌then◌else◌ {A = Run StatementFlow} z (with_local_object size k (more run) scope) (write_register k Unset >> more run scope) s) e
 
-    register_begun : l.in_memory ≡ false → Begun scope f r s m (k ∷ ks)
+    register_begun : l.in_memory ≡ false → BegunLocals scope f r s m (k ∷ ks)
     unfolding opens
     register_begun e =
         let s1 : CallState = with_registers s (with_local_value s.registers k Unset) in
-        let b : Begun scope f r s1 m ks = others scope kept f s1 (fits_unset k fit) in
+        let b : BegunLocals scope f r s1 m ks = others scope kept f s1 (fits_unset k fit) in
         record {
           names = b.names;
           inner = b.inner;
@@ -107,7 +108,7 @@ module _ (c : Setting) where
           fits = b.fits;
         }
 
-    object_begun : l.in_memory ≡ true → Begun scope f r s m (k ∷ ks)
+    object_begun : l.in_memory ≡ true → BegunLocals scope f r s m (k ∷ ks)
     unfolding opens
     object_begun e =
         let o : ℕ = length s.world.outer.memory in
@@ -120,7 +121,7 @@ module _ (c : Setting) where
         (objects_begin_and_end.begin c.statics c.structs c.locals c.own f scope r s.registers s.world.outer.memory m s.world.outer.input k l (record { found = may.0.found; inside = e; none = none; small = may.0.small e }) fit).fits in
         let other : (j : ℕ) → j ≢ k → scope1 j ≡ scope j = (λ j ne. ap (λ z. if z then Some o else scope j) (ne_eqb j k ne)) in
         let kept1 : (j : ℕ) → 0 < times j ks → scope1 j ≡ None = (λ j lt. other j (λ same. absurd (let z : times j ks ≡ zero = ap (λ i. times i ks) same ∙ here in omega (arith, lt, z))) ∙ kept j lt) in
-        let b : Begun scope1 f1 r s1 m ks = others scope1 kept1 f1 s1 fit1 in
+        let b : BegunLocals scope1 f1 r s1 m ks = others scope1 kept1 f1 s1 fit1 in
         let ended : CallState → CallState = (λ t. in_world t (with_memory t.world (end_object t.world.outer.memory o))) in
         record {
           names = b.names;
@@ -138,12 +139,12 @@ module _ (c : Setting) where
               objects_begin_and_end.end c.statics c.structs c.locals c.own g scope q (b.left t).registers (b.left t).world.outer.memory n (b.left t).world.outer.input k o none (b.fits g t q n a);
         }
 
-    one_begun : (b : Bool) → l.in_memory ≡ b → Begun scope f r s m (k ∷ ks)
+    one_begun : (b : Bool) → l.in_memory ≡ b → BegunLocals scope f r s m (k ∷ ks)
     one_begun false e = register_begun e
     one_begun true e = object_begun e
 
-  pub begun : (ks : List ℕ) → MayDeclareAll c.structs c.locals ks → ((j : ℕ) → times j ks ≤ 1) → (scope : Scope) → ((j : ℕ) → 0 < times j ks → scope j ≡ None) → (f : Names) (r : Registers) (s : CallState) (m : Memory) → Fit c f scope r s m → Begun scope f r s m ks
-  begun [] may once scope apart f r s m fit = record {
+  pub begun_locals : (ks : List ℕ) → MayDeclareAll c.structs c.locals ks → ((j : ℕ) → times j ks ≤ 1) → (scope : Scope) → ((j : ℕ) → 0 < times j ks → scope j ≡ None) → (f : Names) (r : Registers) (s : CallState) (m : Memory) → Fit c f scope r s m → BegunLocals scope f r s m ks
+  begun_locals [] may once scope apart f r s m fit = record {
     names = f;
     inner = scope;
     start = s;
@@ -156,14 +157,14 @@ module _ (c : Setting) where
     after = λ g t n a. a;
     fits = λ g t q n a. a;
   }
-  begun (k ∷ ks) may once scope apart f r s m fit =
+  begun_locals (k ∷ ks) may once scope apart f r s m fit =
       one_begun k ks may once scope apart f r s m fit
-      (λ scope1 kept1 f1 s1 fit1. begun ks may.1 (λ j. let h = once j in let one = one_more k j ks in omega (arith, h, one)) scope1 kept1 f1 r s1 m fit1)
+      (λ scope1 kept1 f1 s1 fit1. begun_locals ks may.1 (λ j. let h = once j in let one = one_more k j ks in omega (arith, h, one)) scope1 kept1 f1 r s1 m fit1)
       may.0.local.in_memory refl
 
   -- ---- what follows
 
-  module _ {scope : Scope} {f : Names} {r : Registers} {s : CallState} {m : Memory} {ks : List ℕ} (b : Begun scope f r s m ks) where
+  module _ {scope : Scope} {f : Names} {r : Registers} {s : CallState} {m : Memory} {ks : List ℕ} (b : BegunLocals scope f r s m ks) where
     -- the run goes on from the states in which its locals began
     pub starts : {o : CodeObservation} (p : CodePlace) → EndsSo c o p r b.start.world m → EndsSo c o p r s.world m
     starts {o = o} p h = subst (λ w. EndsSo c o p r w m) b.begins.1 h

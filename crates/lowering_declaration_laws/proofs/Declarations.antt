@@ -30,14 +30,15 @@ use Rattle.lowering_code.specs.Registers.{register_type, value_register, address
 use Rattle.lowering_code.specs.Expressions.{move_code, store_code, address_code, copy_code, expr_code}
 use Rattle.lowering_code.specs.Statements.{put_code, put_local_code}
 use Rattle.lowering_states.specs.Places.{CodePlace, next_place}
-use Rattle.lowering_states.specs.Runs.{opens, CodeObservation, finish}
+use Rattle.lowering_states.specs.Runs.{CodeObservation, finish}
+use Rattle.lowering_states.specs.model.Opens.{opens}
 use Rattle.lowering_states.specs.States.{IsHeld, IsInRegister, type_at}
 use Rattle.lowering_states.proofs.Steps.{meets_same, used_meets, known_meets}
 use Rattle.lowering_states.proofs.States.{set_same, set_other, other_depth, after_on, fits_temporary, fits_local}
 use Rattle.lowering_expression_places.proofs.Behind.{at_plain}
 use Rattle.lowering_expression_laws.specs.Parts.{Setting, first_depth, EndsSo, Stands, Fit, Aft, ExprMeets}
 use Rattle.lowering_expression_laws.specs.Laws.{IsScalarType}
-use Rattle.lowering_expression_laws.proofs.Forms.{insn_on, bound}
+use Rattle.lowering_expression_laws.proofs.Forms.{insn_on, bound_run}
 use Rattle.lowering_place_laws.proofs.Places.{byte_of, address_meets, address_of}
 use Rattle.lowering_access_laws.specs.Laws.{IsWholeStruct}
 use Rattle.lowering_access_laws.proofs.Writes.{writes_meet}
@@ -45,7 +46,7 @@ use Rattle.lowering_assignment_laws.proofs.Locals.{moves, register_place}
 use Rattle.lowering_statement_laws.specs.Parts.{inner_of_all, AreApart, IsApart, Onward, StmtMeets, StmtsMeet}
 use Rattle.lowering_declaration_laws.specs.Laws.{MayDeclareAll, DeclarationsMeet}
 use Rattle.lowering_declaration_laws.proofs.Counts.{times, all_declared}
-use Rattle.lowering_declaration_laws.proofs.Begun.{Begun, begun, starts, low_enough, onward_begun}
+use Rattle.lowering_declaration_laws.proofs.Begun.{BegunLocals, begun_locals, starts, low_enough, onward_begun}
 
 -- a value of a scalar type stands as what it is
 scalar_in : (f : Names) (ty : PlainType) (v w : Value) → IsScalarType ty → IsInRegister f ty v w → IsValueOf f v w
@@ -61,12 +62,12 @@ module _ (c : Setting) (found : slice_get c.functions c.number ≡ Some c.code) 
     by = λ brk con rest heads p f scope r s m K apart at fit low way.
         let each : (j : ℕ) → times j (declared_in ss) ≤ 1 = (λ j. let all = all_declared j ss in let h = once j in omega (arith, all, h)) in
         let kept : (j : ℕ) → 0 < times j (declared_in ss) → scope j ≡ None = (λ j lt. apart j (let all = all_declared j ss in omega (arith, all, lt))) in
-        let b : Begun c scope f r s m (declared_in ss) = begun c (declared_in ss) may each scope kept f r s m fit in
+        let b : BegunLocals c scope f r s m (declared_in ss) = begun_locals c (declared_in ss) may each scope kept f r s m fit in
         let inside : AreApart b.inner ss =
         (λ j lt. let all = all_declared j ss in let h = once j in b.outside j (omega (arith, all, h, lt)) ∙ apart j (omega (arith, all, lt))) in
         let run : Scope → Run StatementFlow = (λ inner. execs c.structs c.locals c.calls again inner ss) in
         meets_same c.rooms c.functions (ap (λ z. finish z K) (b.is run))
-        (bound c found (run b.inner b.start) (λ a t. Gives a (b.left t)) K p r s.world m
+        (bound_run c found (run b.inner b.start) (λ a t. Gives a (b.left t)) K p r s.world m
         (starts c b p (hss.by brk con rest heads p b.names b.inner r b.start m (λ z t. K z (b.left t)) inside at b.fit (low_enough c b c.level low) (onward_begun c b way))));
   }
 
@@ -99,8 +100,8 @@ module _ (c : Setting) (found : slice_get c.functions c.number ≡ Some c.code) 
     unfolding opens
     evaluated tail brk con rest heads p f scope r s m K code_e at fit low next =
         meets_same c.rooms c.functions (ap (λ z. finish (and_then (initialise_object c.structs c.locals c.calls scope k z (Some x) s) (λ _. pure Goes)) K) here)
-        (bound c found (and_then (eval c.structs c.locals c.calls scope x s) (put scope)) (λ _. pure Goes) K p r s.world m
-        (bound c found (eval c.structs c.locals c.calls scope x s) (put scope) (λ _ u. K Goes u) p r s.world m
+        (bound_run c found (and_then (eval c.structs c.locals c.calls scope x s) (put scope)) (λ _. pure Goes) K p r s.world m
+        (bound_run c found (eval c.structs c.locals c.calls scope x s) (put scope) (λ _ u. K Goes u) p r s.world m
         (hx.by 0 (tail rest) heads p f scope r s m (λ v t. finish (put scope v t) (λ _ u. K Goes u)) (subst (λ z. Stands c heads p (expr_code L c.structs c.locals 0 x z)) code_e at) fit low
         (λ q v g t q1 m1 at1 aft fit1 kept held stands.
         next q v g t q1 m1 at1 aft fit1 (subst (λ z. IsHeld z v) ex held) (subst (λ z. IsInRegister g z v (q1 (value_register L 0 z))) ex stands)))))
@@ -117,7 +118,7 @@ module _ (c : Setting) (found : slice_get c.functions c.number ≡ Some c.code) 
           let rel = scalar_in g ty v (q1 reg) scalar stands in
           let t1 : CallState = with_registers t (with_local_value t.registers k v) in
           meets_same c.rooms c.functions (ap (λ z. finish (and_then (z t) (λ a. write c.structs ty a v)) (λ _ u. K Goes u)) place_e)
-          (bound c found (use_value UsesNoValue v t) (write_register k) (λ _ u. K Goes u) q q1 t.world m1
+          (bound_run c found (use_value UsesNoValue v t) (write_register k) (λ _ u. K Goes u) q q1 t.world m1
           (used_meets c.rooms c.functions UsesNoValue v t (λ v1 u. K Goes (with_registers u (with_local_value u.registers k v1))) _ (λ set.
           insn_on c found (n.Unary Move (register_type ty) k reg) q q1 t.world m1 (q1 reg ∷ []) at1.has.0 refl
           (ap (λ z. writes z (outer_with_memory t.world.outer m1)) (moves g ty v (q1 reg) scalar held rel set))
@@ -141,8 +142,8 @@ module _ (c : Setting) (found : slice_get c.functions c.number ≡ Some c.code) 
           (λ q v g t q1 m1 at1 aft fit1 held stands.
           meets_same c.rooms c.functions
           (ap (λ z. finish (and_then (if◌then◌else◌ {A = Run obj.ValuePlace} z (λ t1. and_then (or_undefined UsesDeadObject (scope k) t1) (λ o. pure (obj.At (start_pointer o)))) (pure (obj.Register k)) t) (λ a. write c.structs ty a v)) (λ _ u. K Goes u)) em)
-          (bound c found (and_then (or_undefined UsesDeadObject (scope k) t) (λ o. pure (obj.At (start_pointer o)))) (λ a. write c.structs ty a v) (λ _ u. K Goes u) q q1 t.world m1
-          (bound c found (or_undefined UsesDeadObject (scope k) t) (λ o. pure (obj.At (start_pointer o))) (λ a u. finish (write c.structs ty a v u) (λ _ u1. K Goes u1)) q q1 t.world m1
+          (bound_run c found (and_then (or_undefined UsesDeadObject (scope k) t) (λ o. pure (obj.At (start_pointer o)))) (λ a. write c.structs ty a v) (λ _ u. K Goes u) q q1 t.world m1
+          (bound_run c found (or_undefined UsesDeadObject (scope k) t) (λ o. pure (obj.At (start_pointer o))) (λ a u. finish (write c.structs ty a v u) (λ _ u1. K Goes u1)) q q1 t.world m1
           (known_meets c.rooms c.functions UsesDeadObject (scope k) t (λ o u. finish (write_at c.structs ty (start_pointer o) v u) (λ _ u1. K Goes u1)) _ (λ o scoped.
           let w = byte_of name 0 in
           let q2 : Registers = set_register (address_register L 1) w q1 in

@@ -19,11 +19,12 @@ use Rattle.lowering_code.specs.declared.item.CodeItem.TheVariants.{Start, Loop}
 use Rattle.lowering_code.specs.Items as items
 use Rattle.lowering_code.specs.Statements.{declares_code, after_code, test_code, stmt_code}
 use Rattle.lowering_states.specs.Places.{CodePlace}
-use Rattle.lowering_states.specs.Runs.{opens, CodeObservation, NotDefined, finish}
+use Rattle.lowering_states.specs.Runs.{CodeObservation, NotDefined, finish}
+use Rattle.lowering_states.specs.model.Opens.{opens}
 use Rattle.lowering_states.proofs.Steps.{meets_anything, meets_same}
 use Rattle.lowering_states.proofs.States.{after_same, after_on}
 use Rattle.lowering_expression_laws.specs.Parts.{Setting, first_depth, EndsSo, Stands, Fit, Aft}
-use Rattle.lowering_expression_laws.proofs.Forms.{bound}
+use Rattle.lowering_expression_laws.proofs.Forms.{bound_run}
 use Rattle.lowering_statement_laws.specs.Parts.{IsApart, Onward, StmtMeets}
 use Rattle.lowering_statement_laws.proofs.Apart.{inner_least}
 use Rattle.lowering_statement_laws.proofs.Statements.{onward_on}
@@ -32,7 +33,7 @@ use Rattle.lowering_for_laws.specs.Laws.{StepMeets, ConditionMeets}
 use Rattle.lowering_for_laws.proofs.ForLoops.{enters}
 use Rattle.lowering_declaration_laws.specs.Laws.{MayDeclareAll, AllDeclarationsMeet, DeclaringForLoopsMeet}
 use Rattle.lowering_declaration_laws.proofs.Counts.{times, first_declared}
-use Rattle.lowering_declaration_laws.proofs.Begun.{Begun, begun, starts, low_enough, onward_begun}
+use Rattle.lowering_declaration_laws.proofs.Begun.{BegunLocals, begun_locals, starts, low_enough, onward_begun}
 
 -- a declaration goes on
 on_going : CodeObservation → StatementFlow → CodeObservation
@@ -58,7 +59,7 @@ module _ (c : Setting) (found : slice_get c.functions c.number ≡ Some c.code) 
   declares_lead [] h is heads p f scope r s m K at fit low next = next p f s r m at after_same fit
   declares_lead (d ∷ ds) h is heads p f scope r s m K at fit low next =
       let rest : CallState → CodeObservation = (λ t. finish (run_declarations c.structs c.locals c.calls scope ds t) K) in
-      bound c found (run_declaration c.structs c.locals c.calls scope d s) (λ _. run_declarations c.structs c.locals c.calls scope ds) K p r s.world m
+      bound_run c found (run_declaration c.structs c.locals c.calls scope d s) (λ _. run_declarations c.structs c.locals c.calls scope ds) K p r s.world m
       (meets_same c.rooms c.functions (sym (goes_on (run_declaration c.structs c.locals c.calls scope d s) rest))
       (h.0.by 0 0 (declares_code L c.structs c.locals ds is) heads p f scope r s m (λ z t. on_going (rest t) z) (λ j lt. absurd (omega (arith, lt))) at fit low
       (record {
@@ -88,7 +89,7 @@ module _ (c : Setting) (levels : LevelMeanings) (found : slice_get c.functions c
         let c1 : Setting = at_level c levels k in
         let each : (j : ℕ) → times j numbers ≤ 1 = (λ j. let all = first_declared j ds in let h = once j in omega (arith, all, h)) in
         let kept : (j : ℕ) → 0 < times j numbers → scope j ≡ None = (λ j lt. apart j (let all = first_declared j ds in omega (arith, all, lt))) in
-        let b : Begun c1 scope f r s m numbers = begun c1 numbers may each scope kept f r s m fit in
+        let b : BegunLocals c1 scope f r s m numbers = begun_locals c1 numbers may each scope kept f r s m fit in
         let inside : IsApart b.inner body =
         (λ j lt. let all = first_declared j ds in let h = once j in let least = inner_least j body in b.outside j (omega (arith, all, h, lt, least)) ∙ apart j (omega (arith, lt, least))) in
         let K1 : StatementFlow → CallState → CodeObservation = (λ z t. K z (b.left t)) in
@@ -96,9 +97,9 @@ module _ (c : Setting) (levels : LevelMeanings) (found : slice_get c.functions c
         let low1 = low_enough c1 b k low in
         let run : Scope → Run StatementFlow = (λ inner. run_declarations c.structs c.locals (levels.functions k) inner ds >> loop_run k inner) in
         meets_same c.rooms c.functions (ap (λ z. finish z K) (b.is run))
-        (bound c1 found (run b.inner b.start) (λ a t. Gives a (b.left t)) K p r s.world m
+        (bound_run c1 found (run b.inner b.start) (λ a t. Gives a (b.left t)) K p r s.world m
         (starts c1 b p
-        (bound c1 found (run_declarations c.structs c.locals (levels.functions k) b.inner ds b.start) (λ _. loop_run k b.inner) K1 p r b.start.world m
+        (bound_run c1 found (run_declarations c.structs c.locals (levels.functions k) b.inner ds b.start) (λ _. loop_run k b.inner) K1 p r b.start.world m
         (declares_lead c1 found (levels.statements k) ds (hd k) _ heads p b.names b.inner r b.start m (λ _ t. finish (loop_run k b.inner t) K1) at b.fit low1
         (λ q1 g t r1 m1 at1 aft fit1.
         enters c levels found are test step body ht hs hb k rest heads q1 g b.inner r1 t m1 K1 brk con inside at1 fit1 (omega (arith, aft.turned, low1)) (let way2 : Onward c1 b.inner g t m1 K1 heads rest brk con = onward_on c1 found (levels.statements k) {s = b.start} {t = t} aft way1 in record { goes = way2.goes; breaks = way2.breaks; continues = way2.continues; returns = way2.returns }))))));

@@ -17,7 +17,7 @@ use Rattle.c_tree.specs.declared.expressions.BinaryOp.TheVariants as b
 use Rattle.c_typed_tree.specs.Types.{PlainType, Pointer}
 use Rattle.c_typed_tree.specs.Expressions.{Expr, Binary, Conditional, type_of}
 use Rattle.c_semantics.specs.Reasons.{UsesDeadObject}
-use Rattle.c_semantics.specs.Runs.{CallState, Run, and_then, pure, undefined}
+use Rattle.c_semantics.specs.Runs.{CallState, Run, and_then, pure, undefined_behaviour}
 use Rattle.c_semantics.specs.Objects.{Scope}
 use Rattle.c_semantics.specs.Operators.{test, pure_truth}
 use Rattle.c_semantics.specs.Evaluates.{eval, choose}
@@ -34,7 +34,8 @@ use Rattle.lowering_code.specs.Items as items
 use Rattle.lowering_code.specs.Registers.{register_type, value_register}
 use Rattle.lowering_code.specs.Expressions.{plain_of, constant_code, branch_by_value_code, expr_code}
 use Rattle.lowering_states.specs.Places.{CodePlace, next_place, next_block, start_of_block}
-use Rattle.lowering_states.specs.Runs.{opens, CodeObservation, finish, Meets}
+use Rattle.lowering_states.specs.Runs.{CodeObservation, finish, Meets}
+use Rattle.lowering_states.specs.model.Opens.{opens}
 use Rattle.lowering_states.specs.States.{IsHeld, IsInRegister, KeepsLower}
 use Rattle.lowering_states.proofs.Steps.{meets_anything, meets_same, fall, jump, branch_taken, branch_passed}
 use Rattle.lowering_states.proofs.States.{kept_on, kept_temporary, value_at, after_on, fits_temporary}
@@ -43,7 +44,7 @@ use Rattle.lowering_expression_places.specs.Behind.{Somewhere}
 use Rattle.lowering_expression_places.proofs.Behind.{at_plain, at_start, at_jump, at_branch, left_expr}
 use Rattle.lowering_expression_laws.specs.Parts.{Setting, first_depth, EndsSo, Stands, Fit, Aft, Follows, ExprMeets}
 use Rattle.lowering_expression_laws.specs.Laws.{IsScalarType}
-use Rattle.lowering_expression_laws.proofs.Forms.{held_word, word_held, value_of_word, insn_on, bound}
+use Rattle.lowering_expression_laws.proofs.Forms.{held_word, word_held, value_of_word, insn_on, bound_run}
 
 -- ---- tests
 
@@ -90,7 +91,7 @@ module _ (c : Setting) (found : slice_get c.functions c.number ≡ Some c.code) 
   pub test_meets : (v : Value) (s : CallState) (K : Bool → CallState → CodeObservation) (k : Config Registers) → ((x : Bool) → TestIs s.world.outer.memory v x → Meets c.rooms c.functions (K x s) k) → Meets c.rooms c.functions (finish (test v s) K) k
   unfolding opens
   test_meets (Word k) s K cf h = h (not (k == 0)) refl
-  test_meets (Address p) s K cf h = (elim (pointers.is_live s.world.outer.memory p) as (λ x. pointers.is_live s.world.outer.memory p ≡ x → Meets c.rooms c.functions (finish (if◌then◌else◌ {A = Run Bool} x (pure true) (undefined UsesDeadObject) s) K) cf) [
+  test_meets (Address p) s K cf h = (elim (pointers.is_live s.world.outer.memory p) as (λ x. pointers.is_live s.world.outer.memory p ≡ x → Meets c.rooms c.functions (finish (if◌then◌else◌ {A = Run Bool} x (pure true) (undefined_behaviour UsesDeadObject) s) K) cf) [
     | true ↦ λ e. h true (e, refl)
     | false ↦ λ e. meets_anything c.rooms c.functions refl
   ]) refl
@@ -165,8 +166,8 @@ module _ (c : Setting) (found : slice_get c.functions c.number ≡ Some c.code) 
             → EndsSo c (finish (and_then (and_then (eval c.structs c.locals c.calls scope y t) test) pure_truth) K) q q1 t.world m1
         unfolding opens
         second q g t q1 m1 at aft fit kept low =
-            bound c found (and_then (eval c.structs c.locals c.calls scope y t) test) pure_truth K q q1 t.world m1
-            (bound c found (eval c.structs c.locals c.calls scope y t) test (λ z u. K (Word (truth z)) u) q q1 t.world m1
+            bound_run c found (and_then (eval c.structs c.locals c.calls scope y t) test) pure_truth K q q1 t.world m1
+            (bound_run c found (eval c.structs c.locals c.calls scope y t) test (λ z u. K (Word (truth z)) u) q q1 t.world m1
             (hy.by d ends heads q g scope q1 t m1 (λ v u. finish (test v u) (λ z u. K (Word (truth z)) u)) at fit low
             (λ q2 v h u q3 m2 at2 aft2 fit2 kept2 held stands.
             test_meets v u (λ z u. K (Word (truth z)) u) _ (λ z is.
@@ -189,8 +190,8 @@ module _ (c : Setting) (found : slice_get c.functions c.number ≡ Some c.code) 
             → EndsSo c (finish (and_then (and_then (eval c.structs c.locals c.calls scope x s) test) run) K) p r s.world m
         unfolding opens
         first p run at_stop at_go at fit low =
-            bound c found (and_then (eval c.structs c.locals c.calls scope x s) test) run K p r s.world m
-            (bound c found (eval c.structs c.locals c.calls scope x s) test (λ z t. finish (run z t) K) p r s.world m
+            bound_run c found (and_then (eval c.structs c.locals c.calls scope x s) test) run K p r s.world m
+            (bound_run c found (eval c.structs c.locals c.calls scope x s) test (λ z t. finish (run z t) K) p r s.world m
             (hx.by d (branch_by_value_code L op d (type_of x) (items.block_total stops) (expr_code L c.structs c.locals d y ends)) heads p f scope r s m (λ v t. finish (test v t) (λ z t. finish (run z t) K)) at fit low
             (λ q v g t q1 m1 at1 aft fit1 kept held stands.
             test_meets v t (λ z t. finish (run z t) K) _ (λ z is. by_test q g t q1 m1 v z at1 aft fit1 kept held stands is (either z stop)))))
@@ -273,8 +274,8 @@ module _ (c : Setting) (found : slice_get c.functions c.number ≡ Some c.code) 
     choices = record {
       by = λ d rest heads p f scope r s m K at fit low next.
           let run : Bool → Run Value = choose (eval c.structs c.locals c.calls scope y) (eval c.structs c.locals c.calls scope z) in
-          bound c found (and_then (eval c.structs c.locals c.calls scope x s) test) run K p r s.world m
-          (bound c found (eval c.structs c.locals c.calls scope x s) test (λ k t. finish (run k t) K) p r s.world m
+          bound_run c found (and_then (eval c.structs c.locals c.calls scope x s) test) run K p r s.world m
+          (bound_run c found (eval c.structs c.locals c.calls scope x s) test (λ k t. finish (run k t) K) p r s.world m
           (hx.by d _ heads p f scope r s m (λ v t. finish (test v t) (λ k t1. finish (run k t1) K)) at fit low
           (λ q v g t q1 m1 at1 aft fit1 kept held stands.
           test_meets v t (λ k t1. finish (run k t1) K) _ (λ k is.

@@ -43,7 +43,8 @@ use Rattle.lowering_code.specs.declared.item.CodeItem.TheVariants.{Plain}
 use Rattle.lowering_code.specs.Registers.{register_type, value_register, temporary}
 use Rattle.lowering_code.specs.Expressions.{plain_of, keeps_register, narrow_type, operation_of, operation_insn, binary_code, conversion_code, convert_code, plus_of, expr_code, place_code}
 use Rattle.lowering_states.specs.Places.{CodePlace, next_place, stands_at}
-use Rattle.lowering_states.specs.Runs.{opens, CodeObservation, ObservesTrap, view, finish}
+use Rattle.lowering_states.specs.Runs.{CodeObservation, ObservesTrap, view, finish}
+use Rattle.lowering_states.specs.model.Opens.{opens}
 use Rattle.lowering_states.specs.States.{IsHeld, IsInRegister, KeepsLower}
 use Rattle.lowering_states.proofs.Steps.{finish-bind, meets_same, plain, traps, used_meets, number_meets, outcome_meets}
 use Rattle.lowering_states.proofs.States.{kept_all, kept_on, kept_temporary, kept_reads, value_at, after_same, after_on, fits_temporary}
@@ -124,9 +125,9 @@ module _ (c : Setting) (found : slice_get c.functions c.number ≡ Some c.code) 
       → ObservesTrap (view w) code ≡ o → EndsSo c o p r w m
   insn_traps insn p r w m code e calm d same = traps c.rooms c.functions c.number c.code found c.own c.waiting insn p r w m code e calm d same
 
-  pub bound : {A B : Type 0} (x : Evaluation A CallState) (k : A → Run B) (K : B → CallState → CodeObservation) (p : CodePlace) (r : Registers) (w : World) (m : Memory)
+  pub bound_run : {A B : Type 0} (x : Evaluation A CallState) (k : A → Run B) (K : B → CallState → CodeObservation) (p : CodePlace) (r : Registers) (w : World) (m : Memory)
       → EndsSo c (finish x (λ a s. finish (k a s) K)) p r w m → EndsSo c (finish (and_then x k) K) p r w m
-  bound x k K p r w m h = meets_same c.rooms c.functions (finish-bind x k K) h
+  bound_run x k K p r w m h = meets_same c.rooms c.functions (finish-bind x k K) h
 
   pub numbers : (t : IntegerType) (k : ℕ) → is_word t k ≡ true → ExprMeets c (Number (plain_of t) k)
   unfolding opens
@@ -144,7 +145,7 @@ module _ (c : Setting) (found : slice_get c.functions c.number ≡ Some c.code) 
   unfolding opens
   pluses ty x e h = record {
     by = λ d rest heads p f scope r s m K at fit low next.
-        bound (eval c.structs c.locals c.calls scope x s) (λ v. use_value UsesNoValue v) K p r s.world m
+        bound_run (eval c.structs c.locals c.calls scope x s) (λ v. use_value UsesNoValue v) K p r s.world m
         (h.by d rest heads p f scope r s m (λ v t. finish (use_value UsesNoValue v t) K) at fit low
         (λ q v g t q1 m1 at1 aft fit1 kept held stands.
         used_meets c.rooms c.functions UsesNoValue v t K _ (λ set.
@@ -165,10 +166,10 @@ module _ (c : Setting) (found : slice_get c.functions c.number ≡ Some c.code) 
         let insn : VmInsn = n.Unary Negate (register_type (plain_of t)) (value_register L d (plain_of t)) (value_register L d (plain_of t)) in
         let rest1 = Plain insn ∷ rest in
         let run : Value → Run Value = λ v. apply_unary u.Minus (plain_of t) v in
-        bound (eval c.structs c.locals c.calls scope x s) run K place r s.world m
+        bound_run (eval c.structs c.locals c.calls scope x s) run K place r s.world m
         (h.by d rest1 heads place f scope r s m (λ v t1. finish (run v t1) K) at fit low
         (λ q v g t1 q1 m1 at1 aft fit1 kept held stands.
-        bound (use_number v t1) (λ k. outcome (negation (objects.integer_or_word (plain_of t)) k)) K q q1 t1.world m1
+        bound_run (use_number v t1) (λ k. outcome (negation (objects.integer_or_word (plain_of t)) k)) K q q1 t1.world m1
         (number_meets c.rooms c.functions v t1 (λ k t2. finish (outcome (negation (objects.integer_or_word (plain_of t)) k) t2) K) _ (λ k is.
         let word = word_in g L d (type_of x) t v k q1 e is held stands in
         let done = unary_on Negate d t k q1 t1.world m1 p word in
@@ -188,10 +189,10 @@ module _ (c : Setting) (found : slice_get c.functions c.number ≡ Some c.code) 
         let insn : VmInsn = n.Unary Complement (register_type (plain_of t)) (value_register L d (plain_of t)) (value_register L d (plain_of t)) in
         let rest1 = Plain insn ∷ rest in
         let run : Value → Run Value = λ v. apply_unary u.Invert (plain_of t) v in
-        bound (eval c.structs c.locals c.calls scope x s) run K place r s.world m
+        bound_run (eval c.structs c.locals c.calls scope x s) run K place r s.world m
         (h.by d rest1 heads place f scope r s m (λ v t1. finish (run v t1) K) at fit low
         (λ q v g t1 q1 m1 at1 aft fit1 kept held stands.
-        bound (use_number v t1) (λ k. pure (Word (complement (objects.integer_or_word (plain_of t)) k))) K q q1 t1.world m1
+        bound_run (use_number v t1) (λ k. pure (Word (complement (objects.integer_or_word (plain_of t)) k))) K q q1 t1.world m1
         (number_meets c.rooms c.functions v t1 (λ k t2. K (Word (complement (objects.integer_or_word (plain_of t)) k)) t2) _ (λ k is.
         let word = word_in g L d (type_of x) t v k q1 e is held stands in
         let k1 = complement t k in
@@ -335,19 +336,19 @@ module _ (c : Setting) (found : slice_get c.functions c.number ≡ Some c.code) 
           ∙ ap (λ z. expr_code L c.structs c.locals d x (expr_code L c.structs c.locals (suc d) y (binary_code L c.structs op d R (plain_of t) z rest))) ey in
           let run : Value → Value → Run Value = λ v w. apply_binary c.structs op (type_of x) (type_of y) v w in
           meets_same c.rooms c.functions (ap (λ z. finish z K) (eval_is op plain_op R x y scope s))
-          (bound (eval c.structs c.locals c.calls scope x s) (λ v t1. and_then (eval c.structs c.locals c.calls scope y t1) (run v)) K place r s.world m
+          (bound_run (eval c.structs c.locals c.calls scope x s) (λ v t1. and_then (eval c.structs c.locals c.calls scope y t1) (run v)) K place r s.world m
           (hx.by d (expr_code L c.structs c.locals (suc d) y (Plain insn ∷ rest)) heads place f scope r s m (λ v t1. finish (and_then (eval c.structs c.locals c.calls scope y t1) (run v)) K)
           (subst (λ z. Stands c heads place z) code_e at) fit low
           (λ q v g t1 q1 m1 at1 aft fit1 kept held stands.
-          bound (eval c.structs c.locals c.calls scope y t1) (run v) K q q1 t1.world m1
+          bound_run (eval c.structs c.locals c.calls scope y t1) (run v) K q q1 t1.world m1
           (hy.by (suc d) (Plain insn ∷ rest) heads q g scope q1 t1 m1 (λ w t2. finish (run v w t2) K) at1 fit1 (omega (arith, aft.turned, low))
           (λ q2 w g2 t2 q3 m2 at2 aft2 fit2 kept2 held2 stands2.
           meets_same c.rooms c.functions
           (ap (λ z. finish (apply_binary c.structs op z (type_of y) v w t2) K) ex ∙ ap (λ z. finish (apply_binary c.structs op (plain_of t) z v w t2) K) ey
           ∙ ap (λ z. finish (integers op z (objects.integer_or_word (plain_of o)) v w t2) K) (integer_of-plain t) ∙ ap (λ z. finish (integers op t z v w t2) K) (integer_of-plain o))
-          (bound (use_number v t2) (λ i t3. and_then (use_number w t3) (λ j. outcome (integers_with op t o i j))) K q2 q3 t2.world m2
+          (bound_run (use_number v t2) (λ i t3. and_then (use_number w t3) (λ j. outcome (integers_with op t o i j))) K q2 q3 t2.world m2
           (number_meets c.rooms c.functions v t2 (λ i t3. finish (and_then (use_number w t3) (λ j. outcome (integers_with op t o i j))) K) _ (λ i vi.
-          bound (use_number w t2) (λ j. outcome (integers_with op t o i j)) K q2 q3 t2.world m2
+          bound_run (use_number w t2) (λ j. outcome (integers_with op t o i j)) K q2 q3 t2.world m2
           (number_meets c.rooms c.functions w t2 (λ j t3. finish (outcome (integers_with op t o i j) t3) K) _ (λ j wj.
           let one = word_in g L d (type_of x) t v i q1 ex vi held stands in
           let kept_one : q3 (value_register L d (plain_of t)) ≡ q1 (value_register L d (plain_of t)) = kept_reads d (register_type (plain_of t)) (omega arith) kept2 in
@@ -395,10 +396,10 @@ module _ (c : Setting) (found : slice_get c.functions c.number ≡ Some c.code) 
           co d rest ∙ ap (λ z. conversion_code L c.structs c.locals d z (plain_of o) (plus_of L c.structs c.locals x 0) (λ is. place_code L c.structs c.locals d x 0 is) (λ is. expr_code L c.structs c.locals d x is) rest) ex in
           let next1 : Follows c d (plain_of o) heads rest f scope r s m K = subst (λ z. Follows c d z heads rest f scope r s m K) ty next in
           meets_same c.rooms c.functions (ap (λ z. finish z K) (ev scope s ∙ ap (λ z. converted_from z (plain_of o) (eval c.structs c.locals c.calls scope x) (place c.structs c.locals c.calls scope x) s) ex))
-          (bound (eval c.structs c.locals c.calls scope x s) (λ v. convert (plain_of t) (plain_of o) v) K p r s.world m
+          (bound_run (eval c.structs c.locals c.calls scope x s) (λ v. convert (plain_of t) (plain_of o) v) K p r s.world m
           (hx.by d (convert_code L d (plain_of t) (plain_of o) rest) heads p f scope r s m (λ v t1. finish (convert (plain_of t) (plain_of o) v t1) K) (subst (λ z. Stands c heads p z) code_e at) fit low
           (λ q v g t1 q1 m1 at1 aft fit1 kept held stands.
-          bound (use_number v t1) (λ k. pure (Word (conversion (objects.integer_or_word (plain_of t)) (objects.integer_or_word (plain_of o)) k))) K q q1 t1.world m1
+          bound_run (use_number v t1) (λ k. pure (Word (conversion (objects.integer_or_word (plain_of t)) (objects.integer_or_word (plain_of o)) k))) K q q1 t1.world m1
           (number_meets c.rooms c.functions v t1 (λ k t2. K (Word (conversion (objects.integer_or_word (plain_of t)) (objects.integer_or_word (plain_of o)) k)) t2) _ (λ k is.
           meets_same c.rooms c.functions (ap (λ z. K (Word (conversion z (objects.integer_or_word (plain_of o)) k)) t1) (integer_of-plain t) ∙ ap (λ z. K (Word (conversion t z k)) t1) (integer_of-plain o))
           (conversion_meets d rest heads f scope r s m K next1 q k g t1 q1 m1 at1 aft fit1 kept (word_in g L d (type_of x) t v k q1 ex is held stands)))))));

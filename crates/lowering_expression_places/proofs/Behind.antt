@@ -39,70 +39,70 @@ module _ (blocks : List (List VmInsn)) (last : ℕ) (end : List VmInsn) where
   pub at_branch : {heads : List ℕ} {p : CodePlace} {is : List CodeItem} (op : VmBranchOp) (ty : VmType) (source name : ℕ) → At blocks last end heads p (Branch op ty source name ∷ is) → At blocks last end heads (next_block p) is
   at_branch op ty source name h = record { has = h.has.2; size = omega (arith, h.size) }
 
-  abbrev Left : (List CodeItem → List CodeItem) → Type 0
-  Left piece = IsLeft blocks last end piece
+  abbrev LeavesBlock : (List CodeItem → List CodeItem) → Type 0
+  LeavesBlock piece = IsLeft blocks last end piece
 
-  left_plain : (i : VmInsn) → Left (λ is. Plain i ∷ is)
+  left_plain : (i : VmInsn) → LeavesBlock (λ is. Plain i ∷ is)
   left_plain i heads rest h = record { place = _; at = at_plain i h.at }
 
-  left_start : Left (λ is. Start ∷ is)
+  left_start : LeavesBlock (λ is. Start ∷ is)
   left_start heads rest h = record { place = _; at = at_start h.at }
 
-  left_jump : (name : List CodeItem → ℕ) → Left (λ is. Jump (name is) ∷ is)
+  left_jump : (name : List CodeItem → ℕ) → LeavesBlock (λ is. Jump (name is) ∷ is)
   left_jump name heads rest h = record { place = _; at = at_jump (name rest) h.at }
 
-  left_branch : (op : VmBranchOp) (ty : VmType) (source : ℕ) (name : ℕ) → Left (λ is. Branch op ty source name ∷ is)
+  left_branch : (op : VmBranchOp) (ty : VmType) (source : ℕ) (name : ℕ) → LeavesBlock (λ is. Branch op ty source name ∷ is)
   left_branch op ty source name heads rest h = record { place = _; at = at_branch op ty source name h.at }
 
-  left_none : Left (λ is. is)
+  left_none : LeavesBlock (λ is. is)
   left_none heads rest h = h
 
-  left_on : {f g : List CodeItem → List CodeItem} → Left f → Left g → Left (λ is. f (g is))
+  left_on : {f g : List CodeItem → List CodeItem} → LeavesBlock f → LeavesBlock g → LeavesBlock (λ is. f (g is))
   left_on {g = g} a c heads rest h = c heads rest (a heads (g rest) h)
 
-  left_if : {f g : List CodeItem → List CodeItem} (t : Bool) → Left f → Left g → Left (λ is. if t then f is else g is)
+  left_if : {f g : List CodeItem → List CodeItem} (t : Bool) → LeavesBlock f → LeavesBlock g → LeavesBlock (λ is. if t then f is else g is)
   left_if true a c heads rest h = a heads rest h
   left_if false a c heads rest h = c heads rest h
 
   module _ (L : ℕ) where
-    left_moved : (d plus : ℕ) → Left (λ is. moved_code L d plus is)
+    left_moved : (d plus : ℕ) → LeavesBlock (λ is. moved_code L d plus is)
     left_moved d zero heads rest h = h
     left_moved d (suc plus) heads rest h = left_plain _ heads rest (left_plain _ heads _ h)
 
-    left_load : (d : ℕ) (ty : PlainType) (plus : ℕ) → Left (λ is. load_code L d ty plus is)
+    left_load : (d : ℕ) (ty : PlainType) (plus : ℕ) → LeavesBlock (λ is. load_code L d ty plus is)
     left_load d Void plus heads rest h = h
     left_load d (Int n r) plus heads rest h = left_plain _ heads rest h
     left_load d (Pointer t) plus heads rest h = left_plain _ heads rest h
     left_load d (Array t n) plus heads rest h = left_moved d plus heads rest h
     left_load d (Struct n) plus heads rest h = left_moved d plus heads rest h
 
-    left_convert : (d : ℕ) (from to : PlainType) → Left (λ is. convert_code L d from to is)
+    left_convert : (d : ℕ) (from to : PlainType) → LeavesBlock (λ is. convert_code L d from to is)
     left_convert d from to = left_if (keeps_register from to) left_none (left_plain _)
 
-    left_sized : (d free size : ℕ) → Left (λ is. sized_code L d free size is)
+    left_sized : (d free size : ℕ) → LeavesBlock (λ is. sized_code L d free size is)
     left_sized d free size = left_if (size == 1) left_none (left_on (left_plain _) (left_plain _))
 
-    left_scaled : (d free : ℕ) (ty : PlainType) (size : ℕ) → Left (λ is. scaled_code L d free ty size is)
+    left_scaled : (d free : ℕ) (ty : PlainType) (size : ℕ) → LeavesBlock (λ is. scaled_code L d free ty size is)
     left_scaled d free ty size = left_on (left_convert d ty (Int 8 true)) (left_sized d free size)
 
-    left_divided : (d free size : ℕ) → Left (λ is. divided_code L d free size is)
+    left_divided : (d free size : ℕ) → LeavesBlock (λ is. divided_code L d free size is)
     left_divided d free size = left_if (size == 1) left_none (left_on (left_plain _) (left_plain _))
 
-    left_integer : (d : ℕ) (from to : PlainType) → Left (λ is. integer_code L d from to is)
+    left_integer : (d : ℕ) (from to : PlainType) → LeavesBlock (λ is. integer_code L d from to is)
     left_integer d from Void = left_none
     left_integer d from (Int n r) = left_convert d from (Int n r)
     left_integer d from (Pointer t) = left_plain _
     left_integer d from (Array t n) = left_none
     left_integer d from (Struct n) = left_none
 
-    left_converted : (d : ℕ) (from to : PlainType) → Left (λ is. converted_code L d from to is)
+    left_converted : (d : ℕ) (from to : PlainType) → LeavesBlock (λ is. converted_code L d from to is)
     left_converted d Void to = left_none
     left_converted d (Int n r) to = left_integer d (Int n r) to
     left_converted d (Pointer t) to = left_none
     left_converted d (Array t n) to = left_none
     left_converted d (Struct n) to = left_none
 
-    left_place_moved : (ty : PlainType) (d plus : ℕ) → Left (λ is. place_moved_code L ty d plus is)
+    left_place_moved : (ty : PlainType) (d plus : ℕ) → LeavesBlock (λ is. place_moved_code L ty d plus is)
     left_place_moved Void d plus = left_none
     left_place_moved (Int n r) d plus = left_none
     left_place_moved (Pointer t) d plus = left_none
@@ -110,7 +110,7 @@ module _ (blocks : List (List VmInsn)) (last : ℕ) (end : List VmInsn) where
     left_place_moved (Struct n) d plus = left_moved d plus
 
     module _ (ds : List StructDef) where
-      left_step : (op : BinaryOp) (o d free : ℕ) (element ty : PlainType) → Left (λ is. step_code L ds op o d free element ty is)
+      left_step : (op : BinaryOp) (o d free : ℕ) (element ty : PlainType) → LeavesBlock (λ is. step_code L ds op o d free element ty is)
       left_step b.LogicalOr o d free element ty = left_on (left_scaled d free ty (stride ds element)) (left_plain _)
       left_step b.LogicalAnd o d free element ty = left_on (left_scaled d free ty (stride ds element)) (left_plain _)
       left_step b.Or o d free element ty = left_on (left_scaled d free ty (stride ds element)) (left_plain _)
@@ -130,10 +130,10 @@ module _ (blocks : List (List VmInsn)) (last : ℕ) (end : List VmInsn) where
       left_step b.Divide o d free element ty = left_on (left_scaled d free ty (stride ds element)) (left_plain _)
       left_step b.Remainder o d free element ty = left_on (left_scaled d free ty (stride ds element)) (left_plain _)
 
-      left_step_back : (d free : ℕ) (element ty : PlainType) → Left (λ is. step_back_code L ds d free element ty is)
+      left_step_back : (d free : ℕ) (element ty : PlainType) → LeavesBlock (λ is. step_back_code L ds d free element ty is)
       left_step_back d free element ty = left_on (left_scaled d free ty (stride ds element)) (left_plain _)
 
-      left_pointers : (op : BinaryOp) (d : ℕ) (ty element : PlainType) → Left (λ is. pointers_code L ds op d ty element is)
+      left_pointers : (op : BinaryOp) (d : ℕ) (ty element : PlainType) → LeavesBlock (λ is. pointers_code L ds op d ty element is)
       left_pointers b.LogicalOr d ty element = left_plain _
       left_pointers b.LogicalAnd d ty element = left_plain _
       left_pointers b.Or d ty element = left_plain _
@@ -153,13 +153,13 @@ module _ (blocks : List (List VmInsn)) (last : ℕ) (end : List VmInsn) where
       left_pointers b.Divide d ty element = left_plain _
       left_pointers b.Remainder d ty element = left_plain _
 
-      left_binary : (op : BinaryOp) (d : ℕ) (ty left right : PlainType) (target other : Option PlainType) → Left (λ is. binary_by L ds op d ty left right target other is)
+      left_binary : (op : BinaryOp) (d : ℕ) (ty left right : PlainType) (target other : Option PlainType) → LeavesBlock (λ is. binary_by L ds op d ty left right target other is)
       left_binary op d ty left right (Some x) (Some y) = left_pointers op d ty x
       left_binary op d ty left right (Some x) None = left_step op d (suc d) (suc (suc d)) x right
       left_binary op d ty left right None (Some y) = left_step_back d (suc (suc d)) y left
       left_binary op d ty left right None None = left_plain _
 
-      left_combine : (op : BinaryOp) (o d free : ℕ) (left ty : PlainType) (target : Option PlainType) → Left (λ is. combine_by L ds op o d free left ty target is)
+      left_combine : (op : BinaryOp) (o d free : ℕ) (left ty : PlainType) (target : Option PlainType) → LeavesBlock (λ is. combine_by L ds op o d free left ty target is)
       left_combine op o d free left ty (Some x) = left_step op o d free x ty
       left_combine op o d free left ty None =
           let t = operation_type op (integer_or_word left) (integer_or_word ty) in
@@ -167,70 +167,70 @@ module _ (blocks : List (List VmInsn)) (last : ℕ) (end : List VmInsn) where
           (left_on (left_plain (operation_insn (operation_of op (is_signed t)) (register_type (plain_of t)) (value_register L o (plain_of t)) (value_register L o (plain_of t)) (value_register L d ty)))
           (left_convert o (plain_of t) left))
 
-      left_element : (d : ℕ) (left right : PlainType) (target other : Option PlainType) → Left (λ is. element_by L ds d left right target other is)
+      left_element : (d : ℕ) (left right : PlainType) (target other : Option PlainType) → LeavesBlock (λ is. element_by L ds d left right target other is)
       left_element d left right (Some x) other = left_step b.Add d (suc d) (suc (suc d)) x right
       left_element d left right None (Some y) = left_step_back d (suc (suc d)) y left
       left_element d left right None None = left_none
 
-      left_stepped : (op : StepOp) (o : ℕ) (ty : PlainType) → Left (λ is. stepped_code L ds op o ty is)
+      left_stepped : (op : StepOp) (o : ℕ) (ty : PlainType) → LeavesBlock (λ is. stepped_code L ds op o ty is)
       left_stepped op o ty = left_on (left_plain _) (left_combine (step_operator op) o (suc o) (suc (suc o)) ty (one_type ty) (element_of ty))
 
-      left_step_register : (op : StepOp) (postfix : Bool) (d : ℕ) (ty : PlainType) (k : ℕ) → Left (λ is. step_register_code L ds op postfix d ty k is)
+      left_step_register : (op : StepOp) (postfix : Bool) (d : ℕ) (ty : PlainType) (k : ℕ) → LeavesBlock (λ is. step_register_code L ds op postfix d ty k is)
       left_step_register op false d ty k = left_on (left_plain _) (left_on (left_stepped op d ty) (left_plain _))
       left_step_register op true d ty k = left_on (left_plain _) (left_on (left_plain _) (left_on (left_stepped op (suc d) ty) (left_plain _)))
 
-      left_step_memory : (op : StepOp) (postfix : Bool) (d plus : ℕ) (ty : PlainType) → Left (λ is. step_memory_code L ds op postfix d plus ty is)
+      left_step_memory : (op : StepOp) (postfix : Bool) (d plus : ℕ) (ty : PlainType) → LeavesBlock (λ is. step_memory_code L ds op postfix d plus ty is)
       left_step_memory op false d plus ty = left_on (left_plain _) (left_on (left_stepped op (suc d) ty) (left_on (left_plain _) (left_plain _)))
       left_step_memory op true d plus ty = left_on (left_plain _) (left_on (left_plain _) (left_on (left_stepped op (suc (suc d)) ty) (left_on (left_plain _) (left_plain _))))
 
-      left_set_memory : (d plus : ℕ) (ty : PlainType) → Left (λ is. set_memory_code L ds d plus ty is)
+      left_set_memory : (d plus : ℕ) (ty : PlainType) → LeavesBlock (λ is. set_memory_code L ds d plus ty is)
       left_set_memory d plus Void = left_on (left_plain _) (left_plain _)
       left_set_memory d plus (Int n r) = left_on (left_plain _) (left_plain _)
       left_set_memory d plus (Pointer t) = left_on (left_plain _) (left_plain _)
       left_set_memory d plus (Array t n) = left_on (left_plain _) (left_plain _)
       left_set_memory d plus (Struct n) = left_plain _
 
-      left_combine_memory : (op : BinaryOp) (d plus : ℕ) (left right : PlainType) → Left (λ is. combine_memory_code L ds op d plus left right is)
+      left_combine_memory : (op : BinaryOp) (d plus : ℕ) (left right : PlainType) → LeavesBlock (λ is. combine_memory_code L ds op d plus left right is)
       left_combine_memory op d plus left right =
           left_on (left_plain _) (left_on (left_combine op (suc (suc d)) (suc d) (suc (suc (suc d))) left right (element_of left)) (left_on (left_plain _) (left_plain _)))
 
       module _ (ls : List Local) where
-        left_local : (d : ℕ) (ty : PlainType) (k : ℕ) (o : Option ℕ) → Left (λ is. local_code L ds ls d ty k o is)
+        left_local : (d : ℕ) (ty : PlainType) (k : ℕ) (o : Option ℕ) → LeavesBlock (λ is. local_code L ds ls d ty k o is)
         left_local d ty k (Some register) = left_plain _
         left_local d ty k None = left_on (left_plain _) (left_load d ty 0)
 
-        left_change : (o : Option ℕ) {f : ℕ → List CodeItem → List CodeItem} {g : List CodeItem → List CodeItem} → ((k : ℕ) → Left (λ is. f k is)) → Left g → Left (λ is. change_code L ds ls o (λ k. f k is) (g is))
+        left_change : (o : Option ℕ) {f : ℕ → List CodeItem → List CodeItem} {g : List CodeItem → List CodeItem} → ((k : ℕ) → LeavesBlock (λ is. f k is)) → LeavesBlock g → LeavesBlock (λ is. change_code L ds ls o (λ k. f k is) (g is))
         left_change (Some k) a c = a k
         left_change None a c = c
 
-        left_assign : (d : ℕ) (op : Option BinaryOp) (ty right : PlainType) (plus : ℕ) (register : Option ℕ) (place : List CodeItem → List CodeItem) (value : ℕ → List CodeItem → List CodeItem) → Left place → ((k : ℕ) → Left (λ is. value k is))
-            → Left (λ is. assign_code L ds ls d op ty right plus register place value is)
+        left_assign : (d : ℕ) (op : Option BinaryOp) (ty right : PlainType) (plus : ℕ) (register : Option ℕ) (place : List CodeItem → List CodeItem) (value : ℕ → List CodeItem → List CodeItem) → LeavesBlock place → ((k : ℕ) → LeavesBlock (λ is. value k is))
+            → LeavesBlock (λ is. assign_code L ds ls d op ty right plus register place value is)
         left_assign d None ty right plus (Some k) place value p v = left_on (v d) (left_plain _)
         left_assign d (Some op) ty right plus (Some k) place value p v =
             left_on (v (suc d)) (left_on (left_plain _) (left_on (left_combine op d (suc d) (suc (suc d)) ty right (element_of ty)) (left_plain _)))
         left_assign d None ty right plus None place value p v = left_on p (left_on (left_place_moved ty d plus) (left_on (v (suc d)) (left_set_memory d plus ty)))
         left_assign d (Some op) ty right plus None place value p v = left_on p (left_on (v (suc d)) (left_combine_memory op d plus ty right))
 
-        left_conversion : (d : ℕ) (from to : PlainType) (plus : ℕ) (place value : List CodeItem → List CodeItem) → Left place → Left value → Left (λ is. conversion_code L ds ls d from to plus place value is)
+        left_conversion : (d : ℕ) (from to : PlainType) (plus : ℕ) (place value : List CodeItem → List CodeItem) → LeavesBlock place → LeavesBlock value → LeavesBlock (λ is. conversion_code L ds ls d from to plus place value is)
         left_conversion d Void to plus place value p v = left_on v (left_converted d Void to)
         left_conversion d (Int n r) to plus place value p v = left_on v (left_converted d (Int n r) to)
         left_conversion d (Pointer t) to plus place value p v = left_on v (left_converted d (Pointer t) to)
         left_conversion d (Array t n) to plus place value p v = left_on p (left_moved d plus)
         left_conversion d (Struct n) to plus place value p v = left_on v (left_converted d (Struct n) to)
 
-        left_both : (op : VmBranchOp) (first second d : ℕ) (ty tx tz : PlainType) (f g : List CodeItem → List CodeItem) → Left f → Left g
-            → Left (λ is. f (branch_by_value_code L op d tx (block_total (constant_code L d ty first (Start ∷ is))) (g (branch_by_value_code L op d tz (block_total (constant_code L d ty first (Start ∷ is)))
+        left_both : (op : VmBranchOp) (first second d : ℕ) (ty tx tz : PlainType) (f g : List CodeItem → List CodeItem) → LeavesBlock f → LeavesBlock g
+            → LeavesBlock (λ is. f (branch_by_value_code L op d tx (block_total (constant_code L d ty first (Start ∷ is))) (g (branch_by_value_code L op d tz (block_total (constant_code L d ty first (Start ∷ is)))
             (constant_code L d ty second (Jump (block_total is) ∷ constant_code L d ty first (Start ∷ is)))))))
         left_both op first second d ty tx tz f g a c heads rest h =
             left_start heads rest (left_plain _ heads _ (left_jump (λ is. block_total rest) heads _ (left_plain _ heads _ (left_branch _ _ _ _ heads _ (c heads _ (left_branch _ _ _ _ heads _ (a heads _ h)))))))
 
-        left_choice : (d : ℕ) (tx : PlainType) (f g k : List CodeItem → List CodeItem) → Left f → Left g → Left k
-            → Left (λ is. f (branch_by_value_code L IfFalse d tx (block_total (k (Start ∷ is))) (g (Jump (block_total is) ∷ k (Start ∷ is)))))
+        left_choice : (d : ℕ) (tx : PlainType) (f g k : List CodeItem → List CodeItem) → LeavesBlock f → LeavesBlock g → LeavesBlock k
+            → LeavesBlock (λ is. f (branch_by_value_code L IfFalse d tx (block_total (k (Start ∷ is))) (g (Jump (block_total is) ∷ k (Start ∷ is)))))
         left_choice d tx f g k a c o heads rest h =
             left_start heads rest (o heads _ (left_jump (λ is. block_total rest) heads _ (c heads _ (left_branch _ _ _ _ heads _ (a heads _ h)))))
 
         mutual
-          pub left_expr : (x : Expr) (d : ℕ) → Left (λ is. expr_code L ds ls d x is)
+          pub left_expr : (x : Expr) (d : ℕ) → LeavesBlock (λ is. expr_code L ds ls d x is)
           left_expr (Number ty word) d = left_plain _
           left_expr (e.Local ty k) d = left_local d ty k (register_if L ds ls k (slice_get ls k))
           left_expr (Global ty k) d = left_on (left_plain _) (left_load d ty 0)
@@ -271,7 +271,7 @@ module _ (blocks : List (List VmInsn)) (last : ℕ) (end : List VmInsn) where
           left_expr (Postfix ty op x) d = left_change (register_of L ds ls x) (λ k. left_step_register op true d ty k) (left_on (left_place x d 0) (left_step_memory op true d _ ty))
           left_expr (Comma ty xs) d = left_commas xs d
 
-          pub left_place : (x : Expr) (d plus : ℕ) → Left (λ is. place_code L ds ls d x plus is)
+          pub left_place : (x : Expr) (d plus : ℕ) → LeavesBlock (λ is. place_code L ds ls d x plus is)
           left_place (Number ty word) d plus = left_none
           left_place (e.Local ty k) d plus = left_plain _
           left_place (Global ty k) d plus = left_plain _
@@ -295,10 +295,10 @@ module _ (blocks : List (List VmInsn)) (last : ℕ) (end : List VmInsn) where
           left_place (Postfix ty op x) d plus = left_none
           left_place (Comma ty xs) d plus = left_none
 
-          pub left_exprs : (xs : Exprs) (d : ℕ) → Left (λ is. exprs_code L ds ls d xs is)
+          pub left_exprs : (xs : Exprs) (d : ℕ) → LeavesBlock (λ is. exprs_code L ds ls d xs is)
           left_exprs no_exprs d = left_none
           left_exprs (more_exprs x xs) d = left_on (left_expr x d) (left_exprs xs (suc d))
 
-          pub left_commas : (xs : Exprs) (d : ℕ) → Left (λ is. commas_code L ds ls d xs is)
+          pub left_commas : (xs : Exprs) (d : ℕ) → LeavesBlock (λ is. commas_code L ds ls d xs is)
           left_commas no_exprs d = left_none
           left_commas (more_exprs x xs) d = left_on (left_expr x d) (left_commas xs d)

@@ -30,19 +30,19 @@ use Rattle.c_layout_laws.proofs.Truth.{no_true, front, back, either}
 use Rattle.lowering_bounds.proofs.Typing.{same, large_memory, place_memory}
 use Rattle.lowering_expression_theorem.proofs.Types.{integer_known, promoted_known, common_known, object_pointer_known, scalar_known, object_small}
 use Rattle.lowering_expression_theorem.proofs.Known.{assignments, whole_struct, types}
-use Rattle.lowering_expression_theorem.proofs.Places.{context_in, IsRegister, in_register_of, unregistered, place_kind, place_object}
+use Rattle.lowering_expression_theorem.proofs.Places.{context_in, IsRegister, in_register_of, unregistered_place, place_kind, place_object}
 
 module _ (c : Setting) (found : slice_get c.functions c.number ≡ Some c.code) (globals : List DataObject) (signatures : List Signature)
     (structs : All (IsLawfulStruct c.structs) c.structs) (lawful : IsTrue (list_all (is_lawful_local c.structs) c.locals)) (statics : c.statics ≡ length globals) where
   abbrev K : Context
   K = context_in c globals signatures
 
-  abbrev Typed : Expr → Type 0
-  Typed x = IsTrue (is_typed K x)
+  abbrev IsTypedHere : Expr → Type 0
+  IsTypedHere x = IsTrue (is_typed K x)
 
   -- ---- one place
 
-  module _ (x : Expr) (tx : Typed x) (px : IsTrue (is_place x)) (place : IsTrue (is_in_memory c.locals x) → PlaceMeets c x) where
+  module _ (x : Expr) (tx : IsTypedHere x) (px : IsTrue (is_place x)) (place : IsTrue (is_in_memory c.locals x) → PlaceMeets c x) where
     abbrev X : PlainType
     X = type_of x
 
@@ -121,7 +121,7 @@ module _ (c : Setting) (found : slice_get c.functions c.number ≡ Some c.code) 
       set_struct (Array t n) is h same_type = no_true h
       set_struct (Struct n) is h same_type =
           let inside = large_memory K lawful x tx px (ap is_scalar is) in
-          let none = unregistered c found globals signatures structs lawful statics x inside in
+          let none = unregistered_place c found globals signatures structs lawful statics x inside in
           let whole = whole_struct c structs n (subst (λ z. IsTrue (is_valid_type c.structs z)) is (types K x tx)) (subst (λ z. IsTrue (is_object c.structs z)) is (place_object c found globals signatures structs lawful statics x tx px)) in
           subst (λ z. ExprMeets c (Assign z a.Set x y)) (sym is ∙ e) ((structs_and_arrays_meet c found).structs n x y none (same_type ∙ is) whole (place inside) hy)
 

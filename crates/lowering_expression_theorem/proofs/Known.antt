@@ -27,7 +27,7 @@ use Rattle.lowering_operand_laws.proofs.Operands as operand
 use Rattle.lowering_builtin_laws.specs.Laws.{Builtins}
 use Rattle.lowering_builtin_laws.proofs.Builtins as builtin
 use Rattle.c_layout_laws.proofs.Truth.{no_true, front, back}
-use Rattle.c_layout_laws.proofs.Layouts.{aligned, complete_at}
+use Rattle.c_layout_laws.proofs.Layouts.{aligned_type, complete_at}
 use Rattle.lowering_bounds.proofs.Typing.{same, member_fits}
 use Rattle.lowering_expression_theorem.proofs.Types.{all_pass, struct_small, alignment_known}
 
@@ -165,5 +165,5 @@ within c k e lawful ty t member h = record {
 pub whole_struct : (c : Setting) → All (IsLawfulStruct c.structs) c.structs → (n : ℕ) → IsTrue (is_valid_type c.structs (Struct n)) → IsTrue (is_object c.structs (Struct n)) → IsWholeStruct c n
 whole_struct c lawful n t h = record {
   size = struct_small c.structs lawful n h;
-  align = alignment_known (align_of c.structs (Struct n)) (aligned c.structs lawful (Struct n) t h);
+  align = alignment_known (align_of c.structs (Struct n)) (aligned_type c.structs lawful (Struct n) t h);
 }

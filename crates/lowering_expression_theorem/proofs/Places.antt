@@ -49,8 +49,8 @@ module _ (c : Setting) (found : slice_get c.functions c.number ≡ Some c.code) 
   abbrev K : Context
   K = context_in c globals signatures
 
-  abbrev Typed : Expr → Type 0
-  Typed x = IsTrue (is_typed K x)
+  abbrev IsTypedHere : Expr → Type 0
+  IsTypedHere x = IsTrue (is_typed K x)
 
   -- ---- locals
 
@@ -60,13 +60,13 @@ module _ (c : Setting) (found : slice_get c.functions c.number ≡ Some c.code) 
       or_first (is_scalar (type_of_local x)) x.in_memory m
       (back (is_object_type c.structs (type_of_local x)) (is_scalar (type_of_local x) || x.in_memory) (all_pass (is_lawful_local c.structs) c.locals k x lawful e))
 
-  local_rule : (ty : PlainType) (k : ℕ) → Typed (Local ty k) → IsTrue (has_local_type (slice_get c.locals k) ty)
+  local_rule : (ty : PlainType) (k : ℕ) → IsTypedHere (Local ty k) → IsTrue (has_local_type (slice_get c.locals k) ty)
   local_rule ty k h = back (is_fit c.structs ty) (has_rule K (Local ty k)) h
 
-  local_type : (ty : PlainType) (k : ℕ) → Typed (Local ty k) → IsTrue (is_valid_type c.structs ty)
+  local_type : (ty : PlainType) (k : ℕ) → IsTypedHere (Local ty k) → IsTrue (is_valid_type c.structs ty)
   local_type ty k h = fit_type K ty (front (is_fit c.structs ty) (has_rule K (Local ty k)) h)
 
-  pub local_meets : (ty : PlainType) (k : ℕ) → Typed (Local ty k) → ExprMeets c (Local ty k)
+  pub local_meets : (ty : PlainType) (k : ℕ) → IsTypedHere (Local ty k) → ExprMeets c (Local ty k)
   local_meets ty k h = by (slice_get c.locals k) refl (local_rule ty k h)
     where
       known : (x : l.Local) (m : Bool) → slice_get c.locals k ≡ Some x → x.in_memory ≡ m → type_view x.ty ≡ ty → ExprMeets c (Local ty k)
@@ -86,49 +86,49 @@ module _ (c : Setting) (found : slice_get c.functions c.number ≡ Some c.code) 
 
   -- ---- objects of static storage
 
-  global_number : (ty : PlainType) (k : ℕ) → Typed (Global ty k) → k < c.statics
+  global_number : (ty : PlainType) (k : ℕ) → IsTypedHere (Global ty k) → k < c.statics
   global_number ty k h = subst (λ z. k < z) (sym statics) (by (slice_get globals k) refl (back (is_fit c.structs ty) (has_rule K (Global ty k)) h))
     where
       by : (o : Option DataObject) → slice_get globals k ≡ o → IsTrue (has_global_type c.structs o ty) → k < length globals
       by None e h = no_true h
       by (Some o) e h = slice_get_within globals k o e
 
-  pub global_meets : (ty : PlainType) (k : ℕ) → Typed (Global ty k) → ExprMeets c (Global ty k)
+  pub global_meets : (ty : PlainType) (k : ℕ) → IsTypedHere (Global ty k) → ExprMeets c (Global ty k)
   global_meets ty k h = (accesses c found).statics ty k (whole_known c.structs ty (fit_type K ty (front (is_fit c.structs ty) (has_rule K (Global ty k)) h))) (global_number ty k h)
 
-  pub global_place_meets : (ty : PlainType) (k : ℕ) → Typed (Global ty k) → PlaceMeets c (Global ty k)
+  pub global_place_meets : (ty : PlainType) (k : ℕ) → IsTypedHere (Global ty k) → PlaceMeets c (Global ty k)
   global_place_meets ty k h = (places c found).statics ty k (global_number ty k h)
 
   -- ---- places
 
   -- what stands in memory stands in no register
-  pub unregistered : (x : Expr) → IsTrue (is_in_memory c.locals x) → in_register_of c x ≡ None
-  unregistered (Local ty k) h = by (slice_get c.locals k) h
+  pub unregistered_place : (x : Expr) → IsTrue (is_in_memory c.locals x) → in_register_of c x ≡ None
+  unregistered_place (Local ty k) h = by (slice_get c.locals k) h
     where
       by : (o : Option l.Local) → IsTrue (is_memory_local o) → register_if (first_depth c) c.structs c.locals k o ≡ None
       by None h = refl
       by (Some x) h = ap (λ z. if◌then◌else◌ {A = Option ℕ} z None (Some k)) h
-  unregistered (Number ty n) h = refl
-  unregistered (Global ty k) h = refl
-  unregistered (Call ty callee xs) h = refl
-  unregistered (Unary ty op x) h = refl
-  unregistered (Binary ty op x y) h = refl
-  unregistered (Assign ty op x y) h = refl
-  unregistered (Conditional ty x y z) h = refl
-  unregistered (Cast ty x) h = refl
-  unregistered (Convert ty x) h = refl
-  unregistered (Index ty x y) h = refl
-  unregistered (Field ty x member) h = refl
-  unregistered (Arrow ty x member) h = refl
-  unregistered (Postfix ty op x) h = refl
-  unregistered (Comma ty xs) h = refl
+  unregistered_place (Number ty n) h = refl
+  unregistered_place (Global ty k) h = refl
+  unregistered_place (Call ty callee xs) h = refl
+  unregistered_place (Unary ty op x) h = refl
+  unregistered_place (Binary ty op x y) h = refl
+  unregistered_place (Assign ty op x y) h = refl
+  unregistered_place (Conditional ty x y z) h = refl
+  unregistered_place (Cast ty x) h = refl
+  unregistered_place (Convert ty x) h = refl
+  unregistered_place (Index ty x y) h = refl
+  unregistered_place (Field ty x member) h = refl
+  unregistered_place (Arrow ty x member) h = refl
+  unregistered_place (Postfix ty op x) h = refl
+  unregistered_place (Comma ty xs) h = refl
 
   -- a place is a local in a register, or in none
-  pub place_kind : (x : Expr) → Typed x → (in_register_of c x ≡ None) ⊎ IsRegister c x
+  pub place_kind : (x : Expr) → IsTypedHere x → (in_register_of c x ≡ None) ⊎ IsRegister c x
   place_kind (Local ty k) h = by (slice_get c.locals k) refl (local_rule ty k h)
     where
       known : (x : l.Local) (m : Bool) → slice_get c.locals k ≡ Some x → x.in_memory ≡ m → type_view x.ty ≡ ty → (in_register_of c (Local ty k) ≡ None) ⊎ IsRegister c (Local ty k)
-      known x true e m is = inl (unregistered (Local ty k) (ap is_memory_local e ∙ m))
+      known x true e m is = inl (unregistered_place (Local ty k) (ap is_memory_local e ∙ m))
       known x false e m is = inr (record { ty = ty; number = k; local = x; is = refl; is_there = e; in_register = m; is_of_type = is })
 
       by : (o : Option l.Local) → slice_get c.locals k ≡ o → IsTrue (has_local_type o ty) → (in_register_of c (Local ty k) ≡ None) ⊎ IsRegister c (Local ty k)
@@ -168,7 +168,7 @@ module _ (c : Setting) (found : slice_get c.functions c.number ≡ Some c.code) 
       (λ g. (pointer_to_known c.structs ty left (front (points_to c.structs ty left) (is_integer right) g)).object)
       (λ g. (pointer_to_known c.structs ty right (back (is_integer left) (points_to c.structs ty right) g)).object) h
 
-  pub place_object : (x : Expr) → Typed x → IsTrue (is_place x) → IsTrue (is_object c.structs (type_of x))
+  pub place_object : (x : Expr) → IsTypedHere x → IsTrue (is_place x) → IsTrue (is_object c.structs (type_of x))
   place_object (Local ty k) h p = local_object ty (slice_get c.locals k) k refl (local_rule ty k h)
   place_object (Global ty k) h p = global_object ty (slice_get globals k) (back (is_fit c.structs ty) (has_rule K (Global ty k)) h)
   place_object (Unary ty u.Dereference x) h p = let o = one (is_fit c.structs ty) (has_rule K (Unary ty u.Dereference x)) (is_typed K x) h in (pointer_to_known c.structs ty (type_of x) o.0).object

@@ -19,9 +19,9 @@ pub object_more : (ls : List Local) (i : ℕ) (l : Local) (b : Bool) → i < len
 object_more ls i l true lt is e = count_by_more_yes (λ x. x.in_memory) ls i l lt (ap (λ x. x.in_memory) (sym is) ∙ e)
 object_more ls i l false lt is e = count_by_more_no (λ x. x.in_memory) ls i l lt (ap (λ x. x.in_memory) (sym is) ∙ e) ∙ omega arith
 
-pub counted : (ls : List Local) (os : List ℕ) (i c new : ℕ) → length os ≡ i → c ≡ object_index ls i → new ≡ object_index ls (i + 1)
+pub counted_objects : (ls : List Local) (os : List ℕ) (i c new : ℕ) → length os ≡ i → c ≡ object_index ls i → new ≡ object_index ls (i + 1)
     → ((k : ℕ) → get_or os k c ≡ object_index ls (min k i)) → (k : ℕ) → get_or (os ++ c ∷ []) k new ≡ object_index ls (min k (i + 1))
-counted ls os i c new size is next so_far =
+counted_objects ls os i c new size is next so_far =
     let before : (k : ℕ) → k < length os → min k i ≡ min k (i + 1) = λ k lt. omega (arith, lt, size) in
     let at : i ≡ min (length os) (i + 1) = omega (arith, size) in
     let past : (k : ℕ) → length os < k → i + 1 ≡ min k (i + 1) = λ k lt. omega (arith, lt, size) in

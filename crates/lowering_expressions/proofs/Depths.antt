@@ -12,7 +12,7 @@ use Rattle.std.proofs.lemmas.List.{take_more, length-take}
 use Rattle.c_typed_tree.specs.Expressions.{type_of}
 use Rattle.lowering_code.specs.Registers.{value_register}
 use Rattle.lowering_expressions.specs.declared.scope.LoweringScope.{LoweringScope}
-use Rattle.lowering_expressions.specs.Scopes.{call_registers}
+use Rattle.lowering_expressions.specs.model.Scopes.{call_registers}
 use Rattle.lowering_expressions.specs.Levels.{register_levels, levels_above, levels_of_each}
 
 pub own_levels : (x : Expr) → 5 ≤ register_levels x

@@ -6,7 +6,8 @@ ghost use Rattle.c_typed_tree.specs.model.View.{exprs_view};
 ghost use Rattle.lowering_code.specs.Items.{block_total};
 ghost use Rattle.lowering_code.specs.Expressions.{vm_builtin, vm_callee};
 ghost use Rattle.lowering_expressions.specs.Levels.{levels_above};
-ghost use Rattle.lowering_expressions.specs.Scopes.{HasLevels, local_address, local_code, global_code, destination_of, call_registers, call_code, combine_register_code, decided_code, both_code};
+ghost use Rattle.lowering_expressions.specs.Scopes.{HasLevels, local_address};
+ghost use Rattle.lowering_expressions.specs.model.Scopes.{local_code, global_code, destination_of, call_registers, call_code, combine_register_code, decided_code, both_code};
 
 use crate::places::register_if;
 use crate::scope::LoweringScope;

@@ -5,7 +5,7 @@ ghost use Rattle.c_typed_tree.specs.View.{type_view, expr_view};
 ghost use Rattle.c_typed_tree.specs.Typing.{is_array};
 ghost use Rattle.c_semantics.specs.Evaluates.{target_of};
 ghost use Rattle.lowering_code.specs.Expressions.{member_plus};
-ghost use Rattle.lowering_expressions.specs.Scopes.{register_if, register_of, plus_of};
+ghost use Rattle.lowering_expressions.specs.model.Scopes.{register_if, register_of, plus_of};
 
 use crate::scope::LoweringScope;
 use c_typed_tree::{CType, StructDef, TExpr};

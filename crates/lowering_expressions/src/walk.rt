@@ -4,7 +4,8 @@ ghost use Rattle.std.specs.Prelude.{◌≡◌, ◌^◌, ◌<◌, OnOk};
 ghost use Rattle.c_typed_tree.specs.View.{type_view, expr_view};
 ghost use Rattle.c_typed_tree.specs.model.View.{exprs_view};
 ghost use Rattle.lowering_expressions.specs.Levels.{register_levels, levels_above, levels_of_each};
-ghost use Rattle.lowering_expressions.specs.Scopes.{HasLevels, expr_code, place_code, exprs_code, commas_code, unary_expression_code, conversion_code};
+ghost use Rattle.lowering_expressions.specs.Scopes.{HasLevels, expr_code, place_code};
+ghost use Rattle.lowering_expressions.specs.model.Scopes.{exprs_code, commas_code, unary_expression_code, conversion_code};
 
 use crate::forms::{call, combine_register, decision, global, local, local_place};
 use crate::places::{is_array, member, plus_of, register_of, target_member};

@@ -19,13 +19,14 @@ use Rattle.lowering_code.specs.declared.item.CodeItem.TheVariants.{Start, Loop}
 use Rattle.lowering_code.specs.Items as items
 use Rattle.lowering_code.specs.Statements.{after_code, test_code, stmt_code}
 use Rattle.lowering_states.specs.Places.{CodePlace, next_place, next_block, start_of_block, stands_at}
-use Rattle.lowering_states.specs.Runs.{opens, CodeObservation, finish}
-use Rattle.lowering_states.proofs.Steps.{meets_same, fall, jump, no_turn, turning, turn_meets, turn_less}
+use Rattle.lowering_states.specs.Runs.{CodeObservation, finish}
+use Rattle.lowering_states.specs.model.Opens.{opens}
+use Rattle.lowering_states.proofs.Steps.{meets_same, fall, jump, no_turn, turning_step, turn_meets, turn_less}
 use Rattle.lowering_states.proofs.States.{after_on}
 use Rattle.lowering_expression_places.specs.Behind.{Somewhere}
 use Rattle.lowering_expression_places.proofs.Behind.{at_start}
 use Rattle.lowering_expression_laws.specs.Parts.{Setting, first_depth, EndsSo, Stands, Fit, Aft}
-use Rattle.lowering_expression_laws.proofs.Forms.{bound}
+use Rattle.lowering_expression_laws.proofs.Forms.{bound_run}
 use Rattle.lowering_expression_laws.proofs.Choices.{at_block}
 use Rattle.lowering_statement_laws.specs.Parts.{IsApart, Onward, StmtMeets}
 use Rattle.lowering_statement_laws.proofs.Apart.{inner_least}
@@ -108,14 +109,14 @@ module _ (c : Setting) (levels : LevelMeanings) (found : slice_get c.functions c
     unfolding opens
     round_meets here k below f scope r s m K brk con apart fit low way =
         let go_on : Run StatementFlow = exec c.structs c.locals (levels.functions k) (levels.statements k) scope body >>= after_body (again_run k scope) in
-        bound c found (turn s) (λ _. go_on) K (start_of_block head) r s.world m
+        bound_run c found (turn s) (λ _. go_on) K (start_of_block head) r s.world m
         (turn_meets c.rooms c.functions s (λ _ t1. finish (go_on t1) K) _
         (λ mt some.
         let t1 : CallState = in_world s (with_meter s.world mt) in
         let less = turn_less s.world.meter mt some in
         let aft1 : Aft c f s m f t1 m = record { names = λ o a e. e; lives = λ o. refl; sizes = λ o l. refl; locals = λ a size h. h; turned = omega (arith, less) } in
-        turning c.rooms c.functions c.number c.code found c.own c.waiting n.Mark (start_of_block head) r s.world t1.world m m mt [] here.mark refl some refl refl
-        (bound c found (exec c.structs c.locals (levels.functions k) (levels.statements k) scope body t1) (after_body (again_run k scope)) K (next_place (start_of_block head)) r t1.world m
+        turning_step c.rooms c.functions c.number c.code found c.own c.waiting n.Mark (start_of_block head) r s.world t1.world m m mt [] here.mark refl some refl refl
+        (bound_run c found (exec c.structs c.locals (levels.functions k) (levels.statements k) scope body t1) (after_body (again_run k scope)) K (next_place (start_of_block head)) r t1.world m
         ((hb k).by (items.block_total rest) (items.block_total step_items) (Start ∷ step_items) (head ∷ heads) (next_place (start_of_block head)) f scope r t1 m (λ z u. finish (after_body (again_run k scope) z u) K) apart here.body_at fit (omega (arith, less, low))
         (record {
           goes = λ q2 h u r2 m2 at2 aft2 fit2.
@@ -179,8 +180,8 @@ module _ (c : Setting) (levels : LevelMeanings) (found : slice_get c.functions c
     without_first = λ k. record { by = λ brk con rest heads p f scope r s m K apart at fit low way. enters k rest heads p f scope r s m K brk con (λ j lt. apart j (let h = inner_least j body in omega (arith, lt, h))) at fit low (record { goes = way.goes; breaks = way.breaks; continues = way.continues; returns = way.returns }) };
     with_value = λ x k hx. record {
       by = λ brk con rest heads p f scope r s m K apart at fit low way.
-          bound c found (and_then (eval c.structs c.locals (levels.functions k) scope x s) (λ _. pure tt)) (λ _. loop_run k scope) K p r s.world m
-          (bound c found (eval c.structs c.locals (levels.functions k) scope x s) (λ _. pure tt) (λ _ t. finish (loop_run k scope t) K) p r s.world m
+          bound_run c found (and_then (eval c.structs c.locals (levels.functions k) scope x s) (λ _. pure tt)) (λ _. loop_run k scope) K p r s.world m
+          (bound_run c found (eval c.structs c.locals (levels.functions k) scope x s) (λ _. pure tt) (λ _ t. finish (loop_run k scope t) K) p r s.world m
           (hx.by 0 (loop_items rest) heads p f scope r s m (λ _ t. finish (loop_run k scope t) K) at fit low
           (λ q1 v g t r1 m1 at1 aft fit1 kept held stands.
           enters k rest heads q1 g scope r1 t m1 K brk con (λ j lt. apart j (let h = inner_least j body in omega (arith, lt, h))) at1 fit1 (omega (arith, aft.turned, low))

@@ -17,13 +17,14 @@ use Rattle.lowering_code.specs.declared.item.CodeItem.TheVariants.{Start, Again}
 use Rattle.lowering_code.specs.Registers.{register_type, value_register}
 use Rattle.lowering_code.specs.Statements.{after_code, test_code}
 use Rattle.lowering_states.specs.Places.{CodePlace, next_block, start_of_block}
-use Rattle.lowering_states.specs.Runs.{opens, CodeObservation, finish}
+use Rattle.lowering_states.specs.Runs.{CodeObservation, finish}
+use Rattle.lowering_states.specs.model.Opens.{opens}
 use Rattle.lowering_states.proofs.Steps.{fall, jump, branch_taken, branch_passed}
 use Rattle.lowering_states.proofs.States.{after_same}
 use Rattle.lowering_expression_places.proofs.Behind.{at_start, left_expr}
 use Rattle.lowering_expression_laws.specs.Parts.{Setting, first_depth, EndsSo, Stands, Fit, Aft}
 use Rattle.lowering_expression_laws.specs.Laws.{IsScalarType}
-use Rattle.lowering_expression_laws.proofs.Forms.{bound}
+use Rattle.lowering_expression_laws.proofs.Forms.{bound_run}
 use Rattle.lowering_expression_laws.proofs.Choices.{holds_there, test_meets}
 use Rattle.lowering_statement_laws.proofs.Behind.{at_again, at_repeat}
 use Rattle.lowering_for_laws.specs.Laws.{StepMeets, ConditionMeets}
@@ -58,8 +59,8 @@ module _ (c : Setting) (found : slice_get c.functions c.number ≡ Some c.code) 
   unfolding opens
   step_leads None hx go items heads f scope r s m K next q at fit low = next q f s r m at after_same fit
   step_leads (Some x) hx go items heads f scope r s m K next q at fit low =
-      bound c found (and_then (eval c.structs c.locals c.calls scope x s) (λ _. pure tt)) (λ _. go) K q r s.world m
-      (bound c found (eval c.structs c.locals c.calls scope x s) (λ _. pure tt) (λ _ t. finish (go t) K) q r s.world m
+      bound_run c found (and_then (eval c.structs c.locals c.calls scope x s) (λ _. pure tt)) (λ _. go) K q r s.world m
+      (bound_run c found (eval c.structs c.locals c.calls scope x s) (λ _. pure tt) (λ _ t. finish (go t) K) q r s.world m
       (hx.by 0 (Start ∷ items) heads q f scope r s m (λ _ t. finish (go t) K) at fit low
       (λ q1 v g t r1 m1 at1 aft fit1 kept held stands.
       fall c.rooms c.functions c.number c.code found c.own c.waiting q1 r1 t.world m1 at1.has.0
@@ -85,8 +86,8 @@ module _ (c : Setting) (found : slice_get c.functions c.number ≡ Some c.code) 
     condition_leads None hx q at fit low = jump c.rooms c.functions c.number c.code found c.own c.waiting head q r s.world m at.has.0 (on_true f s r m after_same fit)
     condition_leads (Some x) hx q at fit low =
         let reg = value_register L 0 (type_of x) in
-        bound c found (and_then (eval c.structs c.locals c.calls scope x s) test) (choose go (pure Goes)) K q r s.world m
-        (bound c found (eval c.structs c.locals c.calls scope x s) test (λ z t. finish (choose go (pure Goes) z t) K) q r s.world m
+        bound_run c found (and_then (eval c.structs c.locals c.calls scope x s) test) (choose go (pure Goes)) K q r s.world m
+        (bound_run c found (eval c.structs c.locals c.calls scope x s) test (λ z t. finish (choose go (pure Goes) z t) K) q r s.world m
         (hx.1.by 0 (Again (register_type (type_of x)) reg ∷ rest) (head ∷ heads) q f scope r s m (λ v t. finish (test v t) (λ z t1. finish (choose go (pure Goes) z t1) K)) at fit low
         (λ q1 v g t r1 m1 at1 aft fit1 kept held stands.
         test_meets c found v t (λ z t1. finish (choose go (pure Goes) z t1) K) _ (λ z is.

@@ -29,18 +29,19 @@ use Rattle.lowering_code.specs.Registers.{temporary}
 use Rattle.lowering_code.specs.Statements.{stmt_code}
 use Rattle.lowering_code.specs.Functions.{end_code, items_of}
 use Rattle.lowering_states.specs.Places.{CodePlace, next_place, start_of_block, HasInsns}
-use Rattle.lowering_states.specs.Runs.{opens, CodeObservation, finish, Meets, Resumes, config}
+use Rattle.lowering_states.specs.Runs.{CodeObservation, finish, Meets, Resumes, config}
+use Rattle.lowering_states.specs.model.Opens.{opens}
 use Rattle.lowering_states.specs.States.{IsHeld, After, is_live, size_in}
 use Rattle.lowering_states.proofs.Blocks.{blocks_have_items}
-use Rattle.lowering_states.proofs.Steps.{meets_same, meets_anything, returning}
+use Rattle.lowering_states.proofs.Steps.{meets_same, meets_anything, returning_step}
 use Rattle.lowering_states.proofs.States.{set_same, unset_held}
 use Rattle.lowering_expression_laws.specs.Parts.{Setting, EndsSo, Stands, Fit, Aft}
-use Rattle.lowering_expression_laws.proofs.Forms.{insn_on, bound}
+use Rattle.lowering_expression_laws.proofs.Forms.{insn_on, bound_run}
 use Rattle.lowering_statement_laws.specs.Parts.{IsApart, IsReturned, world_left, Onward, StmtMeets}
 use Rattle.lowering_call_laws.specs.Laws.{AreArguments}
 use Rattle.lowering_function_laws.specs.Laws.{code_for, callee_setting, IsCalled, FunctionsMeet, FunctionsWithoutTurnsMeet}
-use Rattle.lowering_function_laws.proofs.Objects.{sizes_of, entered, left_memory, left_after}
-use Rattle.lowering_function_laws.proofs.Parameters.{Entered, Passed, parameters}
+use Rattle.lowering_function_laws.proofs.Objects.{sizes_of, entered_function, left_memory, left_after}
+use Rattle.lowering_function_laws.proofs.Parameters.{EnteredBody, PassedArguments, parameters}
 
 take_short : {A : Type 0} (n : ℕ) (xs : List A) → length (take n xs) ≤ n
 take_short zero xs = omega arith
@@ -88,9 +89,9 @@ module _ (c : Setting) (k : ℕ) (fn : TypedFn) (prev : Level) (called : IsCalle
     K1 z t = finish (value_of_call (is_main fn) z t) K
 
     fit0 : Fit S f no_scope (registers_of ws) s0 m0
-    fit0 = entered c.statics c.structs fn.locals f (registers_of ws) s.world.outer.memory n0 s.world.outer.input statics mem small bytes
+    fit0 = entered_function c.statics c.structs fn.locals f (registers_of ws) s.world.outer.memory n0 s.world.outer.input statics mem small bytes
 
-    passed : Passed S found fn.params 0 (take fn.params fn.locals) vs ws f no_scope (registers_of ws)
+    passed : PassedArguments S found fn.params 0 (take fn.params fn.locals) vs ws f no_scope (registers_of ws)
     passed = record {
       bounded = let h = take_short fn.params fn.locals in omega (arith, h);
       there = λ i p e. let z : 0 + i ≡ i = omega arith in ap (slice_get fn.locals) z ∙ taken fn.params fn.locals i p e;
@@ -101,7 +102,7 @@ module _ (c : Setting) (k : ℕ) (fn : TypedFn) (prev : Level) (called : IsCalle
     }
 
     -- behind the parameters
-    module _ (q0 : CodePlace) (inner : Scope) (g : Names) (r0 : Registers) (t : CallState) (n1 : Memory) (left : CallState → CallState) (at : Stands S [] q0 body_code) (fit : Fit S g inner r0 t n1) (e : Entered S found fn.params no_scope f s0 m0 inner g t n1 left) where
+    module _ (q0 : CodePlace) (inner : Scope) (g : Names) (r0 : Registers) (t : CallState) (n1 : Memory) (left : CallState → CallState) (at : Stands S [] q0 body_code) (fit : Fit S g inner r0 t n1) (e : EnteredBody S found fn.params no_scope f s0 m0 inner g t n1 left) where
       leaves : (v : Value) (us : List Value) (h : Names) (u : CallState) (r : Registers) (n2 : Memory) → Aft S g t n1 h u n2 → Fit S h inner r u n2 → IsHeld ty v → IsValueOf h v (first_or_unset us) → Resumes c.rooms c.functions (K v (left u)) us (world_left S u.world n2) waiting
       leaves v us h u r n2 aft fit1 held rel =
           let a : Aft S f s0 m0 h (left u) n2 = e.after h u n2 aft in
@@ -115,14 +116,14 @@ module _ (c : Setting) (k : ℕ) (fn : TypedFn) (prev : Level) (called : IsCalle
       falls : (b : Bool) → is_main fn ≡ b → (q : CodePlace) (h : Names) (u : CallState) (r : Registers) (n2 : Memory) → HasInsns S.code.blocks S.last S.end q (end_code L b) → Aft S g t n1 h u n2 → Fit S h inner r u n2 → EndsSo S (K (no_value b) (left u)) q r u.world n2
       unfolding opens
       falls false main q h u r n2 has aft fit1 =
-          returning S.rooms S.functions S.number S.code found S.own S.waiting (n.Return None) q r u.world n2 [] has.0 refl refl (leaves Unset [] h u r n2 aft fit1 (unset_held ty) tt)
+          returning_step S.rooms S.functions S.number S.code found S.own S.waiting (n.Return None) q r u.world n2 [] has.0 refl refl (leaves Unset [] h u r n2 aft fit1 (unset_held ty) tt)
       falls true main q h u r n2 has aft fit1 =
           let reg : ℕ = temporary L 0 S32 in
           let value : TypedRegister = record { ty = S32; register = reg } in
           let r1 : Registers = set_register reg (Word 0) r in
           let zero_is : r1 reg ≡ Word 0 = set_same r reg (Word 0) in
           insn_on S found (n.LoadConstant S32 reg 0) q r u.world n2 (Word 0 ∷ []) has.0 refl refl
-          (returning S.rooms S.functions S.number S.code found S.own S.waiting (n.Return (Some value)) (next_place q) r1 u.world n2 (r1 reg ∷ []) has.1.0 refl
+          (returning_step S.rooms S.functions S.number S.code found S.own S.waiting (n.Return (Some value)) (next_place q) r1 u.world n2 (r1 reg ∷ []) has.1.0 refl
           (ap (λ z. if z then machine.Returns (r1 reg ∷ []) (outer_with_memory u.world.outer n2) else machine.Stops machine.HasNoMeaning (outer_with_memory u.world.outer n2)) (ap (vm.is_value_of S32) zero_is))
           (leaves (Word 0) (r1 reg ∷ []) h u r n2 aft fit1 (subst (λ z. IsHeld z (Word 0)) (sym (called.may.main main)) refl) zero_is))
 
@@ -161,7 +162,7 @@ module _ (c : Setting) (k : ℕ) (fn : TypedFn) (prev : Level) (called : IsCalle
     call_meets : Meets c.rooms c.functions (finish ((body_of c.structs prev k fn vs >>= value_of_call (is_main fn)) s0) K) (config k (length n0) waiting (start_of_block 0) (registers_of ws) s.world (begin_objects n0 (code_for c.structs fn).sizes))
     unfolding opens
     call_meets =
-        bound S found (body_of c.structs prev k fn vs s0) (value_of_call (is_main fn)) K (start_of_block 0) (registers_of ws) s.world m0
+        bound_run S found (body_of c.structs prev k fn vs s0) (value_of_call (is_main fn)) K (start_of_block 0) (registers_of ws) s.world m0
         (parameters S found fn.params (λ scope. prev k scope (stmt_view fn.body)) [] body_code called.may.small (take fn.params fn.locals) 0 vs ws f no_scope (registers_of ws) s0 m0 (start_of_block 0) K1 passed fit0
         (blocks_have_items (end_code L (is_main fn)) (items_of c.structs fn)) body_meets)
 

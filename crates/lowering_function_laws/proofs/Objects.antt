@@ -107,9 +107,9 @@ objects_stand ds ls n k x e m =
     }
 
 -- states correspond at the entry of a call, where no local has a value yet
-pub entered : (G : ℕ) (ds : List StructDef) (ls : List Local) (f : Names) (r : Registers) (m n : Memory) (input : List ℕ) → ((k : ℕ) → k < G → f k ≡ Some k) → IsMemoryOf f m n → ((o : ℕ) → is_live m o ≡ true → size_in m o ≤ MOST_DATA) → All (λ b. b < 256) input
+pub entered_function : (G : ℕ) (ds : List StructDef) (ls : List Local) (f : Names) (r : Registers) (m n : Memory) (input : List ℕ) → ((k : ℕ) → k < G → f k ≡ Some k) → IsMemoryOf f m n → ((o : ℕ) → is_live m o ≡ true → size_in m o ≤ MOST_DATA) → All (λ b. b < 256) input
     → Fits G ds ls (length n) f no_scope r (λ k. Unset) m (begin_objects n (sizes_of ds ls)) input
-entered G ds ls f r m n input statics mem small bytes = record {
+entered_function G ds ls f r m n input statics mem small bytes = record {
   locals = λ k lt. tt;
   held = λ k. unset_held (type_at (slice_get ls k));
   statics = statics;

@@ -30,14 +30,15 @@ use Rattle.lowering_code.specs.Registers.{address_register, object_index}
 use Rattle.lowering_code.specs.Expressions.{store_code, address_code}
 use Rattle.lowering_code.specs.Functions.{parameters_code}
 use Rattle.lowering_states.specs.Places.{CodePlace, next_place}
-use Rattle.lowering_states.specs.Runs.{opens, CodeObservation, finish}
+use Rattle.lowering_states.specs.Runs.{CodeObservation, finish}
+use Rattle.lowering_states.specs.model.Opens.{opens}
 use Rattle.lowering_states.specs.States.{IsHeld, type_at}
 use Rattle.lowering_states.proofs.Steps.{meets_same}
 use Rattle.lowering_states.proofs.States.{ne_eqb, set_same, set_other, after_on, fits_temporary, fits_local}
 use Rattle.lowering_expression_places.proofs.Behind.{at_plain}
 use Rattle.lowering_expression_laws.specs.Parts.{Setting, first_depth, EndsSo, Stands, Fit, Aft}
 use Rattle.lowering_expression_laws.specs.Laws.{IsScalarType}
-use Rattle.lowering_expression_laws.proofs.Forms.{bound}
+use Rattle.lowering_expression_laws.proofs.Forms.{bound_run}
 use Rattle.lowering_place_laws.proofs.Places.{byte_of, address_meets, address_of}
 use Rattle.lowering_access_laws.proofs.Writes.{writes_meet}
 use Rattle.lowering_object_laws.proofs.Objects.{objects_begin_and_end}
@@ -83,7 +84,7 @@ module _ (c : Setting) (found : slice_get c.functions c.number ≡ Some c.code) 
       }
 
   -- the state in which the body begins, and how a state in which it ends is left
-  pub record Entered (past : ℕ) (scope : Scope) (f : Names) (s : CallState) (m : Memory) (inner : Scope) (g : Names) (t : CallState) (n : Memory) (left : CallState → CallState) : Type 0 where
+  pub record EnteredBody (past : ℕ) (scope : Scope) (f : Names) (s : CallState) (m : Memory) (inner : Scope) (g : Names) (t : CallState) (n : Memory) (left : CallState → CallState) : Type 0 where
     pub low : t.world.meter.turns ≤ s.world.meter.turns
     pub leaves : (u : CallState) → Remembers u.world (left u).world
     pub after : (h : Names) (u : CallState) (q : Memory) → Aft c g t n h u q → Aft c f s m h (left u) q
@@ -91,7 +92,7 @@ module _ (c : Setting) (found : slice_get c.functions c.number ≡ Some c.code) 
     pub outside : (j : ℕ) → past ≤ j → inner j ≡ scope j
 
   -- these locals from a number on are to have these arguments, which stand in their registers
-  pub record Passed (past k : ℕ) (ps : List Local) (vs ws : List Value) (f : Names) (scope : Scope) (r : Registers) : Type 0 where
+  pub record PassedArguments (past k : ℕ) (ps : List Local) (vs ws : List Value) (f : Names) (scope : Scope) (r : Registers) : Type 0 where
     pub bounded : k + length ps ≤ past
     pub there : (i : ℕ) (p : Local) → slice_get ps i ≡ Some p → slice_get c.locals (k + i) ≡ Some p
     pub scalars : (i : ℕ) (p : Local) → slice_get ps i ≡ Some p → IsScalarType (type_view p.ty)
@@ -103,13 +104,13 @@ module _ (c : Setting) (found : slice_get c.functions c.number ≡ Some c.code) 
     -- what follows, where the code behind the parameters stands
     abbrev pub Enters : Scope → Names → CallState → Memory → (StatementFlow → CallState → CodeObservation) → Type 0
     Enters scope f s m K =
-        (q : CodePlace) (inner : Scope) (g : Names) (r : Registers) (t : CallState) (n : Memory) (left : CallState → CallState) → Stands c heads q rest → Fit c g inner r t n → Entered past scope f s m inner g t n left
+        (q : CodePlace) (inner : Scope) (g : Names) (r : Registers) (t : CallState) (n : Memory) (left : CallState → CallState) → Stands c heads q rest → Fit c g inner r t n → EnteredBody past scope f s m inner g t n left
         → EndsSo c (finish (run inner t) (λ a u. K a (left u))) q r t.world n
 
     -- one parameter more
-    module _ (p : Local) (ps : List Local) (k : ℕ) (v : Value) (vs : List Value) (w : Value) (ws : List Value) (f : Names) (scope : Scope) (r : Registers) (s : CallState) (m : Memory) (q : CodePlace) (K : StatementFlow → CallState → CodeObservation) (all : Passed past k (p ∷ ps) (v ∷ vs) (w ∷ ws) f scope r) (fit : Fit c f scope r s m)
+    module _ (p : Local) (ps : List Local) (k : ℕ) (v : Value) (vs : List Value) (w : Value) (ws : List Value) (f : Names) (scope : Scope) (r : Registers) (s : CallState) (m : Memory) (q : CodePlace) (K : StatementFlow → CallState → CodeObservation) (all : PassedArguments past k (p ∷ ps) (v ∷ vs) (w ∷ ws) f scope r) (fit : Fit c f scope r s m)
         (at : Stands c heads q (parameters_code L c.structs c.locals k (p ∷ ps) rest)) (next : Enters scope f s m K)
-        (others : (f1 : Names) (scope1 : Scope) (r1 : Registers) (s1 : CallState) (m1 : Memory) (q1 : CodePlace) (K1 : StatementFlow → CallState → CodeObservation) → Passed past (suc k) ps vs ws f1 scope1 r1 → Fit c f1 scope1 r1 s1 m1 → Stands c heads q1 (parameters_code L c.structs c.locals (suc k) ps rest) → Enters scope1 f1 s1 m1 K1
+        (others : (f1 : Names) (scope1 : Scope) (r1 : Registers) (s1 : CallState) (m1 : Memory) (q1 : CodePlace) (K1 : StatementFlow → CallState → CodeObservation) → PassedArguments past (suc k) ps vs ws f1 scope1 r1 → Fit c f1 scope1 r1 s1 m1 → Stands c heads q1 (parameters_code L c.structs c.locals (suc k) ps rest) → Enters scope1 f1 s1 m1 K1
         → EndsSo c (finish (with_parameters c.structs (suc k) ps vs run scope1 s1) K1) q1 r1 s1.world m1) where
       abbrev ty : PlainType
       ty = type_view p.ty
@@ -146,7 +147,7 @@ module _ (c : Setting) (found : slice_get c.functions c.number ≡ Some c.code) 
       unfolding opens
       in_register e =
           let s1 : CallState = with_registers s (with_local_value s.registers k v) in
-          let all1 : Passed past (suc k) ps vs ws f scope r = record {
+          let all1 : PassedArguments past (suc k) ps vs ws f scope r = record {
             bounded = let h = all.bounded in omega (arith, h);
             there = λ i x h. let n : suc k + i ≡ k + suc i = omega arith in ap (slice_get c.locals) n ∙ all.there (suc i) x h;
             scalars = λ i x h. all.scalars (suc i) x h;
@@ -178,7 +179,7 @@ module _ (c : Setting) (found : slice_get c.functions c.number ≡ Some c.code) 
           let kept : (j : ℕ) → j < L → r2 j ≡ r j = (λ j lt. set_other r (address_register L 0) j a (lower j lt)) in
           let here : scope1 k ≡ Some o = ap (λ b. if b then Some o else scope k) (eq-eqb k k refl) in
           let other : (j : ℕ) → j ≢ k → scope1 j ≡ scope j = (λ j ne. ap (λ z. if z then Some o else scope j) (ne_eqb j k ne)) in
-          let all1 : Passed past (suc k) ps vs ws f1 scope1 r2 = record {
+          let all1 : PassedArguments past (suc k) ps vs ws f1 scope1 r2 = record {
             bounded = let h = all.bounded in omega (arith, h);
             there = λ i x h. let n : suc k + i ≡ k + suc i = omega arith in ap (slice_get c.locals) n ∙ all.there (suc i) x h;
             scalars = λ i x h. all.scalars (suc i) x h;
@@ -194,8 +195,8 @@ module _ (c : Setting) (found : slice_get c.functions c.number ≡ Some c.code) 
           ∙ ap (λ z. and_then (or_undefined UsesDeadObject z s1) (λ o. pure (obj.At (start_pointer o)))) here in
           let at1 : Stands c heads q (address_code L 0 (vp.Local (object_index c.locals k)) 0 tail) = subst (λ z. Stands c heads q z) (code_is true e) at in
           meets_same c.rooms c.functions (ap (λ z. finish z K) (run_is true e))
-          (bound c found (and_then (put scope1 s1) (λ _. body scope1)) (λ z t. Gives z (ended t)) K q r s.world m
-          (bound c found (put scope1 s1) (λ _. body scope1) K1 q r s.world m
+          (bound_run c found (and_then (put scope1 s1) (λ _. body scope1)) (λ z t. Gives z (ended t)) K q r s.world m
+          (bound_run c found (put scope1 s1) (λ _. body scope1) K1 q r s.world m
           (meets_same c.rooms c.functions (ap (λ z. finish (and_then z (λ a. write c.structs ty a v)) (λ _ t. finish (body scope1 t) K1)) place_is)
           (address_meets c found 0 (vp.Local (object_index c.locals k)) 0 tail heads q r s.world m at1
           ((writes_meet c found).scalars ty (all.scalars 0 p refl) (address_register L 0) 0 k code heads (next_place q) (start_pointer o) (start_pointer o) v f1 scope1 r2 s1 m (λ _ t. finish (body scope1 t) K1) (at_plain c.code.blocks c.last c.end _ at1) (fits_temporary 0 P64 a fit1) all.given.1 held base (inl (refl, refl))
@@ -216,7 +217,7 @@ module _ (c : Setting) (found : slice_get c.functions c.number ≡ Some c.code) 
       one_more false e = in_register e
       one_more true e = in_object e
 
-    pub parameters : (ps : List Local) (k : ℕ) (vs ws : List Value) (f : Names) (scope : Scope) (r : Registers) (s : CallState) (m : Memory) (q : CodePlace) (K : StatementFlow → CallState → CodeObservation) → Passed past k ps vs ws f scope r → Fit c f scope r s m
+    pub parameters : (ps : List Local) (k : ℕ) (vs ws : List Value) (f : Names) (scope : Scope) (r : Registers) (s : CallState) (m : Memory) (q : CodePlace) (K : StatementFlow → CallState → CodeObservation) → PassedArguments past k ps vs ws f scope r → Fit c f scope r s m
         → Stands c heads q (parameters_code L c.structs c.locals k ps rest) → Enters scope f s m K → EndsSo c (finish (with_parameters c.structs k ps vs run scope s) K) q r s.world m
     parameters [] k vs ws f scope r s m q K all fit at next =
         next q scope f r s m (λ t. t) at fit (record {

@@ -11,7 +11,7 @@ use Rattle.lowering_code.specs.Functions as f
 use Rattle.lowering_code.specs.Statements as c
 use Rattle.lowering_statements.specs.Scopes.{stmt_code}
 use Rattle.lowering_expressions.specs.declared.scope.LoweringScope.{LoweringScope}
-use Rattle.lowering_functions.specs.Scopes.{parameters_code, number_code}
+use Rattle.lowering_functions.specs.model.Scopes.{parameters_code, number_code}
 
 objects_end : (ds : List StructDef) (ls : List Local) (l : Local) → objects_of ds (ls ++ l ∷ []) ≡ objects_of ds ls ++ objects_of ds (l ∷ [])
 objects_end ds [] l = refl

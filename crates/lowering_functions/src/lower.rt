@@ -10,7 +10,8 @@ ghost use Rattle.lowering_statements.specs.Scopes.{stmt_code};
 ghost use Rattle.lowering_layout.specs.Tops.{blocks_top};
 ghost use Rattle.lowering_layout.specs.Views.{GoesBackToMarks};
 ghost use Rattle.lowering_functions.specs.Parts.{stmt_parts};
-ghost use Rattle.lowering_functions.specs.Scopes.{parameters_code, number_code, LocalHasSize};
+ghost use Rattle.lowering_functions.specs.Scopes.{LocalHasSize};
+ghost use Rattle.lowering_functions.specs.model.Scopes.{parameters_code, number_code};
 
 use crate::memory::objects;
 use c_typed_tree::{StructDef, TypedFn};

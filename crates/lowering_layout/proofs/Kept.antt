@@ -16,7 +16,8 @@ use Rattle.lowering_code.specs.Layout.{Layout, with_insn, with_items, no_block, 
 use Rattle.lowering_code.specs.Functions.{end_code}
 use Rattle.lowering_layout.specs.Good.{IsGood}
 use Rattle.lowering_layout.specs.Tops.{insns_top, blocks_top}
-use Rattle.lowering_layout.specs.Views.{with_end, GoesBackToMarks}
+use Rattle.lowering_layout.specs.Views.{GoesBackToMarks}
+use Rattle.lowering_layout.specs.model.Ends.{with_end}
 use Rattle.lowering_layout.proofs.Laid.{Straight, IsLaid, Sound, goes_straight, ends, push, last_is, sound}
 use Rattle.lowering_layout.proofs.Sizes.{blocks_laid, insns_laid, IsBelow, below_items, insns_top_append, blocks_top_push, blocks_below, count_le}
 

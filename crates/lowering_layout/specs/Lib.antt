@@ -1,3 +1,4 @@
 pub mod Tops
 pub mod Good
 pub mod Views
+pub mod model

@@ -1,5 +1,5 @@
 -- The layout as the definition has it, and what a function of blocks keeps.
-use Rattle.std.specs.Prelude.{◌≡◌, ℕ, ◌<◌, max, IsTrue, List, [], ◌∷◌, All, length, slice_index_or}
+use Rattle.std.specs.Prelude.{◌≡◌, ℕ, ◌<◌, max, IsTrue, List, [], All, length, slice_index_or}
 use Rattle.suifvm_ir.specs.declared.insn.VmInsn.{VmInsn}
 use Rattle.suifvm_ir.specs.Programs.{goes_back_to_marks}
 use Rattle.lowering_code.specs.Layout as code
@@ -18,8 +18,3 @@ abbrev pub GoesBackToMarks : List (List VmInsn) → Type 0
 GoesBackToMarks blocks =
     (block : ℕ) → block < length blocks →
     All (λ i. IsTrue (goes_back_to_marks blocks block i)) (slice_index_or blocks block [])
-
--- the last block, with what stands at its end
-abbrev pub with_end : List VmInsn → code.Layout → code.Layout
-with_end [] l = code.end_block l
-with_end (i ∷ is) l = with_end is (code.with_insn i l)

@@ -6,7 +6,8 @@ ghost use Rattle.lowering_code.specs.Layout.{with_items, no_block, blocks_of};
 ghost use Rattle.lowering_code.specs.Functions.{end_code};
 ghost use Rattle.lowering_layout.specs.Good.{IsGood};
 ghost use Rattle.lowering_layout.specs.Tops.{blocks_top};
-ghost use Rattle.lowering_layout.specs.Views.{layout_view, CountsRegisters, GoesBackToMarks, with_end};
+ghost use Rattle.lowering_layout.specs.Views.{layout_view, CountsRegisters, GoesBackToMarks};
+ghost use Rattle.lowering_layout.specs.model.Ends.{with_end};
 
 use crate::layout::BlockLayout;
 use c_tree::{Name, Seq};

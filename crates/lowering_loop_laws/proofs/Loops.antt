@@ -22,14 +22,15 @@ use Rattle.lowering_code.specs.Items as items
 use Rattle.lowering_code.specs.Registers.{register_type, value_register}
 use Rattle.lowering_code.specs.Statements.{again_code, stmt_code}
 use Rattle.lowering_states.specs.Places.{CodePlace, next_place, next_block, start_of_block, stands_at}
-use Rattle.lowering_states.specs.Runs.{opens, CodeObservation, finish}
-use Rattle.lowering_states.proofs.Steps.{meets_same, fall, jump, branch_taken, branch_passed, no_turn, turning, turn_meets, turn_less}
+use Rattle.lowering_states.specs.Runs.{CodeObservation, finish}
+use Rattle.lowering_states.specs.model.Opens.{opens}
+use Rattle.lowering_states.proofs.Steps.{meets_same, fall, jump, branch_taken, branch_passed, no_turn, turning_step, turn_meets, turn_less}
 use Rattle.lowering_states.proofs.States.{after_on}
 use Rattle.lowering_expression_places.specs.Behind.{Somewhere}
 use Rattle.lowering_expression_places.proofs.Behind.{at_start, left_expr}
 use Rattle.lowering_expression_laws.specs.Parts.{Setting, first_depth, EndsSo, Stands, Fit, Aft, ExprMeets}
 use Rattle.lowering_expression_laws.specs.Laws.{IsScalarType}
-use Rattle.lowering_expression_laws.proofs.Forms.{bound}
+use Rattle.lowering_expression_laws.proofs.Forms.{bound_run}
 use Rattle.lowering_expression_laws.proofs.Choices.{holds_there, test_meets, at_block}
 use Rattle.lowering_statement_laws.specs.Parts.{IsApart, Onward, StmtMeets}
 use Rattle.lowering_statement_laws.proofs.Apart.{inner_least}
@@ -72,8 +73,8 @@ module _ (c : Setting) (levels : LevelMeanings) (found : slice_get c.functions c
     round_on here k below q f scope r s m K brk con apart at fit low way =
         let reg = value_register L 0 (type_of x) in
         let go_round : Run StatementFlow = turn >> (exec c.structs c.locals (levels.functions k) (levels.statements k) scope body >>= after_body (levels.statements k scope (While x body))) in
-        bound c found (and_then (eval c.structs c.locals (levels.functions k) scope x s) test) (choose go_round (pure Goes)) K q r s.world m
-        (bound c found (eval c.structs c.locals (levels.functions k) scope x s) test (λ z t. finish (choose go_round (pure Goes) z t) K) q r s.world m
+        bound_run c found (and_then (eval c.structs c.locals (levels.functions k) scope x s) test) (choose go_round (pure Goes)) K q r s.world m
+        (bound_run c found (eval c.structs c.locals (levels.functions k) scope x s) test (λ z t. finish (choose go_round (pure Goes) z t) K) q r s.world m
         ((hx k).by 0 (Again (register_type (type_of x)) reg ∷ rest) (head ∷ heads) q f scope r s m (λ v t. finish (test v t) (λ z t1. finish (choose go_round (pure Goes) z t1) K)) at fit low
         (λ q1 v g t r1 m1 at1 aft fit1 kept held stands.
         test_meets c found v t (λ z t1. finish (choose go_round (pure Goes) z t1) K) _ (λ z is.
@@ -88,14 +89,14 @@ module _ (c : Setting) (levels : LevelMeanings) (found : slice_get c.functions c
         by_test q1 v g t r1 m1 true at1 aft fit1 holds =
             let go_on : Run StatementFlow = exec c.structs c.locals (levels.functions k) (levels.statements k) scope body >>= after_body (levels.statements k scope (While x body)) in
             branch_taken c.rooms c.functions c.number c.code found c.own c.waiting IfTrue (register_type (type_of x)) (value_register L 0 (type_of x)) head true q1 r1 t.world m1 at1.has.0 holds refl
-            (bound c found (turn t) (λ _. go_on) K (start_of_block head) r1 t.world m1
+            (bound_run c found (turn t) (λ _. go_on) K (start_of_block head) r1 t.world m1
             (turn_meets c.rooms c.functions t (λ _ t1. finish (go_on t1) K) _
             (λ mt some.
             let t1 : CallState = in_world t (with_meter t.world mt) in
             let less = turn_less t.world.meter mt some in
             let aft1 : Aft c f s m g t1 m1 = record { names = aft.names; lives = aft.lives; sizes = aft.sizes; locals = aft.locals; turned = omega (arith, aft.turned, less) } in
-            turning c.rooms c.functions c.number c.code found c.own c.waiting n.Mark (start_of_block head) r1 t.world t1.world m1 m1 mt [] here.mark refl some refl refl
-            (bound c found (exec c.structs c.locals (levels.functions k) (levels.statements k) scope body t1) (after_body (levels.statements k scope (While x body))) K (next_place (start_of_block head)) r1 t1.world m1
+            turning_step c.rooms c.functions c.number c.code found c.own c.waiting n.Mark (start_of_block head) r1 t.world t1.world m1 m1 mt [] here.mark refl some refl refl
+            (bound_run c found (exec c.structs c.locals (levels.functions k) (levels.statements k) scope body t1) (after_body (levels.statements k scope (While x body))) K (next_place (start_of_block head)) r1 t1.world m1
             ((hb k).by (items.block_total rest) (items.block_total test_items) (Start ∷ test_items) (head ∷ heads) (next_place (start_of_block head)) g scope r1 t1 m1 (λ z u. finish (after_body (levels.statements k scope (While x body)) z u) K) apart here.body_at fit1 (omega (arith, aft.turned, less, low))
             (record {
               goes = λ q2 h u r2 m2 at2 aft2 fit2.

@@ -33,7 +33,8 @@ use Rattle.lowering_code.specs.declared.item.CodeItem.{CodeItem}
 use Rattle.lowering_code.specs.Registers.{register_type, value_register}
 use Rattle.lowering_code.specs.Expressions.{plain_of, not_code, plus_of, conversion_code, expr_code, place_code, commas_code}
 use Rattle.lowering_states.specs.Places.{CodePlace, next_place}
-use Rattle.lowering_states.specs.Runs.{opens, CodeObservation, finish}
+use Rattle.lowering_states.specs.Runs.{CodeObservation, finish}
+use Rattle.lowering_states.specs.model.Opens.{opens}
 use Rattle.lowering_states.specs.States.{IsHeld, IsInRegister}
 use Rattle.lowering_states.proofs.Steps.{finish-bind, meets_same, used_meets}
 use Rattle.lowering_states.proofs.States.{set_same, set_other, other_depth, kept_on, kept_temporary, value_at, after_on, fits_temporary}
@@ -42,7 +43,7 @@ use Rattle.lowering_values.proofs.Operators.{word_true, compare_is}
 use Rattle.lowering_expression_places.proofs.Behind.{at_plain}
 use Rattle.lowering_expression_laws.specs.Parts.{Setting, first_depth, EndsSo, Stands, Fit, Follows, ExprMeets}
 use Rattle.lowering_expression_laws.specs.Laws.{IsScalarType}
-use Rattle.lowering_expression_laws.proofs.Forms.{held_word, word_held, value_of_word, insn_on, bound}
+use Rattle.lowering_expression_laws.proofs.Forms.{held_word, word_held, value_of_word, insn_on, bound_run}
 use Rattle.lowering_expression_laws.proofs.Choices.{TestIs, test_meets}
 use Rattle.lowering_operand_laws.specs.Laws.{last_type, AllOperandsMeet}
 
@@ -131,7 +132,7 @@ module _ (c : Setting) (found : slice_get c.functions c.number ≡ Some c.code) 
   unfolding opens
   commas_on x no_exprs hx all d rest heads p f scope r s m K at fit low next = hx.by d rest heads p f scope r s m K at fit low next
   commas_on x (more_exprs y ys) hx all d rest heads p f scope r s m K at fit low next =
-      bound c found (eval c.structs c.locals c.calls scope x s) (λ _. value_of_last c.structs c.locals c.calls scope (eval c.structs c.locals c.calls scope y) ys) K p r s.world m
+      bound_run c found (eval c.structs c.locals c.calls scope x s) (λ _. value_of_last c.structs c.locals c.calls scope (eval c.structs c.locals c.calls scope y) ys) K p r s.world m
       (hx.by d (commas_code L c.structs c.locals d (more_exprs y ys) rest) heads p f scope r s m (λ _ t. finish (value_of_last c.structs c.locals c.calls scope (eval c.structs c.locals c.calls scope y) ys t) K) at fit low
       (λ q v g t q1 m1 at1 aft fit1 kept held stands.
       commas_on y ys all.0 all.1 d rest heads q g scope q1 t m1 K at1 fit1 (omega (arith, aft.turned, low))
@@ -153,8 +154,8 @@ module _ (c : Setting) (found : slice_get c.functions c.number ≡ Some c.code) 
         let free = value_register L (suc d) (type_of x) in
         let to = value_register L d T in
         let run : Bool → Run Value = choose (pure_truth false) (pure_truth true) in
-        bound c found (and_then (eval c.structs c.locals c.calls scope x s) test) run K p r s.world m
-        (bound c found (eval c.structs c.locals c.calls scope x s) test (λ z t. finish (run z t) K) p r s.world m
+        bound_run c found (and_then (eval c.structs c.locals c.calls scope x s) test) run K p r s.world m
+        (bound_run c found (eval c.structs c.locals c.calls scope x s) test (λ z t. finish (run z t) K) p r s.world m
         (hx.by d (not_code L d T (type_of x) rest) heads p f scope r s m (λ v t. finish (test v t) (λ z t1. finish (run z t1) K)) at fit low
         (λ q v g t q1 m1 at1 aft fit1 kept held stands.
         test_meets c found v t (λ z t1. finish (run z t1) K) _ (λ z is.
@@ -207,7 +208,7 @@ module _ (c : Setting) (found : slice_get c.functions c.number ≡ Some c.code) 
         co d rest ∙ ap (λ z. conversion_code L c.structs c.locals d z (Pointer to) (plus_of L c.structs c.locals x 0) (λ is. place_code L c.structs c.locals d x 0 is) (λ is. expr_code L c.structs c.locals d x is) rest) ex in
         let next1 : Follows c d (Pointer to) heads rest f scope r s m K = subst (λ z. Follows c d z heads rest f scope r s m K) ey next in
         meets_same c.rooms c.functions (ap (λ z. finish z K) (ev scope s ∙ ap (λ z. converted_from z (Pointer to) (eval c.structs c.locals c.calls scope x) (place c.structs c.locals c.calls scope x) s) ex))
-        (bound c found (eval c.structs c.locals c.calls scope x s) (convert (Pointer from) (Pointer to)) K p r s.world m
+        (bound_run c found (eval c.structs c.locals c.calls scope x s) (convert (Pointer from) (Pointer to)) K p r s.world m
         (hx.by d rest heads p f scope r s m (λ v t. finish (convert (Pointer from) (Pointer to) v t) K) (subst (λ z. Stands c heads p z) code_e at) fit low
         (λ q v g t q1 m1 at1 aft fit1 kept held stands.
         used_meets c.rooms c.functions UsesNoValue v t K _ (λ set.

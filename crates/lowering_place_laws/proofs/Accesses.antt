@@ -39,7 +39,8 @@ use Rattle.lowering_code.specs.declared.item.CodeItem.{CodeItem}
 use Rattle.lowering_code.specs.Registers.{register_type, memory_type, value_register, address_register, bytes_register}
 use Rattle.lowering_code.specs.Expressions.{plain_of, moved_code, load_code, load_from, member_plus, expr_code, place_code}
 use Rattle.lowering_states.specs.Places.{CodePlace, next_place}
-use Rattle.lowering_states.specs.Runs.{opens, CodeObservation, finish}
+use Rattle.lowering_states.specs.Runs.{CodeObservation, finish}
+use Rattle.lowering_states.specs.model.Opens.{opens}
 use Rattle.lowering_states.specs.States.{IsHeld, KeepsLower}
 use Rattle.lowering_states.proofs.Steps.{meets_anything, meets_same, used_meets, number_meets, access_meets}
 use Rattle.lowering_states.proofs.States.{set_same, set_other, other_type, kept_all, kept_temporary, value_at, after_same, fits_temporary}
@@ -48,7 +49,7 @@ use Rattle.lowering_values.proofs.Integers.{memory-plain, integer_of-plain}
 use Rattle.lowering_values.proofs.Accesses.{memories_correspond}
 use Rattle.lowering_expression_places.proofs.Behind.{at_plain}
 use Rattle.lowering_expression_laws.specs.Parts.{Setting, first_depth, EndsSo, Stands, Fit, Aft, Follows, ExprMeets}
-use Rattle.lowering_expression_laws.proofs.Forms.{held_word, insn_on, bound}
+use Rattle.lowering_expression_laws.proofs.Forms.{held_word, insn_on, bound_run}
 use Rattle.lowering_place_laws.specs.Places.{left_of, PlaceMeets}
 use Rattle.lowering_place_laws.specs.Laws.{MemberIsWithin, HasWholeIntegers}
 use Rattle.lowering_place_laws.proofs.Places.{held_pointer, moved_held, same_moved, byte_of, exact, long_word, address_meets, address_of, pointer_in, moved_meets}
@@ -152,9 +153,9 @@ module _ (c : Setting) (found : slice_get c.functions c.number ≡ Some c.code) 
       let I = objects.integer_or_word (plain_of t0) in
       let mt = memory_type (plain_of t0) in
       let o2 = outer_with_memory t.world.outer m1 in
-      bound c found (access (load_at t.world.outer.memory a (bytes t0) false) t) (integer_value I) K q q1 t.world m1
+      bound_run c found (access (load_at t.world.outer.memory a (bytes t0) false) t) (integer_value I) K q q1 t.world m1
       (access_meets c.rooms c.functions (load_at t.world.outer.memory a (bytes t0) false) t (λ v u1. finish (integer_value I v u1) K) _ (λ v ev.
-      bound c found (use_number v t) (λ k. pure (Word (extension I k))) K q q1 t.world m1
+      bound_run c found (use_number v t) (λ k. pure (Word (extension I k))) K q q1 t.world m1
       (number_meets c.rooms c.functions v t (λ k u1. K (Word (extension I k)) u1) _ (λ k vk.
       let same = memory-plain t0 in
       let got = (memories_correspond g t.world.outer.memory m1 fit.memory).1.loads mt base (q1 pointer) left a v rel moved
@@ -231,8 +232,8 @@ module _ (c : Setting) (found : slice_get c.functions c.number ≡ Some c.code) 
   unfolding opens
   targets ty target x whole ex hx = record {
     by = λ d rest heads place f scope r s m K at fit low next.
-        bound c found (and_then (eval c.structs c.locals c.calls scope x s) (use_value UsesNoValue)) (read_at ty) K place r s.world m
-        (bound c found (eval c.structs c.locals c.calls scope x s) (use_value UsesNoValue) (λ v t. finish (read_at ty v t) K) place r s.world m
+        bound_run c found (and_then (eval c.structs c.locals c.calls scope x s) (use_value UsesNoValue)) (read_at ty) K place r s.world m
+        (bound_run c found (eval c.structs c.locals c.calls scope x s) (use_value UsesNoValue) (λ v t. finish (read_at ty v t) K) place r s.world m
         (hx.by d (load_code L d ty 0 rest) heads place f scope r s m (λ v t. finish (use_value UsesNoValue v t) (λ v t. finish (read_at ty v t) K)) at fit low
         (λ q v g t q1 m1 at1 aft fit1 kept held stands.
         used_meets c.rooms c.functions UsesNoValue v t (λ v t. finish (read_at ty v t) K) _ (λ set.
@@ -246,9 +247,9 @@ module _ (c : Setting) (found : slice_get c.functions c.number ≡ Some c.code) 
         let off = offset_of c.structs (type_of x) member in
         let sum : member_plus c.structs (type_of x) member 0 ≡ off = ap (λ z. min z (2 ^ 63 - 1)) (nothing off) ∙ exact off (omega (arith, within.lies, within.size)) in
         let at2 = subst (λ k. Stands c heads p1 (place_code L c.structs c.locals d x k (load_code L d ty (left_of c x k) rest))) sum at in
-        bound c found (and_then (and_then (place c.structs c.locals c.calls scope x s) place_pointer) (member_pointer c.structs (type_of x) member)) (read_at ty) K p1 r s.world m
-        (bound c found (and_then (place c.structs c.locals c.calls scope x s) place_pointer) (member_pointer c.structs (type_of x) member) (λ v t. finish (read_at ty v t) K) p1 r s.world m
-        (bound c found (place c.structs c.locals c.calls scope x s) place_pointer (λ v t. finish (member_pointer c.structs (type_of x) member v t) (λ v t. finish (read_at ty v t) K)) p1 r s.world m
+        bound_run c found (and_then (and_then (place c.structs c.locals c.calls scope x s) place_pointer) (member_pointer c.structs (type_of x) member)) (read_at ty) K p1 r s.world m
+        (bound_run c found (and_then (place c.structs c.locals c.calls scope x s) place_pointer) (member_pointer c.structs (type_of x) member) (λ v t. finish (read_at ty v t) K) p1 r s.world m
+        (bound_run c found (place c.structs c.locals c.calls scope x s) place_pointer (λ v t. finish (member_pointer c.structs (type_of x) member v t) (λ v t. finish (read_at ty v t) K)) p1 r s.world m
         (hx.by d off (load_code L d ty (left_of c x off) rest) heads p1 f scope r s m (λ z t. finish (place_pointer z t) (λ v t. finish (member_pointer c.structs (type_of x) member v t) (λ v t. finish (read_at ty v t) K)))
         (omega (arith, within.lies, within.size)) (omega (arith, within.lies)) at2 fit low
         (λ q base v g t q1 m1 at1 aft fit1 kept held stands small is_base.
@@ -265,8 +266,8 @@ module _ (c : Setting) (found : slice_get c.functions c.number ≡ Some c.code) 
         let sum : member_plus c.structs (target_of (type_of x)) member 0 ≡ off =
         ap (λ z. member_plus c.structs z member 0) same_target ∙ ap (λ z. min z (2 ^ 63 - 1)) (nothing off) ∙ exact off (omega (arith, within.lies, within.size)) in
         let at2 = subst (λ k. Stands c heads p1 (expr_code L c.structs c.locals d x (load_code L d ty k rest))) sum at in
-        bound c found (and_then (eval c.structs c.locals c.calls scope x s) (member_pointer c.structs (target_of (type_of x)) member)) (read_at ty) K p1 r s.world m
-        (bound c found (eval c.structs c.locals c.calls scope x s) (member_pointer c.structs (target_of (type_of x)) member) (λ v t. finish (read_at ty v t) K) p1 r s.world m
+        bound_run c found (and_then (eval c.structs c.locals c.calls scope x s) (member_pointer c.structs (target_of (type_of x)) member)) (read_at ty) K p1 r s.world m
+        (bound_run c found (eval c.structs c.locals c.calls scope x s) (member_pointer c.structs (target_of (type_of x)) member) (λ v t. finish (read_at ty v t) K) p1 r s.world m
         (hx.by d (load_code L d ty off rest) heads p1 f scope r s m (λ v t. finish (member_pointer c.structs (target_of (type_of x)) member v t) (λ v t. finish (read_at ty v t) K)) at2 fit low
         (λ q v g t q1 m1 at1 aft fit1 kept held stands.
         meets_same c.rooms c.functions (ap (λ z. finish (member_pointer c.structs z member v t) (λ v t. finish (read_at ty v t) K)) same_target)
@@ -278,7 +279,7 @@ module _ (c : Setting) (found : slice_get c.functions c.number ≡ Some c.code) 
   unfolding opens
   addresses target x hx = record {
     by = λ d rest heads p1 f scope r s m K at fit low next.
-        bound c found (place c.structs c.locals c.calls scope x s) place_pointer K p1 r s.world m
+        bound_run c found (place c.structs c.locals c.calls scope x s) place_pointer K p1 r s.world m
         (hx.by d 0 (moved_code L d (left_of c x 0) rest) heads p1 f scope r s m (λ z t. finish (place_pointer z t) K) (omega arith) (omega arith) at fit low
         (λ q base v g t q1 m1 at1 aft fit1 kept held stands small is_base.
         moved_on d (left_of c x 0) rest heads scope r q base v g t q1 m1 at1 fit1 kept stands small (is_base v (inl (refl, refl)))

@@ -31,14 +31,15 @@ use Rattle.lowering_code.specs.declared.item.CodeItem.{CodeItem}
 use Rattle.lowering_code.specs.Registers.{value_register, address_register, object_index}
 use Rattle.lowering_code.specs.Expressions.{address_code, member_plus, place_code}
 use Rattle.lowering_states.specs.Places.{CodePlace, next_place}
-use Rattle.lowering_states.specs.Runs.{opens, CodeObservation, finish}
+use Rattle.lowering_states.specs.Runs.{CodeObservation, finish}
+use Rattle.lowering_states.specs.model.Opens.{opens}
 use Rattle.lowering_states.specs.States.{IsHeld, IsInRegister}
 use Rattle.lowering_states.proofs.Steps.{meets_same, used_meets, known_meets}
 use Rattle.lowering_states.proofs.States.{kept_all, kept_temporary, value_at, after_same, fits_temporary}
 use Rattle.lowering_values.specs.Laws.{IsMoved}
 use Rattle.lowering_expression_places.proofs.Behind.{at_plain}
 use Rattle.lowering_expression_laws.specs.Parts.{Setting, first_depth, EndsSo, Stands, ExprMeets}
-use Rattle.lowering_expression_laws.proofs.Forms.{insn_on, bound}
+use Rattle.lowering_expression_laws.proofs.Forms.{insn_on, bound_run}
 use Rattle.lowering_place_laws.specs.Places.{IsBase, left_of, PlaceMeets}
 use Rattle.lowering_place_laws.specs.Laws.{MemberIsWithin}
 
@@ -134,7 +135,7 @@ module _ (c : Setting) (found : slice_get c.functions c.number ≡ Some c.code) 
         meets_same c.rooms c.functions
         (ap (λ z. finish (local_place scope k z s) K) found_local
         ∙ ap (λ z. finish (if◌then◌else◌ {A = Run objects.ValuePlace} z (λ t. and_then (or_undefined UsesDeadObject (scope k) t) (λ o. pure (objects.At (start_pointer o)))) (pure (objects.Register k)) s) K) in_memory)
-        (bound c found (or_undefined UsesDeadObject (scope k) s) (λ o. pure (objects.At (start_pointer o))) K place r s.world m
+        (bound_run c found (or_undefined UsesDeadObject (scope k) s) (λ o. pure (objects.At (start_pointer o))) K place r s.world m
         (known_meets c.rooms c.functions UsesDeadObject (scope k) s (λ o t. K (objects.At (start_pointer o)) t) _ (λ o here.
         let w = byte_of name plus in
         address_meets d (p.Local (object_index c.locals k)) plus rest heads place r s.world m at
@@ -151,8 +152,8 @@ module _ (c : Setting) (found : slice_get c.functions c.number ≡ Some c.code) 
   targets ty target x ex hx = record {
     by = λ d plus rest heads place f scope r s m K le fits at fit low next.
         let run : Value → Run objects.ValuePlace = λ v. pure (objects.At v) in
-        bound c found (and_then (eval c.structs c.locals c.calls scope x s) (use_value UsesNoValue)) run K place r s.world m
-        (bound c found (eval c.structs c.locals c.calls scope x s) (use_value UsesNoValue) (λ v t. K (objects.At v) t) place r s.world m
+        bound_run c found (and_then (eval c.structs c.locals c.calls scope x s) (use_value UsesNoValue)) run K place r s.world m
+        (bound_run c found (eval c.structs c.locals c.calls scope x s) (use_value UsesNoValue) (λ v t. K (objects.At v) t) place r s.world m
         (hx.by d rest heads place f scope r s m (λ v t. finish (use_value UsesNoValue v t) (λ v t. K (objects.At v) t)) at fit low
         (λ q v g t q1 m1 at1 aft fit1 kept held stands.
         used_meets c.rooms c.functions UsesNoValue v t (λ v t. K (objects.At v) t) _ (λ set.
@@ -173,9 +174,9 @@ module _ (c : Setting) (found : slice_get c.functions c.number ≡ Some c.code) 
         let off = offset_of c.structs (type_of x) member in
         let sum : member_plus c.structs (type_of x) member plus ≡ off + plus = exact (off + plus) (omega (arith, within.lies, within.size, fits)) in
         let run : Value → Run objects.ValuePlace = λ v. pure (objects.At v) in
-        bound c found (and_then (and_then (place c.structs c.locals c.calls scope x s) place_pointer) (member_pointer c.structs (type_of x) member)) run K p1 r s.world m
-        (bound c found (and_then (place c.structs c.locals c.calls scope x s) place_pointer) (member_pointer c.structs (type_of x) member) (λ v t. K (objects.At v) t) p1 r s.world m
-        (bound c found (place c.structs c.locals c.calls scope x s) place_pointer (λ v t. finish (member_pointer c.structs (type_of x) member v t) (λ v t. K (objects.At v) t)) p1 r s.world m
+        bound_run c found (and_then (and_then (place c.structs c.locals c.calls scope x s) place_pointer) (member_pointer c.structs (type_of x) member)) run K p1 r s.world m
+        (bound_run c found (and_then (place c.structs c.locals c.calls scope x s) place_pointer) (member_pointer c.structs (type_of x) member) (λ v t. K (objects.At v) t) p1 r s.world m
+        (bound_run c found (place c.structs c.locals c.calls scope x s) place_pointer (λ v t. finish (member_pointer c.structs (type_of x) member v t) (λ v t. K (objects.At v) t)) p1 r s.world m
         (hx.by d (off + plus) rest heads p1 f scope r s m (λ z t. finish (place_pointer z t) (λ v t. finish (member_pointer c.structs (type_of x) member v t) (λ v t. K (objects.At v) t)))
         (omega (arith, within.lies, within.size, fits)) (omega (arith, within.lies, fits)) (subst (λ k. Stands c heads p1 (place_code L c.structs c.locals d x k rest)) sum at) fit low
         (λ q base v g t q1 m1 at1 aft fit1 kept held stands small is_base.
@@ -193,8 +194,8 @@ module _ (c : Setting) (found : slice_get c.functions c.number ≡ Some c.code) 
         let same_target : target_of (type_of x) ≡ target = ap target_of ex in
         let sum : left_of c (Arrow ty x member) plus ≡ off + plus = ap (λ z. member_plus c.structs z member plus) same_target ∙ exact (off + plus) (omega (arith, within.lies, within.size, fits)) in
         let run : Value → Run objects.ValuePlace = λ v. pure (objects.At v) in
-        bound c found (and_then (eval c.structs c.locals c.calls scope x s) (member_pointer c.structs (target_of (type_of x)) member)) run K p1 r s.world m
-        (bound c found (eval c.structs c.locals c.calls scope x s) (member_pointer c.structs (target_of (type_of x)) member) (λ v t. K (objects.At v) t) p1 r s.world m
+        bound_run c found (and_then (eval c.structs c.locals c.calls scope x s) (member_pointer c.structs (target_of (type_of x)) member)) run K p1 r s.world m
+        (bound_run c found (eval c.structs c.locals c.calls scope x s) (member_pointer c.structs (target_of (type_of x)) member) (λ v t. K (objects.At v) t) p1 r s.world m
         (hx.by d rest heads p1 f scope r s m (λ v t. finish (member_pointer c.structs (target_of (type_of x)) member v t) (λ v t. K (objects.At v) t)) at fit low
         (λ q v g t q1 m1 at1 aft fit1 kept held stands.
         meets_same c.rooms c.functions (ap (λ z. finish (member_pointer c.structs z member v t) (λ v t. K (objects.At v) t)) same_target)

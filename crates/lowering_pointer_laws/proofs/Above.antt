@@ -33,13 +33,14 @@ use Rattle.lowering_code.specs.declared.item.CodeItem.{CodeItem}
 use Rattle.lowering_code.specs.Registers.{register_type, value_register, address_register, bytes_register}
 use Rattle.lowering_code.specs.Expressions.{plain_of, cap_offset, sized_code, scaled_code, add_code, binary_code, element_code, load_code, expr_code}
 use Rattle.lowering_states.specs.Places.{CodePlace, next_place}
-use Rattle.lowering_states.specs.Runs.{opens, CodeObservation, finish}
+use Rattle.lowering_states.specs.Runs.{CodeObservation, finish}
+use Rattle.lowering_states.specs.model.Opens.{opens}
 use Rattle.lowering_states.specs.States.{IsInRegister, KeepsLower}
 use Rattle.lowering_states.proofs.Steps.{meets_same, number_meets, known_meets}
 use Rattle.lowering_states.proofs.States.{kept_on, kept_reads, kept_temporary, after_on, value_at, fits_temporary}
 use Rattle.lowering_expression_places.proofs.Behind.{at_plain}
 use Rattle.lowering_expression_laws.specs.Parts.{Setting, first_depth, EndsSo, Stands, Fit, Follows, ExprMeets}
-use Rattle.lowering_expression_laws.proofs.Forms.{WordIn, word_in, insn_on, bound}
+use Rattle.lowering_expression_laws.proofs.Forms.{WordIn, word_in, insn_on, bound_run}
 use Rattle.lowering_place_laws.specs.Places.{PlaceMeets}
 use Rattle.lowering_place_laws.specs.Laws.{HasWholeIntegers}
 use Rattle.lowering_place_laws.proofs.Places.{held_pointer, moved_held, own_base}
@@ -131,15 +132,15 @@ module _ (c : Setting) (found : slice_get c.functions c.number ≡ Some c.code) 
   moves_lead d rest heads p f scope r s m K at fit low next =
       let tail : List CodeItem = back_tail (first_depth c) c.structs d target t rest in
       let run : Value → Run Value = (λ v t1. and_then (eval c.structs c.locals c.calls scope y t1) (λ w. move_by c.structs target t w v)) in
-      bound c found (eval c.structs c.locals c.calls scope x s) run K p r s.world m
+      bound_run c found (eval c.structs c.locals c.calls scope x s) run K p r s.world m
       (hx.by d (expr_code (first_depth c) c.structs c.locals (suc d) y tail) heads p f scope r s m (λ v t1. finish (run v t1) K) at fit low
       (λ q v g t1 q1 m1 at1 aft fit1 kept held stands.
-      bound c found (eval c.structs c.locals c.calls scope y t1) (λ w. move_by c.structs target t w v) K q q1 t1.world m1
+      bound_run c found (eval c.structs c.locals c.calls scope y t1) (λ w. move_by c.structs target t w v) K q q1 t1.world m1
       (hy.by (suc d) tail heads q g scope q1 t1 m1 (λ w u. finish (move_by c.structs target t w v u) K) at1 fit1 (omega (arith, aft.turned, low))
       (λ q2 w h u q3 m2 at2 aft2 fit2 kept2 held2 stands2.
       let moves : ℕ → Run Value = (λ k. move_elements w (value t k *ℤ pos size)) in
       let rel : IsValueOf h w (q3 (address_register (first_depth c) (suc d))) = subst (λ z. IsInRegister h z w (q3 (value_register (first_depth c) (suc d) z))) ey stands2 in
-      bound c found (use_number v u) moves K q2 q3 u.world m2
+      bound_run c found (use_number v u) moves K q2 q3 u.world m2
       (number_meets c.rooms c.functions v u (λ k u1. finish (moves k u1) K) _ (λ k is.
       let word1 = word_in g (first_depth c) d (type_of x) t v k q1 ex is held stands in
       let word2 : WordIn (first_depth c) d t k q3 = record { is_one = word1.is_one; stands = kept_reads d (register_type (plain_of t)) (omega arith) kept2 ∙ word1.stands } in
@@ -173,7 +174,7 @@ module _ (c : Setting) (found : slice_get c.functions c.number ≡ Some c.code) 
   elements ty whole = record {
     by = λ d rest heads p f scope r s m K at fit low next.
         let K1 : Value → CallState → CodeObservation = (λ v u. finish (read_at ty v u) K) in
-        bound c found (run_by (element_pointer c.structs (type_of x) (type_of y)) scope s) (read_at ty) K p r s.world m
+        bound_run c found (run_by (element_pointer c.structs (type_of x) (type_of y)) scope s) (read_at ty) K p r s.world m
         (meets_same c.rooms c.functions (ap (λ z. finish z K1) (element_run scope s))
         (moves_lead d (load_code (first_depth c) d ty 0 rest) heads p f scope r s m K1
         (subst (λ z. Stands c heads p (expr_code (first_depth c) c.structs c.locals d x (expr_code (first_depth c) c.structs c.locals (suc d) y z))) (element_code_is d (load_code (first_depth c) d ty 0 rest)) at) fit low
@@ -186,7 +187,7 @@ module _ (c : Setting) (found : slice_get c.functions c.number ≡ Some c.code) 
   element_places ty = record {
     by = λ d plus rest heads p f scope r s m K small fits at fit low next.
         let K1 : Value → CallState → CodeObservation = (λ v u. K (obj.At v) u) in
-        bound c found (run_by (element_pointer c.structs (type_of x) (type_of y)) scope s) (λ v. pure (obj.At v)) K p r s.world m
+        bound_run c found (run_by (element_pointer c.structs (type_of x) (type_of y)) scope s) (λ v. pure (obj.At v)) K p r s.world m
         (meets_same c.rooms c.functions (ap (λ z. finish z K1) (element_run scope s))
         (moves_lead d rest heads p f scope r s m K1 (subst (λ z. Stands c heads p (expr_code (first_depth c) c.structs c.locals d x (expr_code (first_depth c) c.structs c.locals (suc d) y z))) (element_code_is d rest) at) fit low
         (λ q v g u q1 m1 at1 aft fit1 kept held rel. next q v v g u q1 m1 at1 aft fit1 kept (held_pointer target Void v held) rel small (own_base u.world.outer.memory v plus))));

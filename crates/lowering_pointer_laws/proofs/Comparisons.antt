@@ -33,13 +33,14 @@ use Rattle.lowering_code.specs.declared.item.CodeItem.TheVariants.{Plain}
 use Rattle.lowering_code.specs.Registers.{register_type, value_register, address_register}
 use Rattle.lowering_code.specs.Expressions.{plain_of, binary_code, expr_code}
 use Rattle.lowering_states.specs.Places.{CodePlace, next_place}
-use Rattle.lowering_states.specs.Runs.{opens, CodeObservation, finish}
+use Rattle.lowering_states.specs.Runs.{CodeObservation, finish}
+use Rattle.lowering_states.specs.model.Opens.{opens}
 use Rattle.lowering_states.specs.States.{IsInRegister, KeepsLower}
 use Rattle.lowering_states.proofs.Steps.{meets_same, known_meets}
 use Rattle.lowering_states.proofs.States.{kept_on, kept_reads, kept_temporary, after_on, value_at, fits_temporary}
 use Rattle.lowering_expression_places.proofs.Behind.{at_plain}
 use Rattle.lowering_expression_laws.specs.Parts.{Setting, first_depth, EndsSo, Stands, Fit, Aft, Follows, ExprMeets}
-use Rattle.lowering_expression_laws.proofs.Forms.{held_word, insn_on, bound}
+use Rattle.lowering_expression_laws.proofs.Forms.{held_word, insn_on, bound_run}
 use Rattle.lowering_pointer_laws.specs.Laws.{PointersAreCompared}
 
 truth_word : (x : Bool) → is_word i.Int (truth x) ≡ true
@@ -70,10 +71,10 @@ module _ (c : Setting) (found : slice_get c.functions c.number ≡ Some c.code) 
   unfolding opens
   both_lead done d tail heads p f scope r s m K at fit low next =
       let run : Value → Run Value = (λ v t1. and_then (eval c.structs c.locals c.calls scope y t1) (done v)) in
-      bound c found (eval c.structs c.locals c.calls scope x s) run K p r s.world m
+      bound_run c found (eval c.structs c.locals c.calls scope x s) run K p r s.world m
       (hx.by d (expr_code L c.structs c.locals (suc d) y tail) heads p f scope r s m (λ v t1. finish (run v t1) K) at fit low
       (λ q v g t1 q1 m1 at1 aft fit1 kept held stands.
-      bound c found (eval c.structs c.locals c.calls scope y t1) (done v) K q q1 t1.world m1
+      bound_run c found (eval c.structs c.locals c.calls scope y t1) (done v) K q q1 t1.world m1
       (hy.by (suc d) tail heads q g scope q1 t1 m1 (λ w u. finish (done v w u) K) at1 fit1 (omega (arith, aft.turned, low))
       (λ q2 w h u q3 m2 at2 aft2 fit2 kept2 held2 stands2.
       let first : IsInRegister g (Pointer target) v (q1 (address_register L d)) = subst (λ z. IsInRegister g z v (q1 (value_register L d z))) ex stands in
@@ -95,7 +96,7 @@ module _ (c : Setting) (found : slice_get c.functions c.number ≡ Some c.code) 
   unfolding opens
   compare_leads op flip reason answer d a1 a2 rest heads f scope r s m K v w h u q1 n1 q at both next there =
       let reg : ℕ = value_register L d T in
-      bound c found (or_undefined reason answer u) (λ z. pure_truth (flip z)) K q q1 u.world n1
+      bound_run c found (or_undefined reason answer u) (λ z. pure_truth (flip z)) K q q1 u.world n1
       (known_meets c.rooms c.functions reason answer u (λ z u1. K (Word (truth (flip z))) u1) _ (λ z e.
       let k : ℕ = truth (flip z) in
       insn_on c found (n.Compare op P64 reg a1 a2) q q1 u.world n1 (Word k ∷ []) at.has.0 refl

@@ -38,13 +38,14 @@ use Rattle.lowering_code.specs.declared.item.CodeItem.{CodeItem}
 use Rattle.lowering_code.specs.Registers.{value_register, address_register, bytes_register}
 use Rattle.lowering_code.specs.Expressions.{plain_of, cap_offset, sized_code, scaled_code, add_code, binary_code, negate_code, expr_code}
 use Rattle.lowering_states.specs.Places.{CodePlace, next_place}
-use Rattle.lowering_states.specs.Runs.{opens, CodeObservation, finish}
+use Rattle.lowering_states.specs.Runs.{CodeObservation, finish}
+use Rattle.lowering_states.specs.model.Opens.{opens}
 use Rattle.lowering_states.specs.States.{IsInRegister, KeepsLower}
 use Rattle.lowering_states.proofs.Steps.{meets_same, number_meets, known_meets}
 use Rattle.lowering_states.proofs.States.{set_same, kept_all, kept_on, kept_reads, kept_temporary, after_on, value_at, fits_temporary}
 use Rattle.lowering_expression_places.proofs.Behind.{at_plain}
 use Rattle.lowering_expression_laws.specs.Parts.{Setting, first_depth, EndsSo, Stands, Fit, ExprMeets}
-use Rattle.lowering_expression_laws.proofs.Forms.{WordIn, word_in, insn_on, unary_on, bound}
+use Rattle.lowering_expression_laws.proofs.Forms.{WordIn, word_in, insn_on, unary_on, bound_run}
 use Rattle.lowering_place_laws.proofs.Places.{moved_held}
 use Rattle.lowering_pointer_laws.specs.Laws.{PointersAreMoved}
 use Rattle.lowering_pointer_laws.proofs.Numbers.{IsSmall, small_fits}
@@ -142,18 +143,18 @@ module _ (c : Setting) (found : slice_get c.functions c.number ≡ Some c.code) 
         meets_same c.rooms c.functions
         (ap (λ z. finish (run_by c x y (λ v w. apply_binary c.structs b.Subtract z (type_of y) v w) scope s) K) ex ∙ ap (λ z. finish (run_by c x y (λ v w. apply_binary c.structs b.Subtract (Pointer target) z v w) scope s) K) ey
         ∙ ap (λ z. finish (run_by c x y z scope s) K) (difference_is c.structs target t))
-        (bound c found (eval c.structs c.locals c.calls scope x s) (λ v t1. and_then (eval c.structs c.locals c.calls scope y t1) (pointer_and_integer c.structs b.Subtract target t v)) K p r s.world m
+        (bound_run c found (eval c.structs c.locals c.calls scope x s) (λ v t1. and_then (eval c.structs c.locals c.calls scope y t1) (pointer_and_integer c.structs b.Subtract target t v)) K p r s.world m
         (hx.by d (expr_code (first_depth c) c.structs c.locals (suc d) y tail) heads p f scope r s m (λ v t1. finish (and_then (eval c.structs c.locals c.calls scope y t1) (pointer_and_integer c.structs b.Subtract target t v)) K)
         (subst (λ z. Stands c heads p (expr_code (first_depth c) c.structs c.locals d x (expr_code (first_depth c) c.structs c.locals (suc d) y z))) code_e at) fit low
         (λ q v g t1 q1 m1 at1 aft fit1 kept held stands.
-        bound c found (eval c.structs c.locals c.calls scope y t1) (pointer_and_integer c.structs b.Subtract target t v) K q q1 t1.world m1
+        bound_run c found (eval c.structs c.locals c.calls scope y t1) (pointer_and_integer c.structs b.Subtract target t v) K q q1 t1.world m1
         (hy.by (suc d) tail heads q g scope q1 t1 m1 (λ w u. finish (pointer_and_integer c.structs b.Subtract target t v w u) K) at1 fit1 (omega (arith, aft.turned, low))
         (λ q2 w h u q3 m2 at2 aft2 fit2 kept2 held2 stands2.
         let moves : ℕ → Run Value = (λ k. move_elements v (neg_ℤ (value t k) *ℤ pos size)) in
         let first : IsInRegister g (Pointer target) v (q1 addr) = subst (λ z. IsInRegister g z v (q1 (value_register (first_depth c) d z))) ex stands in
         let same : q3 addr ≡ q1 addr = kept_reads d P64 (omega arith) kept2 in
         let rel : IsValueOf h v (q3 addr) = subst (λ z. IsValueOf h v z) (sym same) (values_stay g h v (q1 addr) aft2.names first) in
-        bound c found (use_number w u) moves K q2 q3 u.world m2
+        bound_run c found (use_number w u) moves K q2 q3 u.world m2
         (number_meets c.rooms c.functions w u (λ k u1. finish (moves k u1) K) _ (λ k is.
         known_meets c.rooms c.functions (move_reason u.world.outer.memory v) (element_plus u.world.outer.memory v (neg_ℤ (value t k) *ℤ pos size)) u K _ (λ result e.
         let moved = moved_by u.world.outer.memory v (neg_ℤ (value t k) *ℤ pos size) result e in

@@ -6,7 +6,7 @@ use Rattle.std.specs.Ordering.{int_eq}
 use Rattle.std.specs.Int.{w64}
 use Rattle.std.proofs.Math.IntN.{+ℤ_idr}
 use Rattle.std.proofs.lemmas.Int.{quot-rem, quot_fits}
-use Rattle.std.proofs.lemmas.Bool.{eqb-true}
+use Rattle.std.proofs.lemmas.Bool.{eqb-true, and_parts}
 use Rattle.std.proofs.lemmas.Bool.Decides.{Decides-int_eq}
 use Rattle.mem_model.specs.declared.value.Ptr.{Ptr}
 use Rattle.mem_model.specs.declared.value.Value.{Value}
@@ -15,7 +15,6 @@ use Rattle.mem_model.specs.Memory.{Memory, object_at}
 use Rattle.mem_model.specs.Pointers.{is_live, size_at, is_offset, share_object, pointer_minus}
 use Rattle.mem_model.specs.World.{outer_with_memory}
 use Rattle.mem_model.proofs.Pointers.{when-some}
-use Rattle.mem_model.proofs.RowValues.{both}
 use Rattle.mem_model.proofs.RelatedPointers.{answers_correspond}
 use Rattle.data_object.specs.declared.TheConstants.{MOST_DATA}
 use Rattle.c_arithmetic.specs.declared.integer_type.IntegerType.TheVariants as i
@@ -30,7 +29,7 @@ use Rattle.c_typed_tree.specs.Types.{PlainType, Pointer}
 use Rattle.c_typed_tree.specs.Layout.{size_of}
 use Rattle.c_typed_tree.specs.Expressions.{Expr, Binary, type_of}
 use Rattle.c_semantics.specs.Reasons.{ComparesApart}
-use Rattle.c_semantics.specs.Runs.{CallState, Run, or_undefined, pure, undefined}
+use Rattle.c_semantics.specs.Runs.{CallState, Run, or_undefined, pure, undefined_behaviour}
 use Rattle.c_semantics.specs.Objects.{Scope}
 use Rattle.c_semantics.specs.Operators.{unless_dead, apply_binary, bytes_between, elements}
 use Rattle.suifvm_ir.specs.declared.types.VmType.TheVariants.{S64, P64}
@@ -45,7 +44,8 @@ use Rattle.lowering_code.specs.declared.item.CodeItem.TheVariants.{Plain}
 use Rattle.lowering_code.specs.Registers.{address_register, bytes_register}
 use Rattle.lowering_code.specs.Expressions.{plain_of, cap_offset, divided_code, binary_code, expr_code}
 use Rattle.lowering_states.specs.Places.{CodePlace, next_place}
-use Rattle.lowering_states.specs.Runs.{opens, CodeObservation, finish}
+use Rattle.lowering_states.specs.Runs.{CodeObservation, finish}
+use Rattle.lowering_states.specs.model.Opens.{opens}
 use Rattle.lowering_states.proofs.Steps.{meets_anything, meets_same, known_meets}
 use Rattle.lowering_states.proofs.States.{set_same, ne_eqb, set_other, other_depth, kept_temporary, fits_temporary}
 use Rattle.lowering_values.proofs.Operators.{operators_correspond}
@@ -53,7 +53,7 @@ use Rattle.lowering_expression_places.proofs.Behind.{at_plain}
 use Rattle.lowering_states.specs.States.{KeepsLower}
 use Rattle.mem_model.specs.Related.{Names}
 use Rattle.lowering_expression_laws.specs.Parts.{Setting, first_depth, EndsSo, Stands, Fit, Follows, ExprMeets}
-use Rattle.lowering_expression_laws.proofs.Forms.{held_word, insn_on, bound, value_of_word}
+use Rattle.lowering_expression_laws.proofs.Forms.{held_word, insn_on, bound_run, value_of_word}
 use Rattle.lowering_pointer_laws.specs.Laws.{DistancesMeet}
 use Rattle.lowering_pointer_laws.proofs.Numbers.{IsSmall, small_fits, not_less}
 use Rattle.lowering_pointer_laws.proofs.Moves.{times_one, long_is, long_value}
@@ -95,7 +95,7 @@ between m (Address p) (Address q) z e = by_tests (is_offset p.offset (size_at m 
     by_tests : (t u : Bool) → is_offset p.offset (size_at m p) ≡ t → is_offset q.offset (size_at m q) ≡ u → (if t && u then pointer_minus m (Address p) (Address q) else None) ≡ Some z → IsBetween m (Address p) (Address q) z
     by_tests true true et eu h =
         let k = when-some (share_object m p q) (p.offset -ℤ q.offset) z h in
-        let tests = both (is_live m p) (p.object == q.object) k.0 in
+        let tests = and_parts (is_live m p) (p.object == q.object) k.0 in
         let live_q : is_live m q ≡ true = ap (λ o. (object_at m o).live) (sym (eqb-true p.object q.object tests.1)) ∙ tests.0 in
         record { small = λ little. subst IsSmall k.1 (offsets_small p.offset q.offset (size_at m p) (size_at m q) et eu (little p tests.0) (little q live_q)); minus = h }
     by_tests true false et eu h = absurd (cc)
@@ -185,10 +185,10 @@ module _ (c : Setting) (found : slice_get c.functions c.number ≡ Some c.code) 
     unfolding opens
     elements_meet zero small_size q at = meets_anything c.rooms c.functions refl
     elements_meet (suc k) small_size q at =
-        meets_same c.rooms c.functions (ap (λ t. finish (if◌then◌else◌ {A = Run Value} t (undefined ComparesApart) (if int_eq (int_rem z (pos (suc k))) (pos 0) then pure (Word (word i.Long (int_div z (pos (suc k))))) else undefined ComparesApart) u) K) (ne_eqb (suc k) 0 (λ no. cc)))
+        meets_same c.rooms c.functions (ap (λ t. finish (if◌then◌else◌ {A = Run Value} t (undefined_behaviour ComparesApart) (if int_eq (int_rem z (pos (suc k))) (pos 0) then pure (Word (word i.Long (int_div z (pos (suc k))))) else undefined_behaviour ComparesApart) u) K) (ne_eqb (suc k) 0 (λ no. cc)))
         (by_rest (int_eq (int_rem z (pos (suc k))) (pos 0)) (Decides-int_eq (int_rem z (pos (suc k))) (pos 0)).0)
       where
-        by_rest : (t : Bool) → (t ≡ true → int_rem z (pos (suc k)) ≡ pos 0) → EndsSo c (finish (if◌then◌else◌ {A = Run Value} t (pure (Word (word i.Long (int_div z (pos (suc k)))))) (undefined ComparesApart) u) K) q r1 u.world n1
+        by_rest : (t : Bool) → (t ≡ true → int_rem z (pos (suc k)) ≡ pos 0) → EndsSo c (finish (if◌then◌else◌ {A = Run Value} t (pure (Word (word i.Long (int_div z (pos (suc k)))))) (undefined_behaviour ComparesApart) u) K) q r1 u.world n1
         by_rest true exact = divided k small_size (exact refl) q at
         by_rest false exact = meets_anything c.rooms c.functions refl
 
@@ -208,7 +208,7 @@ module _ (c : Setting) (found : slice_get c.functions c.number ≡ Some c.code) 
         (both_lead c found target other x y ex ey hx hy (λ v w. apply_binary c.structs b.Subtract (Pointer target) (Pointer other) v w) d (insn_code size) heads p f scope r s m K
         (subst (λ z. Stands c heads p (expr_code L c.structs c.locals d x (expr_code L c.structs c.locals (suc d) y z))) code_e at) fit low
         (λ q v w h u q1 n1 at1 pair.
-        bound c found (or_undefined (unless_dead u.world.outer.memory v w ComparesApart) (bytes_between u.world.outer.memory v w) u) (λ z. elements z size) K q q1 u.world n1
+        bound_run c found (or_undefined (unless_dead u.world.outer.memory v w ComparesApart) (bytes_between u.world.outer.memory v w) u) (λ z. elements z size) K q q1 u.world n1
         (known_meets c.rooms c.functions (unless_dead u.world.outer.memory v w ComparesApart) (bytes_between u.world.outer.memory v w) u (λ z u1. finish (elements z size u1) K) _ (λ z e.
         let is = between u.world.outer.memory v w z e in
         let there : pointer_minus n1 (q1 (address_register L d)) (q1 (address_register L (suc d))) ≡ Some z =

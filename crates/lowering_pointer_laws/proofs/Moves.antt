@@ -1,7 +1,7 @@
 -- The code of the sum of a pointer and an integer: the integer becomes a number of bytes, by which the pointer is moved.
 use Rattle.std.proofs.Common.{◌≡◌, ℕ, zero, suc, ◌<◌, ◌≤◌, ◌==◌, ◌%◌, ◌^◌, ◌*◌, ◌&&◌, ℤ, pos, negsuc, neg_ℤ, ◌+ℤ◌, ◌*ℤ◌, List, [], ◌∷◌, Bool, true, false, Some, None, refl, sym, ap, ◌∙◌, subst, arith, inl, eq-eqb}
 use Rattle.std.specs.Prelude.{if◌then◌else◌, slice_get}
-use Rattle.std.proofs.lemmas.Bool.{eqb-true}
+use Rattle.std.proofs.lemmas.Bool.{eqb-true, and_parts}
 use Rattle.std.proofs.Math.IntN.{*ℤ-zero}
 use Rattle.mem_model.specs.declared.value.Ptr.{Ptr}
 use Rattle.mem_model.specs.declared.value.Value.{Value}
@@ -11,7 +11,6 @@ use Rattle.mem_model.specs.Pointers.{ptr_plus, is_live, size_at, is_offset, poin
 use Rattle.mem_model.specs.World.{outer_with_memory}
 use Rattle.mem_model.specs.Related.{Names, IsValueOf}
 use Rattle.mem_model.proofs.Pointers.{when-some}
-use Rattle.mem_model.proofs.RowValues.{both}
 use Rattle.mem_model.proofs.RelatedRows.{values_stay}
 use Rattle.mem_model.proofs.RelatedPointers.{moves_correspond}
 use Rattle.data_object.specs.declared.TheConstants.{MOST_DATA}
@@ -46,7 +45,8 @@ use Rattle.lowering_code.specs.declared.item.CodeItem.TheVariants.{Plain}
 use Rattle.lowering_code.specs.Registers.{register_type, temporary, value_register, address_register, bytes_register}
 use Rattle.lowering_code.specs.Expressions.{plain_of, cap_offset, keeps_register, narrow_type, convert_code, sized_code, scaled_code, add_code, binary_code, element_code, load_code, expr_code}
 use Rattle.lowering_states.specs.Places.{CodePlace, next_place}
-use Rattle.lowering_states.specs.Runs.{opens, CodeObservation, finish}
+use Rattle.lowering_states.specs.Runs.{CodeObservation, finish}
+use Rattle.lowering_states.specs.model.Opens.{opens}
 use Rattle.lowering_states.specs.States.{IsInRegister, KeepsLower}
 use Rattle.lowering_states.proofs.Steps.{meets_same, number_meets, known_meets}
 use Rattle.lowering_states.proofs.States.{set_same, set_other, other_depth, kept_all, kept_on, kept_reads, kept_temporary, after_on, value_at, fits_temporary}
@@ -54,7 +54,7 @@ use Rattle.lowering_values.proofs.Integers.{kept_is, register-promoted, kept_con
 use Rattle.lowering_values.proofs.Operators.{operators_correspond}
 use Rattle.lowering_expression_places.proofs.Behind.{at_plain}
 use Rattle.lowering_expression_laws.specs.Parts.{Setting, first_depth, EndsSo, Stands, Fit, Follows, ExprMeets}
-use Rattle.lowering_expression_laws.proofs.Forms.{WordIn, word_in, insn_on, bound, value_of_word}
+use Rattle.lowering_expression_laws.proofs.Forms.{WordIn, word_in, insn_on, bound_run, value_of_word}
 use Rattle.lowering_place_laws.specs.Places.{PlaceMeets}
 use Rattle.lowering_place_laws.specs.Laws.{HasWholeIntegers}
 use Rattle.lowering_place_laws.proofs.Places.{held_pointer, long_word, moved_held, own_base}
@@ -103,7 +103,7 @@ moved_by m (Address p) z u e = by_test (is_offset p.offset (size_at m p)) refl e
     by_test false et h = absurd (cc)
     by_test true et h =
         let a = when-some (is_live m p && is_offset (p.offset +ℤ z) (size_at m p)) (Address (ptr_plus p z)) u h in
-        let tests = both (is_live m p) (is_offset (p.offset +ℤ z) (size_at m p)) a.0 in
+        let tests = and_parts (is_live m p) (is_offset (p.offset +ℤ z) (size_at m p)) a.0 in
         record { small = λ little. moved_small p.offset z (size_at m p) et tests.1 (little p tests.0); moved = h }
 
 -- registers of lower depths, and all of addresses, are as before
@@ -255,17 +255,17 @@ module _ (c : Setting) (found : slice_get c.functions c.number ≡ Some c.code) 
       let addr : ℕ = address_register (first_depth c) d in
       let tail : List CodeItem = sum_tail (first_depth c) c.structs d target t rest in
       let run : Value → Run Value = (λ v t1. and_then (eval c.structs c.locals c.calls scope y t1) (move_by c.structs target t v)) in
-      bound c found (eval c.structs c.locals c.calls scope x s) run K p r s.world m
+      bound_run c found (eval c.structs c.locals c.calls scope x s) run K p r s.world m
       (hx.by d (expr_code (first_depth c) c.structs c.locals (suc d) y tail) heads p f scope r s m (λ v t1. finish (run v t1) K) at fit low
       (λ q v g t1 q1 m1 at1 aft fit1 kept held stands.
-      bound c found (eval c.structs c.locals c.calls scope y t1) (move_by c.structs target t v) K q q1 t1.world m1
+      bound_run c found (eval c.structs c.locals c.calls scope y t1) (move_by c.structs target t v) K q q1 t1.world m1
       (hy.by (suc d) tail heads q g scope q1 t1 m1 (λ w u. finish (move_by c.structs target t v w u) K) at1 fit1 (omega (arith, aft.turned, low))
       (λ q2 w h u q3 m2 at2 aft2 fit2 kept2 held2 stands2.
       let moves : ℕ → Run Value = (λ k. move_elements v (value t k *ℤ pos size)) in
       let first : IsInRegister g (Pointer target) v (q1 addr) = subst (λ z. IsInRegister g z v (q1 (value_register (first_depth c) d z))) ex stands in
       let same : q3 addr ≡ q1 addr = kept_reads d P64 (omega arith) kept2 in
       let rel : IsValueOf h v (q3 addr) = subst (λ z. IsValueOf h v z) (sym same) (values_stay g h v (q1 addr) aft2.names first) in
-      bound c found (use_number w u) moves K q2 q3 u.world m2
+      bound_run c found (use_number w u) moves K q2 q3 u.world m2
       (number_meets c.rooms c.functions w u (λ k u1. finish (moves k u1) K) _ (λ k is.
       known_meets c.rooms c.functions (move_reason u.world.outer.memory v) (element_plus u.world.outer.memory v (value t k *ℤ pos size)) u K _ (λ result e.
       let moved = moved_by u.world.outer.memory v (value t k *ℤ pos size) result e in
@@ -308,7 +308,7 @@ module _ (c : Setting) (found : slice_get c.functions c.number ≡ Some c.code) 
   elements ty whole = record {
     by = λ d rest heads p f scope r s m K at fit low next.
         let K1 : Value → CallState → CodeObservation = (λ v u. finish (read_at ty v u) K) in
-        bound c found (run_by (element_pointer c.structs (type_of x) (type_of y)) scope s) (read_at ty) K p r s.world m
+        bound_run c found (run_by (element_pointer c.structs (type_of x) (type_of y)) scope s) (read_at ty) K p r s.world m
         (meets_same c.rooms c.functions (ap (λ z. finish z K1) (element_run scope s))
         (moves_lead d (load_code (first_depth c) d ty 0 rest) heads p f scope r s m K1
         (subst (λ z. Stands c heads p (expr_code (first_depth c) c.structs c.locals d x (expr_code (first_depth c) c.structs c.locals (suc d) y z))) (element_code_is d (load_code (first_depth c) d ty 0 rest)) at) fit low
@@ -321,7 +321,7 @@ module _ (c : Setting) (found : slice_get c.functions c.number ≡ Some c.code) 
   element_places ty = record {
     by = λ d plus rest heads p f scope r s m K small fits at fit low next.
         let K1 : Value → CallState → CodeObservation = (λ v u. K (obj.At v) u) in
-        bound c found (run_by (element_pointer c.structs (type_of x) (type_of y)) scope s) (λ v. pure (obj.At v)) K p r s.world m
+        bound_run c found (run_by (element_pointer c.structs (type_of x) (type_of y)) scope s) (λ v. pure (obj.At v)) K p r s.world m
         (meets_same c.rooms c.functions (ap (λ z. finish z K1) (element_run scope s))
         (moves_lead d rest heads p f scope r s m K1 (subst (λ z. Stands c heads p (expr_code (first_depth c) c.structs c.locals d x (expr_code (first_depth c) c.structs c.locals (suc d) y z))) (element_code_is d rest) at) fit low
         (λ q v g u q1 m1 at1 aft fit1 kept held rel. next q v v g u q1 m1 at1 aft fit1 kept (held_pointer target Void v held) rel small (own_base u.world.outer.memory v plus))));

@@ -38,58 +38,58 @@ module _ (blocks : List (List VmInsn)) (last : ℕ) (end : List VmInsn) where
   pub at_return : {heads : List ℕ} {p : CodePlace} {is : List CodeItem} (v : Option TypedRegister) → At blocks last end heads p (Return v ∷ is) → At blocks last end heads (next_block p) is
   at_return v h = record { has = h.has.1; size = omega (arith, h.size) }
 
-  abbrev Left : (List CodeItem → List CodeItem) → Type 0
-  Left piece = IsLeft blocks last end piece
+  abbrev LeavesBlock : (List CodeItem → List CodeItem) → Type 0
+  LeavesBlock piece = IsLeft blocks last end piece
 
-  left_plain : (i : VmInsn) → Left (λ is. Plain i ∷ is)
+  left_plain : (i : VmInsn) → LeavesBlock (λ is. Plain i ∷ is)
   left_plain i heads rest h = record { place = _; at = at_plain blocks last end i h.at }
 
-  left_start : Left (λ is. Start ∷ is)
+  left_start : LeavesBlock (λ is. Start ∷ is)
   left_start heads rest h = record { place = _; at = at_start blocks last end h.at }
 
-  left_jump : (name : ℕ) → Left (λ is. Jump name ∷ is)
+  left_jump : (name : ℕ) → LeavesBlock (λ is. Jump name ∷ is)
   left_jump name heads rest h = record { place = _; at = at_jump blocks last end name h.at }
 
-  left_branch : (op : VmBranchOp) (ty : VmType) (source name : ℕ) → Left (λ is. Branch op ty source name ∷ is)
+  left_branch : (op : VmBranchOp) (ty : VmType) (source name : ℕ) → LeavesBlock (λ is. Branch op ty source name ∷ is)
   left_branch op ty source name heads rest h = record { place = _; at = at_branch blocks last end op ty source name h.at }
 
-  left_return : (v : Option TypedRegister) → Left (λ is. Return v ∷ is)
+  left_return : (v : Option TypedRegister) → LeavesBlock (λ is. Return v ∷ is)
   left_return v heads rest h = record { place = _; at = at_return v h.at }
 
-  left_none : Left (λ is. is)
+  left_none : LeavesBlock (λ is. is)
   left_none heads rest h = h
 
-  left_on : {f g : List CodeItem → List CodeItem} → Left f → Left g → Left (λ is. f (g is))
+  left_on : {f g : List CodeItem → List CodeItem} → LeavesBlock f → LeavesBlock g → LeavesBlock (λ is. f (g is))
   left_on {g = g} a c heads rest h = c heads rest (a heads (g rest) h)
 
-  left_if : {f g : List CodeItem → List CodeItem} (t : Bool) → Left f → Left g → Left (λ is. if t then f is else g is)
+  left_if : {f g : List CodeItem → List CodeItem} (t : Bool) → LeavesBlock f → LeavesBlock g → LeavesBlock (λ is. if t then f is else g is)
   left_if true a c heads rest h = a heads rest h
   left_if false a c heads rest h = c heads rest h
 
   module _ (L : ℕ) (ds : List StructDef) (ls : List Local) where
-    left_value : (x : Expr) → Left (λ is. value_code L ds ls x is)
+    left_value : (x : Expr) → LeavesBlock (λ is. value_code L ds ls x is)
     left_value x = left_expr blocks last end L ds ls x 0
 
-    left_put : (ty : PlainType) (k : ℕ) → Left (λ is. put_code L ds ls ty k is)
+    left_put : (ty : PlainType) (k : ℕ) → LeavesBlock (λ is. put_code L ds ls ty k is)
     left_put Void k = left_on (left_plain _) (left_plain _)
     left_put (Int n r) k = left_on (left_plain _) (left_plain _)
     left_put (Pointer t) k = left_on (left_plain _) (left_plain _)
     left_put (Array t n) k = left_on (left_plain _) (left_plain _)
     left_put (Struct n) k = left_on (left_plain _) (left_plain _)
 
-    left_put_local : (k : ℕ) (l : Option Local) → Left (λ is. put_local_code L ds ls k l is)
+    left_put_local : (k : ℕ) (l : Option Local) → LeavesBlock (λ is. put_local_code L ds ls k l is)
     left_put_local k None = left_none
     left_put_local k (Some l) = left_if l.in_memory (left_put (type_view l.ty) k) (left_plain _)
 
-    left_initialise : (k : ℕ) (x : Option Expr) → Left (λ is. initialise_code L ds ls k x is)
+    left_initialise : (k : ℕ) (x : Option Expr) → LeavesBlock (λ is. initialise_code L ds ls k x is)
     left_initialise k None = left_none
     left_initialise k (Some x) = left_on (left_value x) (left_put_local k (slice_get ls k))
 
-    left_declares : (xs : List LocalDeclaration) → Left (λ is. declares_code L ds ls xs is)
+    left_declares : (xs : List LocalDeclaration) → LeavesBlock (λ is. declares_code L ds ls xs is)
     left_declares [] = left_none
     left_declares (x ∷ xs) = left_on (left_initialise x.number x.init) (left_declares xs)
 
-    left_first : (x : First) → Left (λ is. first_code L ds ls x is)
+    left_first : (x : First) → LeavesBlock (λ is. first_code L ds ls x is)
     left_first q.Nothing = left_none
     left_first (q.Value x) = left_value x
     left_first (q.Locals xs) = left_declares xs
@@ -102,24 +102,24 @@ module _ (blocks : List (List VmInsn)) (last : ℕ) (end : List VmInsn) where
     left_test None head heads rest h = record { place = _; at = at_repeat h.at }
     left_test (Some x) head heads rest h = left_again x head heads rest h
 
-    left_after : (x : Option Expr) → Left (λ is. after_code L ds ls x is)
+    left_after : (x : Option Expr) → LeavesBlock (λ is. after_code L ds ls x is)
     left_after None = left_none
     left_after (Some x) = left_on (left_value x) left_start
 
-    left_label : (ty : PlainType) (label : TLabel) (name : ℕ) → Left (λ is. label_code L ds ls ty label name is)
+    left_label : (ty : PlainType) (label : TLabel) (name : ℕ) → LeavesBlock (λ is. label_code L ds ls ty label name is)
     left_label ty Default name = left_none
     left_label ty (Case word) name = left_on (left_plain _) (left_on (left_plain _) (left_branch _ _ _ _))
 
-    pub left_labels : (ty : PlainType) (ts : List Target) → Left (λ is. labels_code L ds ls ty ts is)
+    pub left_labels : (ty : PlainType) (ts : List Target) → LeavesBlock (λ is. labels_code L ds ls ty ts is)
     left_labels ty [] = left_none
     left_labels ty (t ∷ ts) = left_on (left_label ty t.label t.name) (left_labels ty ts)
 
-    left_return_value : (x : Option Expr) → Left (λ is. return_code L ds ls x is)
+    left_return_value : (x : Option Expr) → LeavesBlock (λ is. return_code L ds ls x is)
     left_return_value None = left_return None
     left_return_value (Some x) = left_on (left_value x) (left_return _)
 
     mutual
-      pub left_stmt : (x : Stmt) (brk con : ℕ) → Left (λ is. stmt_code L ds ls brk con x is)
+      pub left_stmt : (x : Stmt) (brk con : ℕ) → LeavesBlock (λ is. stmt_code L ds ls brk con x is)
       left_stmt (q.Block ss) brk con heads rest h = left_stmts ss brk con heads rest h
       left_stmt (q.If x s no_else) brk con heads rest h =
           left_start heads rest (left_stmt s brk con heads (Start ∷ rest) (left_branch _ _ _ _ heads _ (left_value x heads _ h)))
@@ -151,10 +151,10 @@ module _ (blocks : List (List VmInsn)) (last : ℕ) (end : List VmInsn) where
       left_stmt q.Empty brk con heads rest h = h
       left_stmt (q.Declare d) brk con heads rest h = left_initialise d.number d.init heads rest h
 
-      pub left_stmts : (xs : Stmts) (brk con : ℕ) → Left (λ is. stmts_code L ds ls brk con xs is)
+      pub left_stmts : (xs : Stmts) (brk con : ℕ) → LeavesBlock (λ is. stmts_code L ds ls brk con xs is)
       left_stmts no_stmts brk con heads rest h = h
       left_stmts (more_stmts s ss) brk con heads rest h = left_stmts ss brk con heads rest (left_stmt s brk con heads _ h)
 
-      pub left_sections : (xs : Sections) (brk con : ℕ) → Left (λ is. sections_code L ds ls brk con xs is)
+      pub left_sections : (xs : Sections) (brk con : ℕ) → LeavesBlock (λ is. sections_code L ds ls brk con xs is)
       left_sections no_sections brk con heads rest h = h
       left_sections (more_sections label ss rest1) brk con heads rest h = left_sections rest1 brk con heads rest (left_stmts ss brk con heads _ (left_start heads _ h))

@@ -29,15 +29,16 @@ use Rattle.lowering_code.specs.Registers.{register_type, value_register}
 use Rattle.lowering_code.specs.Expressions.{plain_of, branch_by_value_code, expr_code}
 use Rattle.lowering_code.specs.Statements.{stmt_code, stmts_code}
 use Rattle.lowering_states.specs.Places.{CodePlace, next_block, start_of_block}
-use Rattle.lowering_states.specs.Runs.{opens, CodeObservation, finish}
+use Rattle.lowering_states.specs.Runs.{CodeObservation, finish}
+use Rattle.lowering_states.specs.model.Opens.{opens}
 use Rattle.lowering_states.specs.States.{IsHeld, IsInRegister}
-use Rattle.lowering_states.proofs.Steps.{fall, jump, returning, used_meets}
+use Rattle.lowering_states.proofs.Steps.{fall, jump, returning_step, used_meets}
 use Rattle.lowering_states.proofs.States.{after_same, after_on}
 use Rattle.lowering_expression_places.specs.Behind.{Somewhere}
 use Rattle.lowering_expression_places.proofs.Behind.{at_start, at_jump, at_branch}
 use Rattle.lowering_expression_laws.specs.Parts.{Setting, first_depth, EndsSo, Stands, Fit, Aft, ExprMeets}
 use Rattle.lowering_expression_laws.specs.Laws.{IsScalarType}
-use Rattle.lowering_expression_laws.proofs.Forms.{word_held, value_of_word, bound}
+use Rattle.lowering_expression_laws.proofs.Forms.{word_held, value_of_word, bound_run}
 use Rattle.lowering_expression_laws.proofs.Choices.{TestIs, test_meets, at_block, goes, passes}
 use Rattle.lowering_statement_laws.specs.Parts.{Onward, StmtMeets, StmtsMeet}
 use Rattle.lowering_statement_laws.proofs.Apart.{inner_least}
@@ -82,7 +83,7 @@ module _ (c : Setting) (found : slice_get c.functions c.number ≡ Some c.code) 
   unfolding opens
   expressions x hx = record {
     by = λ brk con rest heads p f scope r s m K apart at fit low way.
-        bound c found (eval c.structs c.locals c.calls scope x s) (λ _. pure Goes) K p r s.world m
+        bound_run c found (eval c.structs c.locals c.calls scope x s) (λ _. pure Goes) K p r s.world m
         (hx.by 0 rest heads p f scope r s m (λ _ t. K Goes t) at fit low (λ q v g t q1 m1 at1 aft fit1 kept held stands. way.goes q g t q1 m1 at1 aft fit1));
   }
 
@@ -102,7 +103,7 @@ module _ (c : Setting) (found : slice_get c.functions c.number ≡ Some c.code) 
   unfolding opens
   returns none = record {
     by = λ brk con rest heads p f scope r s m K apart at fit low way.
-        returning c.rooms c.functions c.number c.code found c.own c.waiting (n.Return None) p r s.world m [] at.has.0 refl refl (way.returns None [] f s r m after_same fit (none, refl));
+        returning_step c.rooms c.functions c.number c.code found c.own c.waiting (n.Return None) p r s.world m [] at.has.0 refl refl (way.returns None [] f s r m after_same fit (none, refl));
   }
 
   pub values : (x : Expr) → type_of x ≡ c.result → IsScalarType (type_of x) → ExprMeets c x → StmtMeets c again (q.Return (Some x))
@@ -111,13 +112,13 @@ module _ (c : Setting) (found : slice_get c.functions c.number ≡ Some c.code) 
     by = λ brk con rest heads p f scope r s m K apart at fit low way.
         let reg = value_register L 0 (type_of x) in
         let value : TypedRegister = record { ty = register_type (type_of x); register = reg } in
-        bound c found (and_then (eval c.structs c.locals c.calls scope x s) (use_value UsesNoValue)) (λ v. pure (Returns (Some v))) K p r s.world m
-        (bound c found (eval c.structs c.locals c.calls scope x s) (use_value UsesNoValue) (λ v t. K (Returns (Some v)) t) p r s.world m
+        bound_run c found (and_then (eval c.structs c.locals c.calls scope x s) (use_value UsesNoValue)) (λ v. pure (Returns (Some v))) K p r s.world m
+        (bound_run c found (eval c.structs c.locals c.calls scope x s) (use_value UsesNoValue) (λ v t. K (Returns (Some v)) t) p r s.world m
         (hx.by 0 (Return (Some value) ∷ rest) heads p f scope r s m (λ v t. finish (use_value UsesNoValue v t) (λ v t. K (Returns (Some v)) t)) at fit low
         (λ q v g t q1 m1 at1 aft fit1 kept held stands.
         used_meets c.rooms c.functions UsesNoValue v t (λ v t. K (Returns (Some v)) t) _ (λ set.
         let ok = returnable g (type_of x) v (q1 reg) scalar held stands set in
-        returning c.rooms c.functions c.number c.code found c.own c.waiting (n.Return (Some value)) q q1 t.world m1 (q1 reg ∷ []) at1.has.0 refl
+        returning_step c.rooms c.functions c.number c.code found c.own c.waiting (n.Return (Some value)) q q1 t.world m1 (q1 reg ∷ []) at1.has.0 refl
         (ap (λ z. if z then machine.Returns (q1 reg ∷ []) (outer_with_memory t.world.outer m1) else machine.Stops machine.HasNoMeaning (outer_with_memory t.world.outer m1)) ok.0)
         (way.returns (Some v) (q1 reg ∷ []) g t q1 m1 aft fit1 (q1 reg, refl, subst (λ z. IsHeld z v) same held, ok.1))))));
   }
@@ -130,8 +131,8 @@ module _ (c : Setting) (found : slice_get c.functions c.number ≡ Some c.code) 
         → EndsSo c (finish (and_then (and_then (eval c.structs c.locals c.calls scope x s) test) run) K) p r s.world m
     unfolding opens
     test_leads p at fit low =
-        bound c found (and_then (eval c.structs c.locals c.calls scope x s) test) run K p r s.world m
-        (bound c found (eval c.structs c.locals c.calls scope x s) test (λ k t. finish (run k t) K) p r s.world m
+        bound_run c found (and_then (eval c.structs c.locals c.calls scope x s) test) run K p r s.world m
+        (bound_run c found (eval c.structs c.locals c.calls scope x s) test (λ k t. finish (run k t) K) p r s.world m
         (hx.by 0 (branch_by_value_code L IfFalse 0 (type_of x) name holds_code) heads p f scope r s m (λ v t. finish (test v t) (λ k t1. finish (run k t1) K)) at fit low
         (λ q v g t q1 m1 at1 aft fit1 kept held stands.
         test_meets c found v t (λ k t1. finish (run k t1) K) _ (λ k is. by_test q g t q1 m1 v k at1 aft fit1 held stands is))))
@@ -198,7 +199,7 @@ module _ (c : Setting) (found : slice_get c.functions c.number ≡ Some c.code) 
   more a as1 ha has1 = record {
     by = λ brk con rest heads p f scope r s m K apart at fit low way.
         let run = execs c.structs c.locals c.calls again scope as1 in
-        bound c found (exec c.structs c.locals c.calls again scope a s) (and_next run) K p r s.world m
+        bound_run c found (exec c.structs c.locals c.calls again scope a s) (and_next run) K p r s.world m
         (ha.by brk con (stmts_code L c.structs c.locals brk con as1 rest) heads p f scope r s m (λ z t. finish (and_next run z t) K) (λ k lt. apart k (omega (arith, lt))) at fit low
         (record {
           goes = λ q g t q1 m1 at1 aft fit1. has1.by brk con rest heads q g scope q1 t m1 K (λ k lt. apart k (omega (arith, lt))) at1 fit1 (omega (arith, aft.turned, low)) (onward_on aft way);

@@ -15,7 +15,8 @@ use Rattle.lowering_code.specs.declared.item.CodeItem.{CodeItem}
 use Rattle.lowering_code.specs.Expressions.{branch_by_value_code}
 use Rattle.lowering_expressions.specs.declared.scope.LoweringScope.{LoweringScope}
 use Rattle.lowering_expressions.specs.Scopes.{expr_code}
-use Rattle.lowering_statements.specs.Scopes.{stmt_code, else_code, else_name}
+use Rattle.lowering_statements.specs.Scopes.{stmt_code}
+use Rattle.lowering_statements.specs.model.Scopes.{else_code, else_name}
 use Rattle.lowering_statements.specs.Levels.{declared_levels, locals_levels, stmt_levels, stmts_levels, sections_levels}
 
 -- the element at a place

@@ -5,7 +5,8 @@ ghost use Rattle.c_typed_tree.specs.View.{type_view, expr_view, local_view, firs
 ghost use Rattle.lowering_expressions.specs.Levels.{register_levels};
 ghost use Rattle.lowering_expressions.specs.Scopes.{HasLevels};
 ghost use Rattle.lowering_statements.specs.Levels.{optional_levels, declared_levels, locals_levels, first_levels};
-ghost use Rattle.lowering_statements.specs.Scopes.{put_code, put_scalar_code, put_local_code, initialise_code, declare_code, declares_code, first_code, again_code, test_code, after_code, return_code};
+ghost use Rattle.lowering_statements.specs.Scopes.{declare_code, first_code, again_code, test_code, after_code, return_code};
+ghost use Rattle.lowering_statements.specs.model.Scopes.{put_code, put_scalar_code, put_local_code, initialise_code, declares_code};
 
 use c_tree::Box;
 use c_typed_tree::{CType, TExpr, TFirst, TLocal};

@@ -6,7 +6,8 @@ ghost use Rattle.c_typed_tree.specs.model.View.{stmts_view};
 ghost use Rattle.c_typed_tree.specs.model.Lists.{sections_view, else_view};
 ghost use Rattle.lowering_expressions.specs.Scopes.{HasLevels};
 ghost use Rattle.lowering_statements.specs.Levels.{stmt_levels, else_levels, stmts_levels, sections_levels};
-ghost use Rattle.lowering_statements.specs.Scopes.{target_view, stmt_code, else_code, else_name, stmts_code, sections_code, switch_targets};
+ghost use Rattle.lowering_statements.specs.Scopes.{target_view, stmt_code};
+ghost use Rattle.lowering_statements.specs.model.Scopes.{else_code, else_name, stmts_code, sections_code, switch_targets};
 
 use crate::labels::{LabelTarget, default_name, labels};
 use crate::values::{after, again, declare, first, give, test};

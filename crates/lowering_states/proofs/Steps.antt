@@ -25,7 +25,7 @@ use Rattle.c_semantics.specs.Runs.{CallState, Run, and_then, in_world, use_value
 use Rattle.c_semantics.specs.Objects.{access}
 use Rattle.c_semantics.specs.Operators.{outcome}
 use Rattle.c_semantics.specs.Reasons.{Reason}
-use Rattle.lowering_states.specs.Runs.{opens}
+use Rattle.lowering_states.specs.model.Opens.{opens}
 use Rattle.lowering_states.specs.Places.{CodePlace, next_place, start_of_block, next_block, in_block, stands_at}
 use Rattle.lowering_states.specs.Runs.{view, CodeObservation, ObservesTrap, ObservesMore, NotDefined, observation_of, observation, finish, run, Meets, resumes, Resumes, frame_of, config}
 
@@ -142,10 +142,10 @@ module _ (rooms : Rooms) (functions : List FunctionCode) where
     no_turn insn p r w m e takes none same =
         step_over (at p r w m) (More (with_memory w m)) (insn_site insn) (site_at p (Some insn) e) (acts_turn insn p r w m None takes none) same
 
-    pub turning : {o : CodeObservation} (insn : VmInsn) (p : CodePlace) (r : Registers) (w w1 : World) (m m1 : Memory) (t : Meter) (vs : List Value) → stands_at code.blocks p ≡ Some (Some insn) → takes_turn insn ≡ true → take_turn w.meter ≡ Some t
+    pub turning_step : {o : CodeObservation} (insn : VmInsn) (p : CodePlace) (r : Registers) (w w1 : World) (m m1 : Memory) (t : Meter) (vs : List Value) → stands_at code.blocks p ≡ Some (Some insn) → takes_turn insn ≡ true → take_turn w.meter ≡ Some t
         → does insn own (map r (reads_of insn)) (outer_with_memory w.outer m) ≡ Writes vs (outer_with_memory w1.outer m1) → w1.meter ≡ t
         → Ends_so o (at (next_place p) (set_registers (writes_of insn) vs r) w1 m1) → Ends_so o (at p r w m)
-    turning insn p r w w1 m m1 t vs e takes some d meter next =
+    turning_step insn p r w w1 m m1 t vs e takes some d meter next =
         step_on (at p r w m) (at (next_place p) (set_registers (writes_of insn) vs r) w1 m1) (insn_site insn) (site_at p (Some insn) e)
         (acts_turn insn p r w m (Some t) takes some ∙ ap (λ a. act_on Value Registers rooms (vm_code functions) (at p r w m) t (insn_site insn) a) d
         ∙ ap (λ x. Goes (record { here = frame_of i own (next_place p) (set_registers (writes_of insn) vs r); callers = waiting; world = whole_world (outer_with_memory w1.outer m1) x })) (sym meter)) next
@@ -158,11 +158,11 @@ module _ (rooms : Rooms) (functions : List FunctionCode) where
         (acts_turn insn p r w m (Some t) takes some ∙ ap (λ a. act_on Value Registers rooms (vm_code functions) (at p r w m) t (insn_site insn) a) d) same
 
     -- a call is entered
-    pub calling : {o : CodeObservation} (insn : VmInsn) (p : CodePlace) (r : Registers) (w : World) (m : Memory) (t : Meter) (k : ℕ) (callee : FunctionCode) (vs : List Value) → stands_at code.blocks p ≡ Some (Some insn) → takes_turn insn ≡ true
+    pub calling_step : {o : CodeObservation} (insn : VmInsn) (p : CodePlace) (r : Registers) (w : World) (m : Memory) (t : Meter) (k : ℕ) (callee : FunctionCode) (vs : List Value) → stands_at code.blocks p ≡ Some (Some insn) → takes_turn insn ≡ true
         → take_turn w.meter ≡ Some t → slice_get functions k ≡ Some callee
         → does insn own (map r (reads_of insn)) (outer_with_memory w.outer m) ≡ Calls k vs (outer_with_memory w.outer m)
         → Ends_so o (config k (length m) (frame_of i own p r ∷ waiting) (start_of_block 0) (registers_of vs) (with_meter w (enter_call rooms k t)) (begin_objects m callee.sizes)) → Ends_so o (at p r w m)
-    calling insn p r w m t k callee vs e takes some there d next =
+    calling_step insn p r w m t k callee vs e takes some there d next =
         step_on (at p r w m) (config k (length m) (frame_of i own p r ∷ waiting) (start_of_block 0) (registers_of vs) (with_meter w (enter_call rooms k t)) (begin_objects m callee.sizes)) (insn_site insn) (site_at p (Some insn) e)
         (acts_turn insn p r w m (Some t) takes some ∙ ap (λ a. act_on Value Registers rooms (vm_code functions) (at p r w m) t (insn_site insn) a) d
         ∙ ap (λ x. Goes (config k (length m) (frame_of i own p r ∷ waiting) (start_of_block 0) (registers_of vs) (with_meter w (enter_call rooms k t)) (begin_objects m (sizes_in x)))) there) next
@@ -179,10 +179,10 @@ module _ (rooms : Rooms) (functions : List FunctionCode) where
     abbrev pub left : World → Memory → World
     left w m = with_memory (with_meter w (leave_call rooms i w.meter)) (end_objects m own (length code.sizes))
 
-    pub returning : {o : CodeObservation} (insn : VmInsn) (p : CodePlace) (r : Registers) (w : World) (m : Memory) (vs : List Value) → stands_at code.blocks p ≡ Some (Some insn) → takes_turn insn ≡ false
+    pub returning_step : {o : CodeObservation} (insn : VmInsn) (p : CodePlace) (r : Registers) (w : World) (m : Memory) (vs : List Value) → stands_at code.blocks p ≡ Some (Some insn) → takes_turn insn ≡ false
         → does insn own (map r (reads_of insn)) (outer_with_memory w.outer m) ≡ Returns vs (outer_with_memory w.outer m)
         → Resumes rooms functions o vs (left w m) waiting → Ends_so o (at p r w m)
-    returning insn p r w m vs e calm d next =
+    returning_step insn p r w m vs e calm d next =
         step_back (at p r w m) vs (left w m) (insn_site insn) (site_at p (Some insn) e)
         (acts insn p r w m calm ∙ ap (λ a. act_on Value Registers rooms (vm_code functions) (at p r w m) w.meter (insn_site insn) a) d
         ∙ ap (λ x. resumes rooms functions ((vm_code functions).number (at p r w m).here.point) vs (with_memory (with_meter w (leave_call rooms i w.meter)) (end_objects m own (length (sizes_in x)))) waiting) found) next

@@ -7,14 +7,8 @@ use Rattle.mem_model.specs.Ending.{Ending, Done, Trap, Undefined, More, Evaluati
 use Rattle.machine_model.specs.Machine as machine
 use Rattle.machine_model.specs.Machine.{Frame, Config, Next, Goes, Over, go_on, exec}
 use Rattle.vm_meaning.specs.Behave.{FunctionCode, Registers, vm_code}
-use Rattle.c_semantics.specs.Runs.{CallState, ◌>>=◌, pure, undefined, trap, exit, no_turn, turn, on_memory, set_memory, read_register, write_register}
-use Rattle.c_semantics.specs.Evaluates.{put_character, get}
+use Rattle.c_semantics.specs.Runs.{CallState}
 use Rattle.lowering_states.specs.Places.{CodePlace}
-
--- opens the runs of the C meaning
-unfoldable pub opens : Unit {0}
-unfolding ◌>>=◌ pure undefined trap exit no_turn turn on_memory set_memory read_register write_register put_character get
-opens = tt
 
 -- what is seen of the world in which a run ends
 pub record View : Type 0 where

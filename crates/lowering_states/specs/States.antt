@@ -46,14 +46,10 @@ is_live m o = (object_at m o).live
 abbrev pub size_in : Memory → ℕ → ℕ
 size_in m o = length (object_at m o).cells
 
--- what a local holds, where a register does, and where the object of one in memory stands
+-- what a local holds
 abbrev pub type_at : Option Local → PlainType
 type_at None = Void
 type_at (Some l) = type_view l.ty
-
-abbrev pub in_memory_at : Option Local → Bool
-in_memory_at None = false
-in_memory_at (Some l) = l.in_memory
 
 -- The code stands beside the C meaning within a call: of a unit with so many objects of static storage, of a function
 -- with these locals, whose first object has the number own. names says which object of the code stands for one of the

@@ -19,13 +19,14 @@ use Rattle.lowering_code.specs.Items as items
 use Rattle.lowering_code.specs.Expressions.{plain_of}
 use Rattle.lowering_code.specs.Statements.{default_name, labels_code, stmts_code, sections_code, switch_targets}
 use Rattle.lowering_states.specs.Places.{CodePlace, next_block, start_of_block}
-use Rattle.lowering_states.specs.Runs.{opens, CodeObservation, finish}
+use Rattle.lowering_states.specs.Runs.{CodeObservation, finish}
+use Rattle.lowering_states.specs.model.Opens.{opens}
 use Rattle.lowering_states.proofs.Steps.{fall, jump, number_meets}
 use Rattle.lowering_states.proofs.States.{after_same}
 use Rattle.lowering_expression_places.specs.Behind.{Somewhere}
 use Rattle.lowering_expression_places.proofs.Behind.{at_start, at_jump}
 use Rattle.lowering_expression_laws.specs.Parts.{Setting, first_depth, EndsSo, Stands, Fit, ExprMeets}
-use Rattle.lowering_expression_laws.proofs.Forms.{bound, word_in}
+use Rattle.lowering_expression_laws.proofs.Forms.{bound_run, word_in}
 use Rattle.lowering_expression_laws.proofs.Choices.{at_block}
 use Rattle.lowering_statement_laws.specs.Parts.{AreApart, inner_of_all, Onward, StmtMeets, StmtsMeet}
 use Rattle.lowering_statement_laws.proofs.Apart.{inner_least}
@@ -70,7 +71,7 @@ module _ (c : Setting) (found : slice_get c.functions c.number ≡ Some c.code) 
       → EndsSo c (finish (and_then (execs c.structs c.locals c.calls again scope ss s) (and_next (run_all scope sections))) K) p r s.world m
   unfolding opens
   section_leads ss sections hss others p f scope r s m K apart behind at fit low way =
-      bound c found (execs c.structs c.locals c.calls again scope ss s) (and_next (run_all scope sections)) K p r s.world m
+      bound_run c found (execs c.structs c.locals c.calls again scope ss s) (and_next (run_all scope sections)) K p r s.world m
       (hss.by brk con (code sections) heads p f scope r s m (λ z u. finish (and_next (run_all scope sections) z u) K) apart at fit low
       (record {
         goes = λ q g u r1 n at1 aft fit1. others q g scope r1 u n K behind at1 fit1 (omega (arith, aft.turned, low)) (onward_on c found again {s = s} {t = u} aft way);
@@ -157,9 +158,9 @@ module _ (c : Setting) (found : slice_get c.functions c.number ≡ Some c.code) 
         let tail : List CodeItem = Jump (default_name (items.block_total rest) targets) ∷ bodies in
         let chosen : ℕ → Run StatementFlow = (λ k. exec_from c.structs c.locals c.calls again scope (target_in k sections) sections) in
         let K1 : StatementFlow → CallState → CodeObservation = (λ z u. finish (after_switch z u) K) in
-        bound c found (and_then (and_then (eval c.structs c.locals c.calls scope x s) use_number) chosen) after_switch K p r s.world m
-        (bound c found (and_then (eval c.structs c.locals c.calls scope x s) use_number) chosen K1 p r s.world m
-        (bound c found (eval c.structs c.locals c.calls scope x s) use_number (λ k u. finish (chosen k u) K1) p r s.world m
+        bound_run c found (and_then (and_then (eval c.structs c.locals c.calls scope x s) use_number) chosen) after_switch K p r s.world m
+        (bound_run c found (and_then (eval c.structs c.locals c.calls scope x s) use_number) chosen K1 p r s.world m
+        (bound_run c found (eval c.structs c.locals c.calls scope x s) use_number (λ k u. finish (chosen k u) K1) p r s.world m
         (hx.by 0 (labels_code (first_depth c) c.structs c.locals (type_of x) targets tail) heads p f scope r s m (λ v u. finish (use_number v u) (λ k u1. finish (chosen k u1) K1)) at fit low
         (λ q v g u q1 m1 at1 aft fit1 kept held stands.
         number_meets c.rooms c.functions v u (λ k u1. finish (chosen k u1) K1) _ (λ k is.

@@ -15,11 +15,11 @@ use Rattle.c_typed_tree.specs.View.{type_view, stmt_view}
 use Rattle.c_typed_tree.specs.Statements.{Stmt}
 use Rattle.c_typed_tree.specs.Lawful.{IsTypedUnit, types_of_parameters}
 use Rattle.c_semantics.specs.Reasons.{UsesNoValue}
-use Rattle.c_semantics.specs.Runs.{Run, no_turn, undefined, turn, ◌>>◌}
+use Rattle.c_semantics.specs.Runs.{Run, no_turn, undefined_behaviour, turn, ◌>>◌}
 use Rattle.c_semantics.specs.Objects.{Scope}
 use Rattle.c_semantics.specs.Evaluates.{Functions}
 use Rattle.c_semantics.specs.Executes.{StatementFlow, Level, exec, within_call, call_with_turn, calls_of, function_locals, level}
-use Rattle.lowering_states.specs.Runs.{opens}
+use Rattle.lowering_states.specs.model.Opens.{opens}
 use Rattle.lowering_states.proofs.Steps.{meets_anything}
 use Rattle.lowering_expression_laws.specs.Parts.{Setting}
 use Rattle.lowering_statement_laws.specs.Parts.{StmtMeets}
@@ -79,7 +79,7 @@ module _ (u : TypedUnit) (lawful : IsTypedUnit u) (rooms : Rooms) where
 
   -- a function that has no meaning
   abbrev stuck : Functions
-  stuck k vs = turn >> within_call rooms k (undefined UsesNoValue)
+  stuck k vs = turn >> within_call rooms k (undefined_behaviour UsesNoValue)
 
   module _ (m : ℕ) where
     abbrev cut : ℕ → Functions
@@ -120,7 +120,7 @@ module _ (u : TypedUnit) (lawful : IsTypedUnit u) (rooms : Rooms) where
         function_meets j k1 g e1 false past = record {
           code = code_for ds g;
           found = code_at k1 g e1;
-          body = λ vs. undefined UsesNoValue;
+          body = λ vs. undefined_behaviour UsesNoValue;
           is = λ vs. ap (λ (h : Functions). h k1 vs) (cut_above j past);
           by = λ vs ws names s n after K args statics mem small bytes low next. meets_anything rooms codes refl;
         }

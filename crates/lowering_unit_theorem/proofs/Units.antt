@@ -22,7 +22,8 @@ use Rattle.c_semantics.specs.Executes.{StatementFlow, Returns, enter_function, l
 use Rattle.c_semantics.specs.Executes as x
 use Rattle.c_semantics.specs.Behaves.{world_of, status_of, ending_of, run_of, main_of, run_main}
 use Rattle.lowering_states.specs.Places.{start_of_block}
-use Rattle.lowering_states.specs.Runs.{opens, View, view, CodeObservation, ObservesDone, ObservesTrap, ObservesMore, NotDefined, NotOver, observation_of, observation, finish, Meets, Resumes, config}
+use Rattle.lowering_states.specs.Runs.{View, view, CodeObservation, ObservesDone, ObservesTrap, ObservesMore, NotDefined, NotOver, observation_of, observation, finish, Meets, Resumes, config}
+use Rattle.lowering_states.specs.model.Opens.{opens}
 use Rattle.lowering_states.specs.Runs as code
 use Rattle.lowering_states.specs.States.{IsHeld, After}
 use Rattle.lowering_states.proofs.Steps.{finish-bind}

@@ -19,7 +19,7 @@ use Rattle.alpha_isa.specs.Step.{MachineNext, Goes, Over, Done, Trap, Stuck, nex
 use Rattle.alpha_isa.specs.Words.{insn_of}
 use Rattle.alpha_isa.proofs.Arithmetic.{sign_extended-below}
 use Rattle.alpha_isa.proofs.Words.{decoded_word}
-use Rattle.flat_memory.specs.Bytes.{AreBytes}
+use Rattle.mem_model.specs.Bytes.{AreBytes}
 use Rattle.flat_memory.proofs.Numbers.{low_bytes-are}
 use Rattle.flat_memory.proofs.Machine.{numbers_of_accesses}
 use Rattle.frame_instructions.proofs.Words.{given-below}

@@ -4,7 +4,7 @@ use Rattle.alpha_isa.specs.Program.{Program, IsLawful}
 use Rattle.alpha_isa.specs.State.{State}
 use Rattle.alpha_isa.specs.Step.{Goes, exec}
 use Rattle.item_steps.specs.Steps.{HoldsWords}
-use Rattle.flat_memory.specs.Bytes.{AreBytes}
+use Rattle.mem_model.specs.Bytes.{AreBytes}
 
 pub record IsBounded (s : State) : Type 0 where
   pub words : HoldsWords s

@@ -122,7 +122,7 @@ fn quotient(alloc: Global, routine: u32, dividend: u64, divisor: u64) -> Result<
     let mut machine = Machine::load(alloc, &image, 4096)?;
     let mut out = MemSink::new(alloc, 64, Vec::new(alloc))?;
     let ending = machine.run(BUDGET, &mut EmptySource, &mut out);
-    let shown = match (ending, out.taken()) {
+    let shown = match (ending, out.taken_bytes()) {
         (Ending::Done { status: 0 }, [a, b, c, d, e, f, g, h]) => {
             let word = u64::from_le_bytes([*a, *b, *c, *d, *e, *f, *g, *h]);
             format!(in alloc; "{word:x}")?

@@ -1,16 +1,13 @@
 //! Runs of a machine, some steps at a time.
 
 use alpha_isa::image::Image;
+use alpha_isa::limits::{MOST_BYTES, MOST_WORDS};
 use alpha_run::machine::Machine;
 use anyhow::{Context, Result, bail, ensure};
 use bk_io::memory::{MemSink, MemSource};
 use row_sheets::escape::unescape;
 use row_sheets::number::{number, numbers, word};
 use std::alloc::Global;
-
-const MOST_WORDS: usize = 1 << 28;
-
-const MOST_BYTES: usize = 67_108_864;
 
 /// The image of words, data and an entry.
 pub fn image_of(words: Vec<u32>, bytes: Vec<u8>, entry: u32) -> Result<Image> {
@@ -20,10 +17,10 @@ pub fn image_of(words: Vec<u32>, bytes: Vec<u8>, entry: u32) -> Result<Image> {
 /// The image of words, data with zeros behind it, and an entry.
 fn image_with_zeros(words: Vec<u32>, bytes: Vec<u8>, zeros: u32, entry: u32) -> Result<Image> {
     ensure!(!words.is_empty(), "an image has a word");
-    ensure!(words.len() <= MOST_WORDS, "too many words");
-    ensure!(bytes.len() <= MOST_BYTES, "too many bytes");
+    ensure!(words.len() <= MOST_WORDS as usize, "too many words");
+    ensure!(bytes.len() <= MOST_BYTES as usize, "too many bytes");
     ensure!(
-        bytes.len() + (zeros as usize) <= MOST_BYTES,
+        bytes.len() + (zeros as usize) <= MOST_BYTES as usize,
         "too many zeros"
     );
     ensure!((entry as usize) < words.len(), "the entry is no word");
@@ -112,7 +109,7 @@ impl Run {
         }
         shown.push_str("out ")?;
         let mut shown = shown.into_bytes();
-        shown.extend_from_slice(out.taken())?;
+        shown.extend_from_slice(out.taken_bytes())?;
         shown.push(b'\n')?;
         Ok(shown)
     }

@@ -49,7 +49,7 @@ const STEP: usize = 6;
 const ENTRY: u32 = 2;
 
 /// What a step leaves: where it goes on, register 4 and memory, or how the run ends there.
-fn left(alloc: Global, ending: Ending, put: &[u8]) -> Result<String> {
+fn step_text(alloc: Global, ending: Ending, put: &[u8]) -> Result<String> {
     let [place, register @ .., a, b, c, d, e, f, g, h] = put else {
         return Ok(format!(in alloc; "{ending:?}\n")?);
     };
@@ -80,7 +80,7 @@ fn step(alloc: Global, word: u32, data: [u64; 4]) -> Result<String> {
     let mut machine = Machine::load(alloc, &image, 4096)?;
     let mut out = MemSink::new(alloc, 64, Vec::new(alloc))?;
     let ending = machine.run(1000, &mut EmptySource, &mut out);
-    left(alloc, ending, out.taken())
+    step_text(alloc, ending, out.taken_bytes())
 }
 
 /// What the step of a row leaves.

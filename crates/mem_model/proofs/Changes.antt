@@ -195,14 +195,14 @@ length-row_at m p size within = elim (cases_eq size 0) [ inl none ↦ ap (λ n. 
         let positive : 0 < size = omega arith in
         length-row (object_at m p.object).cells (place_of p.offset) size (inside m p size (object_at m p.object) (place_of p.offset) refl refl positive within)
 
-pub record Copied (m new : Memory) (to from : Ptr) (size : ℕ) : Type 0 where
+pub record CanBeCopied (m new : Memory) (to from : Ptr) (size : ℕ) : Type 0 where
   pub live : is_gone m to ≡ false
   pub within : is_outside m to size ≡ false
   pub stands : MayStand m to (row_at m from size)
   pub len : length (row_at m from size) ≡ size
   pub is : put_row m to (row_at m from size) ≡ new
 
-pub copy_is : (m new : Memory) (to from : Ptr) (size align : ℕ) → copy_at m to from size align ≡ Ok new → Copied m new to from size
+pub copy_is : (m new : Memory) (to from : Ptr) (size align : ℕ) → copy_at m to from size align ≡ Ok new → CanBeCopied m new to from size
 copy_is m new to from size align e =
     let f = copy_at-ok m new to from size align e in
     let gone = none_left (is_gone m to) (is_gone m from) f.first in

@@ -3,7 +3,7 @@ use Rattle.std.proofs.Common.{◌≡◌, ℕ, zero, suc, Bool, true, false, leng
 use Rattle.std.specs.Prelude.{◌==◌, ◌&&◌, ◌||◌, not, ℤ, pos, ◌+ℤ◌, ◌-ℤ◌, int_lt, int_le, if◌then◌else◌}
 use Rattle.std.specs.Ordering.{int_eq}
 use Rattle.std.proofs.lemmas.Int.{ints}
-use Rattle.std.proofs.lemmas.Bool.{eqb-true, eq-eqb}
+use Rattle.std.proofs.lemmas.Bool.{eqb-true, eq-eqb, and_parts}
 use Rattle.mem_model.specs.declared.value.Ptr.{Ptr}
 use Rattle.mem_model.specs.declared.value.Value.{Value}
 use Rattle.mem_model.specs.declared.value.Value.TheVariants.{Word, Address, Unset}
@@ -11,7 +11,7 @@ use Rattle.mem_model.specs.Memory.{Memory, object_at}
 use Rattle.mem_model.specs.Pointers.{ptr_plus, is_live, size_at, is_offset, is_at_end, share_object, option_if, pointer_plus, pointer_minus, pointer_lt, pointer_le, pointer_eq, addresses_eq, is_null}
 use Rattle.mem_model.specs.Laws.{ChangesCells}
 use Rattle.mem_model.specs.PointerLaws.{SamePointers}
-use Rattle.mem_model.proofs.RowValues.{both, same_ptr}
+use Rattle.mem_model.proofs.RowValues.{same_ptr}
 use Rattle.mem_model.proofs.Changes.{live-kept, size-kept}
 
 -- an answer that was given, and one where the test holds
@@ -45,7 +45,7 @@ minus_undoes_plus m (Word n) u a e = absurd (cc)
 minus_undoes_plus m Unset u a e = absurd (cc)
 minus_undoes_plus m (Address p) u a e =
     let h = when-some (is_live m p && is_offset (p.offset +ℤ a) (size_at m p)) (Address (ptr_plus p a)) u e in
-    let tests = both (is_live m p) (is_offset (p.offset +ℤ a) (size_at m p)) h.0 in
+    let tests = and_parts (is_live m p) (is_offset (p.offset +ℤ a) (size_at m p)) h.0 in
     let distance : (p.offset +ℤ a) -ℤ p.offset ≡ a = omega (arith, ints) in
     subst (λ x. pointer_minus m x (Address p) ≡ Some a) h.1
     (when-true (is_live m p && p.object == p.object) ((p.offset +ℤ a) -ℤ p.offset) a (and-true (is_live m p) (p.object == p.object) tests.0 (eq-eqb p.object p.object refl)) distance)
@@ -54,10 +54,10 @@ minus_undoes_plus m (Address p) u a e =
 there_again : (m : Memory) (p q : Ptr) (a : ℤ) → pointer_plus m (Address q) (pos 0) ≡ Some (Address q) → pointer_minus m (Address q) (Address p) ≡ Some a → pointer_plus m (Address p) a ≡ Some (Address q)
 there_again m p q a stands e =
     let h = when-some (share_object m q p) (q.offset -ℤ p.offset) a e in
-    let tests = both (is_live m q) (q.object == p.object) h.0 in
+    let tests = and_parts (is_live m q) (q.object == p.object) h.0 in
     let same : q.object ≡ p.object = eqb-true q.object p.object tests.1 in
     let k = when-some (is_live m q && is_offset (q.offset +ℤ pos 0) (size_at m q)) (Address (ptr_plus q (pos 0))) (Address q) stands in
-    let within = (both (is_live m q) (is_offset (q.offset +ℤ pos 0) (size_at m q)) k.0).1 in
+    let within = (and_parts (is_live m q) (is_offset (q.offset +ℤ pos 0) (size_at m q)) k.0).1 in
     let distance : q.offset -ℤ p.offset ≡ a = h.1 in
     let nought : q.offset +ℤ pos 0 ≡ q.offset = omega (arith, ints) in
     let sum : p.offset +ℤ a ≡ q.offset = omega (arith, ints) in

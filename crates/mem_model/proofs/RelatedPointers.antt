@@ -2,7 +2,7 @@
 use Rattle.std.proofs.Common.{◌≡◌, zero, suc, Bool, true, false, Option, Some, None, refl, sym, ap, ◌∙◌, subst}
 use Rattle.std.specs.Prelude.{◌==◌, ◌&&◌, ◌||◌, not, ℤ, ◌+ℤ◌, ◌-ℤ◌, int_lt, int_le, if◌then◌else◌}
 use Rattle.std.specs.Ordering.{int_eq}
-use Rattle.std.proofs.lemmas.Bool.{eqb-true}
+use Rattle.std.proofs.lemmas.Bool.{eqb-true, and_parts}
 use Rattle.mem_model.specs.declared.value.Ptr.{Ptr}
 use Rattle.mem_model.specs.declared.value.Value.{Value}
 use Rattle.mem_model.specs.declared.value.Value.TheVariants.{Word, Address, Unset}
@@ -10,7 +10,6 @@ use Rattle.mem_model.specs.Memory.{Memory, object_at}
 use Rattle.mem_model.specs.Pointers.{ptr_plus, is_live, size_at, is_offset, is_at_end, share_object, option_if, pointer_plus, pointer_minus, pointer_lt, pointer_le, pointer_eq, addresses_eq, is_null}
 use Rattle.mem_model.specs.Related.{Names, IsPointerOf, IsValueOf, IsMemoryOf}
 use Rattle.mem_model.specs.RelatedMemoryLaws.{SameAnswers}
-use Rattle.mem_model.proofs.RowValues.{both}
 use Rattle.mem_model.proofs.Pointers.{when-some, when-true, and-true}
 use Rattle.mem_model.proofs.RelatedMemory.{meet, same_object}
 
@@ -21,7 +20,7 @@ module _ (f : Names) (m n : Memory) (h : IsMemoryOf f m n) where
   moves_correspond (Address p) w u by r e =
       let q = r.0 in
       let a = when-some (is_live m p && is_offset (p.offset +ℤ by) (size_at m p)) (Address (ptr_plus p by)) u e in
-      let tests = both (is_live m p) (is_offset (p.offset +ℤ by) (size_at m p)) a.0 in
+      let tests = and_parts (is_live m p) (is_offset (p.offset +ℤ by) (size_at m p)) a.0 in
       let met = meet f m n p r.0 h r.2 tests.0 in
       let offset : (r.0).offset +ℤ by ≡ p.offset +ℤ by = ap (λ z. z +ℤ by) r.2.offset in
       let inside : is_offset ((r.0).offset +ℤ by) (size_at n r.0) ≡ true = ap (λ z. is_offset z (size_at n r.0)) offset ∙ ap (is_offset (p.offset +ℤ by)) met.size ∙ tests.1 in
@@ -33,7 +32,7 @@ module _ (f : Names) (m n : Memory) (h : IsMemoryOf f m n) where
   in_one_object : {A : Type 0} (p q p1 q1 : Ptr) (x y a : A) → IsPointerOf f p p1 → IsPointerOf f q q1 → x ≡ y → option_if (share_object m p q) x ≡ Some a → option_if (share_object n p1 q1) y ≡ Some a
   in_one_object p q p1 q1 x y a pp qq same e =
       let b = when-some (share_object m p q) x a e in
-      let tests = both (is_live m p) (p.object == q.object) b.0 in
+      let tests = and_parts (is_live m p) (p.object == q.object) b.0 in
       let lq : is_live m q ≡ true = ap (λ o. (object_at m o).live) (sym (eqb-true p.object q.object tests.1)) ∙ tests.0 in
       let met = meet f m n p p1 h pp tests.0 in
       let objects = same_object f m n p q p1 q1 h pp qq tests.0 lq in
@@ -94,7 +93,7 @@ module _ (f : Names) (m n : Memory) (h : IsMemoryOf f m n) where
   eq_same : (v1 v2 w1 w2 : Value) (b : Bool) → IsValueOf f v1 w1 → IsValueOf f v2 w2 → pointer_eq m v1 v2 ≡ Some b → pointer_eq n w1 w2 ≡ Some b
   eq_same (Address p) (Address q) w1 w2 b r s e =
       let a = choice_is (is_live m p && is_live m q) (addresses_eq m p q) b e in
-      let tests = both (is_live m p) (is_live m q) a.0 in
+      let tests = and_parts (is_live m p) (is_live m q) a.0 in
       let mp = meet f m n p r.0 h r.2 tests.0 in
       let mq = meet f m n q s.0 h s.2 tests.1 in
       ap (λ z. pointer_eq n z w2) r.1 ∙ ap (pointer_eq n (Address r.0)) s.1

@@ -4,7 +4,7 @@ use Rattle.std.specs.Prelude.{slice_get, ◌==◌, ◌&&◌, option_map, ok_or}
 use Rattle.std.specs.List.{list_any}
 use Rattle.std.specs.Int.{to_le_bytes, w64}
 use Rattle.std.specs.Ordering.{int_eq}
-use Rattle.std.proofs.lemmas.Bool.{eqb-true, eq-eqb, cases_lt}
+use Rattle.std.proofs.lemmas.Bool.{eqb-true, eq-eqb, cases_lt, and_parts}
 use Rattle.std.proofs.lemmas.Nat.{pow_below, pow-add}
 use Rattle.std.proofs.lemmas.List.{get_or-take, get_or-drop, take_more, take_all}
 use Rattle.std.proofs.lemmas.List.Folds.{list_any_at, list_any-append}
@@ -21,12 +21,6 @@ use Rattle.mem_model.specs.declared.value.Cell.{Cell}
 use Rattle.mem_model.specs.declared.value.Cell.TheVariants.{Empty, Byte, Part}
 use Rattle.mem_model.specs.declared.value.MemFault.TheVariants.{Never, PartPointer}
 
--- both of two tests
-pub both : (a b : Bool) → (a && b) ≡ true → (a ≡ true) × (b ≡ true)
-both true true e = (refl, refl)
-both true false e = absurd (cc)
-both false b e = absurd (cc)
-
 pub cells_eq-refl : ((c : Cell) → cell_eq c c ≡ true) → (cs : List Cell) → cells_eq cs cs ≡ true
 cells_eq-refl same [] = refl
 cells_eq-refl same (c ∷ cs) = ap (λ b. b && cells_eq cs cs) (same c) ∙ cells_eq-refl same cs
@@ -36,7 +30,7 @@ cells_eq-true same [] [] e = refl
 cells_eq-true same [] (d ∷ ds) e = absurd (cc)
 cells_eq-true same (c ∷ cs) [] e = absurd (cc)
 cells_eq-true same (c ∷ cs) (d ∷ ds) e =
-    let h = both (cell_eq c d) (cells_eq cs ds) e in cc (same c d h.0, cells_eq-true same cs ds h.1)
+    let h = and_parts (cell_eq c d) (cells_eq cs ds) e in cc (same c d h.0, cells_eq-true same cs ds h.1)
 
 -- the bytes of a number, as its type gives them
 pub le_bytes : (n : ℕ) (bs : List ℕ) → bs ≡ to_le_bytes w64 n → Byte (get_or bs 0 0) ∷ Byte (get_or bs 1 0) ∷ Byte (get_or bs 2 0) ∷ Byte (get_or bs 3 0) ∷ Byte (get_or bs 4 0) ∷ Byte (get_or bs 5 0) ∷ Byte (get_or bs 6 0) ∷ Byte (get_or bs 7 0) ∷ [] ≡ bytes_of 8 n
@@ -144,8 +138,8 @@ cell_eq-true (Byte a) (Part q k) e = absurd (cc)
 cell_eq-true (Byte a) Empty e = absurd (cc)
 cell_eq-true (Part p j) (Byte b) e = absurd (cc)
 cell_eq-true (Part p j) (Part q k) e =
-    let h = both (p.object == q.object && int_eq p.offset q.offset) (j == k) e in
-    let i = both (p.object == q.object) (int_eq p.offset q.offset) h.0 in
+    let h = and_parts (p.object == q.object && int_eq p.offset q.offset) (j == k) e in
+    let i = and_parts (p.object == q.object) (int_eq p.offset q.offset) h.0 in
     cc (same_ptr p q (eqb-true p.object q.object i.0) ((Decides-int_eq p.offset q.offset).0 i.1), eqb-true j k h.1)
 cell_eq-true (Part p j) Empty e = absurd (cc)
 cell_eq-true Empty (Byte b) e = absurd (cc)

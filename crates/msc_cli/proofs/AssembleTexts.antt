@@ -107,8 +107,8 @@ by_cause text a (Limit Text counted) low whole has is other c = let high = c.0 i
 by_cause text a (BadAsm line) low whole has is other c = let clash : lines.Line line ≡ lines.NoMemory = fault_again text (lines.Line line) a c.1 whole has is in absurd (cc)
 by_cause text a _ low whole has is other c = absurd c
 
-pub assembled : (text : List ℕ) (a : Assembly) (answer : Outcome) (old new : Option (List ℕ)) → length text ≤ 67108864 → IsWhole a → HasText a → Texts text a → Assembles (Some text) answer old new → answer ≢ FileFault → answer ≢ WriteFault → (answer ≡ Built) ⊎ (answer ≡ NoMemory)
-assembled text a answer old new low whole has is assembles no_file no_write = elim assembles [
+pub assembled_text : (text : List ℕ) (a : Assembly) (answer : Outcome) (old new : Option (List ℕ)) → length text ≤ 67108864 → IsWhole a → HasText a → Texts text a → Assembles (Some text) answer old new → answer ≢ FileFault → answer ≢ WriteFault → (answer ≡ Built) ⊎ (answer ≡ NoMemory)
+assembled_text text a answer old new low whole has is assembles no_file no_write = elim assembles [
   | inl c ↦ by_cause text a answer low whole has is no_file c.0
   | inr m ↦ elim m.2 [
     | inl none ↦ inr none.0

@@ -131,7 +131,7 @@ fn all_lawful_objects(globals: &[DataObject]) -> bool
 pub fn are_lawful_objects(globals: &[DataObject]) -> bool
     ensures { OnTrue result (AreLawful globals.now) }
 {
-    if globals.len() >= 1 << 32 || !lie_in_order(globals) {
+    if globals.len() > u32::MAX as usize || !lie_in_order(globals) {
         return false;
     }
     all_lawful_objects(globals)

@@ -30,7 +30,7 @@ use Rattle.division_calls.specs.Items.{ItemSetting, insn_items}
 use Rattle.division_calls.specs.Laws.{is_usable, IsStated, IsThere, HasOuter, RunIsOver, ActIsDone, is_no_call, store_behind}
 use Rattle.division_calls.proofs.Runs.{usable-values, more-usable, writable, no-registers}
 use Rattle.division_calls.proofs.Instructions.{instructions_are_done}
-use Rattle.division_calls.specs.Stacks.{Waiting, Start, StackIs}
+use Rattle.division_calls.specs.Stacks.{WaitingCall, Start, StackIs}
 use Rattle.division_calls.proofs.Stays.{stacks_stay}
 use Rattle.division_calls.specs.Divisions.{RoutinesStand, HasScratch}
 use Rattle.division_calls.proofs.Divisions.{divisions_are_done}
@@ -108,12 +108,12 @@ behind-in registers x held cs k =
     put-in (places_written_at registers x) cs (without (ends_place x) held) k
     (fixed-in (drop (length (reads_of x)) registers) (map home_of (map Fixed (fixed_writes_of x) ++ places_written x)) (homes-in x (fixed_writes_of x)))
 
-module _ (p : Program) (there : Labels) (start : Start) (g : ItemSetting) (rest : List AsmItem) (end : ℕ) (c : CallAt) (gs : List Waiting) (o : Outer) (store : Places) (s : State) (call : FitsTheStack c) (shape : g.shape ≡ c.shape) (stack : StackIs p there start c gs store s) (outer : HasOuter o s) (routines : RoutinesStand p there) (scratch : HasScratch p c s) (widest : ℕ) (few : widest ≤ c.shape.outgoing + 6) (transfers : List Transfer) (registers : List ℕ) (x : TempInsn) (may : AllMayTransfer c.shape transfers) (st : IsStated c.shape registers x) (is : IsThere p g c x) (h : StandsFor p there (items_of_transfers c.shape transfers (insn_items g registers x ++ rest)) end c o.memory is_usable store s) where
+module _ (p : Program) (there : Labels) (start : Start) (g : ItemSetting) (rest : List AsmItem) (end : ℕ) (c : CallAt) (gs : List WaitingCall) (o : Outer) (store : Places) (s : State) (call : FitsTheStack c) (shape : g.shape ≡ c.shape) (stack : StackIs p there start c gs store s) (outer : HasOuter o s) (routines : RoutinesStand p there) (scratch : HasScratch p c s) (widest : ℕ) (few : widest ≤ c.shape.outgoing + 6) (transfers : List Transfer) (registers : List ℕ) (x : TempInsn) (may : AllMayTransfer c.shape transfers) (st : IsStated c.shape registers x) (is : IsThere p g c x) (h : StandsFor p there (items_of_transfers c.shape transfers (insn_items g registers x ++ rest)) end c o.memory is_usable store s) where
   abbrev held : Places
   held = do_all transfers store
 
   -- the transfers are done
-  record Moved : Type 0 where
+  record TransfersAreMade : Type 0 where
     to : State
     comes : Comes p s to
     stands : StandsFor p there (insn_items g registers x ++ rest) end c o.memory is_usable held to
@@ -121,7 +121,7 @@ module _ (p : Program) (there : Labels) (start : Start) (g : ItemSetting) (rest 
     outer_is : HasOuter o to
     kept : IsKept p c s to
 
-  moved : Moved
+  moved : TransfersAreMade
   moved =
       let d = transfers_are_done p there (insn_items g registers x ++ rest) end c o.memory call transfers is_usable store s usable-values (can-transfer-all c.shape transfers may) h in
       record {
@@ -134,7 +134,7 @@ module _ (p : Program) (there : Labels) (start : Start) (g : ItemSetting) (rest 
       }
 
   -- what is done behind the transfers is done from before them
-  passed : (m : Moved) (a : Act Content) → ActIsDone p there g rest end c (store_behind registers x held) x m.to a → PointIsDone p there start g rest end c gs (store_behind registers x held) x s a
+  passed : (m : TransfersAreMade) (a : Act Content) → ActIsDone p there g rest end c (store_behind registers x held) x m.to a → PointIsDone p there start g rest end c gs (store_behind registers x held) x s a
   passed m (Writes cs new) d = record {
     to = d.to;
     comes = steps_add_up p s m.to d.to m.comes d.comes;
@@ -156,7 +156,7 @@ module _ (p : Program) (there : Labels) (start : Start) (g : ItemSetting) (rest 
   passed m (Returns cs new) d = tt
   passed m (Stops (Exits status) new) d = over m new (step.Done status) d
     where
-      over : (m : Moved) (new : Outer) (halt : Halt) → RunIsOver p new halt m.to → RunIsOver p new halt s
+      over : (m : TransfersAreMade) (new : Outer) (halt : Halt) → RunIsOver p new halt m.to → RunIsOver p new halt s
       over m new halt d = record {
         steps = m.comes.steps + d.steps;
         last = d.last;
@@ -178,11 +178,11 @@ module _ (p : Program) (there : Labels) (start : Start) (g : ItemSetting) (rest 
       passed m (does widest x c.own (map held (places_read_at registers x)) o)
       (instructions_are_done p there g rest end c o held m.to call shape m.stack_is.arguments m.outer_is widest few registers x plain st is m.stands)
 
-  scratch-moved : (m : Moved) → HasScratch p c m.to
+  scratch-moved : (m : TransfersAreMade) → HasScratch p c m.to
   scratch-moved m = record { room = scratch.room; free = scratch.free; reached = λ y from to. m.kept.reach y ∙ scratch.reached y from to }
 
 -- by the instruction: a division, or another one
-point-done : (p : Program) (there : Labels) (start : Start) (g : ItemSetting) (rest : List AsmItem) (end : ℕ) (c : CallAt) (gs : List Waiting) (o : Outer) (store : Places) (s : State) → FitsTheStack c → g.shape ≡ c.shape → StackIs p there start c gs store s → HasOuter o s → RoutinesStand p there → HasScratch p c s → (widest : ℕ) → widest ≤ c.shape.outgoing + 6 → (transfers : List Transfer) (registers : List ℕ) (x : TempInsn) → AllMayTransfer c.shape transfers → stays_in_call x ≡ true → IsStated c.shape registers x → IsThere p g c x → StandsFor p there (items_of_transfers c.shape transfers (insn_items g registers x ++ rest)) end c o.memory is_usable store s → PointIsDone p there start g rest end c gs (store_behind registers x (do_all transfers store)) x s (does widest x c.own (map (do_all transfers store) (places_read_at registers x)) o)
+point-done : (p : Program) (there : Labels) (start : Start) (g : ItemSetting) (rest : List AsmItem) (end : ℕ) (c : CallAt) (gs : List WaitingCall) (o : Outer) (store : Places) (s : State) → FitsTheStack c → g.shape ≡ c.shape → StackIs p there start c gs store s → HasOuter o s → RoutinesStand p there → HasScratch p c s → (widest : ℕ) → widest ≤ c.shape.outgoing + 6 → (transfers : List Transfer) (registers : List ℕ) (x : TempInsn) → AllMayTransfer c.shape transfers → stays_in_call x ≡ true → IsStated c.shape registers x → IsThere p g c x → StandsFor p there (items_of_transfers c.shape transfers (insn_items g registers x ++ rest)) end c o.memory is_usable store s → PointIsDone p there start g rest end c gs (store_behind registers x (do_all transfers store)) x s (does widest x c.own (map (do_all transfers store) (places_read_at registers x)) o)
 point-done p there start g rest end c gs o store s call shape stack outer routines scratch widest few xs rs (i.Divide r) may local st is h =
     let none = no-registers rs st.count in
     let m = moved p there start g rest end c gs o store s call shape stack outer routines scratch widest few xs rs (i.Divide r) may st is h in
@@ -209,5 +209,5 @@ point-done p there start g rest end c gs o store s call shape stack outer routin
 point-done p there start g rest end c gs o store s call shape stack outer routines scratch widest few xs rs (i.Call function arguments) may local st is h = absurd (cc)
 point-done p there start g rest end c gs o store s call shape stack outer routines scratch widest few xs rs (i.Return with_value) may local st is h = absurd (cc)
 
-pub points_are_done : (p : Program) (there : Labels) (start : Start) (g : ItemSetting) (rest : List AsmItem) (end : ℕ) (c : CallAt) (gs : List Waiting) (o : Outer) (store : Places) (s : State) → FitsTheStack c → g.shape ≡ c.shape → StackIs p there start c gs store s → HasOuter o s → RoutinesStand p there → HasScratch p c s → (widest : ℕ) → widest ≤ c.shape.outgoing + 6 → (transfers : List Transfer) (registers : List ℕ) (x : TempInsn) → AllMayTransfer c.shape transfers → stays_in_call x ≡ true → IsStated c.shape registers x → IsThere p g c x → StandsFor p there (items_of_transfers c.shape transfers (insn_items g registers x ++ rest)) end c o.memory is_usable store s → PointIsDone p there start g rest end c gs (store_behind registers x (do_all transfers store)) x s (does widest x c.own (map (do_all transfers store) (places_read_at registers x)) o)
+pub points_are_done : (p : Program) (there : Labels) (start : Start) (g : ItemSetting) (rest : List AsmItem) (end : ℕ) (c : CallAt) (gs : List WaitingCall) (o : Outer) (store : Places) (s : State) → FitsTheStack c → g.shape ≡ c.shape → StackIs p there start c gs store s → HasOuter o s → RoutinesStand p there → HasScratch p c s → (widest : ℕ) → widest ≤ c.shape.outgoing + 6 → (transfers : List Transfer) (registers : List ℕ) (x : TempInsn) → AllMayTransfer c.shape transfers → stays_in_call x ≡ true → IsStated c.shape registers x → IsThere p g c x → StandsFor p there (items_of_transfers c.shape transfers (insn_items g registers x ++ rest)) end c o.memory is_usable store s → PointIsDone p there start g rest end c gs (store_behind registers x (do_all transfers store)) x s (does widest x c.own (map (do_all transfers store) (places_read_at registers x)) o)
 points_are_done = point-done

@@ -21,7 +21,7 @@ use Rattle.frame_transfers.specs.Items.{items_of_transfers}
 use Rattle.frame_transfers.specs.Laws.{CallAt, FitsTheStack, StandsFor}
 use Rattle.division_calls.specs.Items.{ItemSetting, insn_items}
 use Rattle.division_calls.specs.Laws.{is_usable, MayHold, IsStated, IsThere, HasOuter, RunIsOver}
-use Rattle.division_calls.specs.Stacks.{Waiting, Start, StackIs}
+use Rattle.division_calls.specs.Stacks.{WaitingCall, Start, StackIs}
 use Rattle.division_calls.specs.Divisions.{RoutinesStand, HasScratch}
 
 -- transfers on slots that are there and registers in which values may stand
@@ -42,14 +42,14 @@ stays_in_call _ = true
 
 -- the machine stands behind the point, or at the label of a block, with the stack of the run
 pub record PointIsPassed (p : Program) (there : Labels) (start : Start) (items : List AsmItem) (end : ℕ) (c : CallAt)
-    (gs : List Waiting) (o : Outer) (held : Places) (s : State) : Type 0 where
+    (gs : List WaitingCall) (o : Outer) (held : Places) (s : State) : Type 0 where
   pub to : State
   pub comes : Comes p s to
   pub stands : StandsFor p there items end c o.memory is_usable held to
   pub stack : StackIs p there start c gs held to
   pub outer : HasOuter o to
 
-pub record PointIsLeft (p : Program) (there : Labels) (start : Start) (l : ℕ) (c : CallAt) (gs : List Waiting)
+pub record PointIsLeft (p : Program) (there : Labels) (start : Start) (l : ℕ) (c : CallAt) (gs : List WaitingCall)
     (o : Outer)
     (held : Places) (s : State) : Type 0 where
   pub to : State
@@ -62,7 +62,7 @@ pub record PointIsLeft (p : Program) (there : Labels) (start : Start) (l : ℕ) 
 
 -- the machine does what an act is, where contents are written by a function of them
 abbrev pub PointIsDone : Program → Labels → Start → ItemSetting → (rest : List AsmItem) → (end : ℕ) → CallAt →
-    List Waiting →
+    List WaitingCall →
     (written : List Content → Places) → TempInsn → State → Act Content → Type 0
 PointIsDone p there start g rest end c gs written x s (Writes cs o) =
     PointIsPassed p there start rest end c gs o (written cs) s
@@ -79,7 +79,7 @@ PointIsDone p there start g rest end c gs written x s (Stops HasNoMeaning o) = U
 abbrev pub PointsAreDone : Type 0
 PointsAreDone =
     (p : Program) (there : Labels) (start : Start) (g : ItemSetting) (rest : List AsmItem) (end : ℕ) (c : CallAt)
-    (gs : List Waiting) (o : Outer) (store : Places) (s : State) → FitsTheStack c → g.shape ≡ c.shape →
+    (gs : List WaitingCall) (o : Outer) (store : Places) (s : State) → FitsTheStack c → g.shape ≡ c.shape →
     StackIs p there start c gs store s → HasOuter o s → RoutinesStand p there → HasScratch p c s →
     (widest : ℕ) → widest ≤ c.shape.outgoing + 6 →
     (transfers : List Transfer) (registers : List ℕ) (x : TempInsn) → AllMayTransfer c.shape transfers →

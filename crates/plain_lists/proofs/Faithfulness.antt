@@ -20,7 +20,7 @@ use Rattle.alloc_model.specs.Places.{Place, Slot, Plan, plan_of, transfers_at, r
 use Rattle.alloc_model.specs.Lifetimes.{Blocks, lives_at}
 use Rattle.alloc_model.specs.Needs.{named_place, place_at_top, IsNeeded}
 use Rattle.alloc_model.specs.Needs.IsNeeded.{Relied, Handed}
-use Rattle.alloc_model.specs.Faithful.{Held, Includes, move_all, MovesAsk, ReadsAsk, FixedAsk, behind_insn, at_top, at_entry, at_start, at_bottom, held_before, KeepsEdge, IsGivenRegister, IsGivenOrScratch, IsStanding, HasLists, Faithful}
+use Rattle.alloc_model.specs.Faithful.{HolderPlaces, Includes, move_all, MovesAsk, ReadsAsk, FixedAsk, behind_insn, at_top, at_entry, at_start, at_bottom, held_before, KeepsEdge, IsGivenRegister, IsGivenOrScratch, IsStanding, HasLists, Faithful}
 use Rattle.plain_lists.specs.Plain.{loads, plain_registers, writes_in, first_in, stores_behind, transfers_from, plain_plan}
 use Rattle.plain_lists.proofs.Sets.{same_or_not, slot_no_register, stores_ask, stores_done, stores_keep_slots}
 use Rattle.plain_lists.proofs.Registers.{and_first, and_second, has_contains, arguments_high}
@@ -98,7 +98,7 @@ settled_block params (b ∷ bs) zero insns all is =
 settled_block params (b ∷ bs) (suc block) insns all is =
     test_get (is_settled_block []) bs block insns (and_second (is_settled_block (argument_registers params) b) (list_all (is_settled_block []) bs) all) is
 
-same_stands : (blocks : Blocks) (block at : ℕ) (p p' : Option TempInsn) (ws ws' : List ℕ) (xs xs' : List Transfer) (rs rs' : List ℕ) (o o' : Option TempInsn) (h : Held) → p ≡ p' → ws ≡ ws' → xs ≡ xs' → rs ≡ rs' → o ≡ o' → Stands blocks block at p ws (behind_insn xs rs o h) → Stands blocks block at p' ws' (behind_insn xs' rs' o' h)
+same_stands : (blocks : Blocks) (block at : ℕ) (p p' : Option TempInsn) (ws ws' : List ℕ) (xs xs' : List Transfer) (rs rs' : List ℕ) (o o' : Option TempInsn) (h : HolderPlaces) → p ≡ p' → ws ≡ ws' → xs ≡ xs' → rs ≡ rs' → o ≡ o' → Stands blocks block at p ws (behind_insn xs rs o h) → Stands blocks block at p' ws' (behind_insn xs' rs' o' h)
 same_stands blocks block at p p' ws ws' xs xs' rs rs' o o' h ep ew ex er eo s =
     subst (λ p. Stands blocks block at p ws' (behind_insn xs' rs' o' h)) ep
     (subst (λ ws. Stands blocks block at p ws (behind_insn xs' rs' o' h)) ew
@@ -168,7 +168,7 @@ module _ (f : TemporaryCode) (params temps : ℕ) where
       last : Option TempInsn
       last = last_of insns
 
-      h : Held
+      h : HolderPlaces
       h = held_before plan block (length insns)
 
       code : edge_transfers plan block (suc j) ≡ stores_behind last

@@ -11,9 +11,9 @@ use Rattle.alloc_model.specs.declared.allocation.Transfer.{Transfer}
 use Rattle.alloc_model.specs.Effect.{Temp, Fixed, places_written, others_written, holders_written}
 use Rattle.alloc_model.specs.Places.{Reg, Slot, home_of, ends_place}
 use Rattle.alloc_model.specs.Lifetimes.{Blocks, lives_at}
-use Rattle.alloc_model.specs.Faithful.{Held, write_all, end_all, move_all, MovesAsk, ReadsAsk, FixedAsk, behind_insn}
+use Rattle.alloc_model.specs.Faithful.{HolderPlaces, write_all, end_all, move_all, MovesAsk, ReadsAsk, FixedAsk, behind_insn}
 use Rattle.plain_lists.specs.Plain.{loads, plain_registers, writes_in, first_in, stores_behind}
-use Rattle.plain_lists.proofs.Sets.{same_or_not, moves_in_turn, asks_in_turn, reads_kept, stores_keep_registers, stores_keep_slots, stores_ask, stores_done, loads_keep_slots, loads_keep_others, loads_ask, loads_read, written, written_fresh, written_slot, written_keeps, written_fixed, fixed_ask}
+use Rattle.plain_lists.proofs.Sets.{same_or_not, moves_in_turn, asks_in_turn, reads_kept, stores_keep_registers, stores_keep_slots, stores_ask, stores_done, loads_keep_slots, loads_keep_others, loads_ask, loads_read, written_places, written_fresh, written_slot, written_keeps, written_fixed, fixed_ask}
 use Rattle.plain_lists.proofs.Registers.{IsHigh, behind_either, written_high, all_has, lawful, few}
 use Rattle.plain_lists.proofs.Lists.{range_behind}
 
@@ -30,18 +30,18 @@ contains_or_not (x ∷ xs) t = ⊎_elim (λ e. inl (0, omega arith, e)) (λ ne. 
     further ne (inr none) = inr (nowhere ne none)
 
 -- before a place of a block, behind an instruction, where some fixed registers are written
-pub record Stands (blocks : Blocks) (block at : ℕ) (before : Option TempInsn) (ws : List ℕ) (h : Held) : Type 0 where
+pub record Stands (blocks : Blocks) (block at : ℕ) (before : Option TempInsn) (ws : List ℕ) (h : HolderPlaces) : Type 0 where
   pub slots : (t : ℕ) → lives_at blocks t block at → Contains (writes_in before) t ⊎ h (Temp t) (Slot t)
   pub fresh : ReadsAsk (writes_in before) (range_with_len (first_in before) (length (writes_in before))) h
   pub fixed : (r : ℕ) → has_number ws r ≡ true → h (Fixed r) (Reg r)
   pub high : (r : ℕ) → has_number ws r ≡ true → IsHigh r
 
 -- behind the stores each live temporary stands in its slot
-pub stored : (blocks : Blocks) (block at : ℕ) (p : Option TempInsn) (ws : List ℕ) (h : Held) → Stands blocks block at p ws h → (t : ℕ) → lives_at blocks t block at → move_all (stores_behind p) h (Temp t) (Slot t)
+pub stored : (blocks : Blocks) (block at : ℕ) (p : Option TempInsn) (ws : List ℕ) (h : HolderPlaces) → Stands blocks block at p ws h → (t : ℕ) → lives_at blocks t block at → move_all (stores_behind p) h (Temp t) (Slot t)
 stored blocks block at p ws h s t live =
     ⊎_elim (λ has. stores_done (writes_in p) (first_in p) h t has) (λ k. stores_keep_slots (writes_in p) (first_in p) h t k) (s.slots t live)
 
-module _ (blocks : Blocks) (block at : ℕ) (p : Option TempInsn) (ws : List ℕ) (h : Held) (x : TempInsn)
+module _ (blocks : Blocks) (block at : ℕ) (p : Option TempInsn) (ws : List ℕ) (h : HolderPlaces) (x : TempInsn)
     (there : insn_at blocks block at ≡ Some x) (s : Stands blocks block at p ws h) where
   abbrev transfers : List Transfer
   transfers = stores_behind p ++ loads (reads_of x) 1
@@ -73,11 +73,11 @@ module _ (blocks : Blocks) (block at : ℕ) (p : Option TempInsn) (ws : List ℕ
   fixed_reads all =
       fixed_ask (fixed_reads_of x) (move_all transfers h) (λ r has. moved_fixed r (all_has ws (fixed_reads_of x) r all has))
 
-  abbrev ended : Held
+  abbrev ended : HolderPlaces
   ended = end_all (ends_place x) (move_all transfers h)
 
-  abbrev behind_writes : Held
-  behind_writes = written (writes_of x) (fixed_writes_of x) (places_written x) (1 + length (reads_of x)) ended
+  abbrev behind_writes : HolderPlaces
+  behind_writes = written_places (writes_of x) (fixed_writes_of x) (places_written x) (1 + length (reads_of x)) ended
 
   live_behind : (t : ℕ) → lives_at blocks t block (suc at) → Contains (writes_of x) t ⊎ (Contains (writes_of x) t → ⊥) → Contains (writes_of x) t ⊎ behind_writes (Temp t) (Slot t)
   live_behind t live (inl has) = inl has

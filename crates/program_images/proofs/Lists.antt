@@ -14,15 +14,15 @@ get-map f (y ∷ xs) zero x e = let is : y ≡ x = cc in ap (λ z. Some (f z)) i
 get-map f (y ∷ xs) (suc k) x e = get-map f xs k x e
 
 -- what stands in a map stands in the list
-pub record Mapped {X Y : Type 0} (f : X → Y) (xs : List X) (k : ℕ) (y : Y) : Type 0 where
+pub record MappedFrom {X Y : Type 0} (f : X → Y) (xs : List X) (k : ℕ) (y : Y) : Type 0 where
   pub one : X
   pub there : slice_get xs k ≡ Some one
   pub is : f one ≡ y
 
-pub mapped : {X Y : Type 0} (f : X → Y) (xs : List X) (k : ℕ) (y : Y) → slice_get (map f xs) k ≡ Some y → Mapped f xs k y
-mapped f [] k y e = absurd (cc)
-mapped f (x ∷ xs) zero y e = let is : f x ≡ y = cc in record { one = x; there = refl; is = is }
-mapped f (x ∷ xs) (suc k) y e = let h = mapped f xs k y e in record { one = h.one; there = h.there; is = h.is }
+pub mapped_from : {X Y : Type 0} (f : X → Y) (xs : List X) (k : ℕ) (y : Y) → slice_get (map f xs) k ≡ Some y → MappedFrom f xs k y
+mapped_from f [] k y e = absurd (cc)
+mapped_from f (x ∷ xs) zero y e = let is : f x ≡ y = cc in record { one = x; there = refl; is = is }
+mapped_from f (x ∷ xs) (suc k) y e = let h = mapped_from f xs k y e in record { one = h.one; there = h.there; is = h.is }
 
 pub map-size : {X Y : Type 0} (f : X → Y) (xs : List X) → length (map f xs) ≡ length xs
 map-size f [] = refl

@@ -23,7 +23,7 @@ use Rattle.temp_ir.specs.Programs.{TempFn, is_main, main_count, names_what_is_th
 use Rattle.alloc_model.specs.declared.allocation.Allocation.{Allocation}
 use Rattle.alloc_model.specs.Temporaries.{TemporaryCode, code_of, main_of, TempsEnd}
 use Rattle.alloc_model.specs.Places.{Plan, registers_at}
-use Rattle.flat_memory.specs.Bytes.{AreBytes}
+use Rattle.mem_model.specs.Bytes.{AreBytes}
 use Rattle.flat_frames.specs.Shapes.{FrameShape}
 use Rattle.frame_transfers.specs.Items.{items_of_transfers}
 use Rattle.instruction_items.specs.Items.{function_label}
@@ -43,8 +43,8 @@ use Rattle.global_data.specs.GlobalBytes.{global_bytes}
 use Rattle.global_data.proofs.Holds.{data_holds_objects}
 use Rattle.routine_places.proofs.Stand.{routines_stand}
 use Rattle.image_runs.specs.Images.{IsImageOf, ImagesKeep}
-use Rattle.program_images.specs.Programs.{plans_of, IsAllocated, Placing, HasItemsOf, ImageBehaves}
-use Rattle.program_images.proofs.Lists.{all-get, get-map, Mapped, mapped, map-size}
+use Rattle.program_images.specs.Programs.{plans_of, IsAllocated, ProgramPlacement, HasItemsOf, ImageBehaves}
+use Rattle.program_images.proofs.Lists.{all-get, get-map, MappedFrom, mapped_from, map-size}
 use Rattle.program_images.proofs.Standing.{InsnStands, behind-transfers, insn-stands}
 use Rattle.program_images.proofs.Names.{is-there, called-there}
 
@@ -58,19 +58,19 @@ main-below (f ∷ functions) e = by_place (position is_main (f ∷ functions)) r
     by_place (Some k) is = (position-Some is_main (f ∷ functions) k f is).0
 
 -- an instruction stands in a block
-record Placed (blocks : List (List TempInsn)) (block at : ℕ) (x : TempInsn) : Type 0 where
+record InsnStandsAt (blocks : List (List TempInsn)) (block at : ℕ) (x : TempInsn) : Type 0 where
   insns : List TempInsn
   there : slice_get blocks block ≡ Some insns
   is : slice_get insns at ≡ Some x
 
-placed : (blocks : List (List TempInsn)) (block at : ℕ) (x : TempInsn) → insn_at blocks block at ≡ Some x → Placed blocks block at x
+placed : (blocks : List (List TempInsn)) (block at : ℕ) (x : TempInsn) → insn_at blocks block at ≡ Some x → InsnStandsAt blocks block at x
 placed blocks block at x e = by_block (slice_get blocks block) refl e
   where
-    by_block : (o : Option (List TempInsn)) → slice_get blocks block ≡ o → insn_in o at ≡ Some x → Placed blocks block at x
+    by_block : (o : Option (List TempInsn)) → slice_get blocks block ≡ o → insn_in o at ≡ Some x → InsnStandsAt blocks block at x
     by_block None there f = absurd (cc)
     by_block (Some insns) there f = record { insns = insns; there = there; is = f }
 
-module _ (asm : Assembly) (p : Program) (lawful : IsLawful p) (whole : IsWhole asm) (w : Words asm p) (program : TempProgram) (allocations : List Allocation) (rooms : Rooms) (q : Placing) (allocated : IsAllocated program allocations rooms) (has : HasItemsOf asm program (plans_of allocations) q) (stack : ℕ) (is_stack : IsStack stack) where
+module _ (asm : Assembly) (p : Program) (lawful : IsLawful p) (whole : IsWhole asm) (w : Words asm p) (program : TempProgram) (allocations : List Allocation) (rooms : Rooms) (q : ProgramPlacement) (allocated : IsAllocated program allocations rooms) (has : HasItemsOf asm program (plans_of allocations) q) (stack : ℕ) (is_stack : IsStack stack) where
   abbrev there : Labels
   there = label_place asm.items w.far
 
@@ -120,8 +120,8 @@ module _ (asm : Assembly) (p : Program) (lawful : IsLawful p) (whole : IsWhole a
 
   module _ (f : ℕ) (a : Plan) (is : slice_get plans f ≡ Some a) where
     -- the function of the program
-    source : Mapped code_of program.functions f a.function
-    source = mapped code_of program.functions f a.function (ap (λ l. slice_get l f) allocated.functions ∙ get-map (λ (z : Plan). z.function) plans f a is)
+    source : MappedFrom code_of program.functions f a.function
+    source = mapped_from code_of program.functions f a.function (ap (λ l. slice_get l f) allocated.functions ∙ get-map (λ (z : Plan). z.function) plans f a is)
 
     source-lawful : IsLawfulTempFn program.functions program.globals source.one
     source-lawful = all-get (IsLawfulTempFn program.functions program.globals) program.functions f source.one program.functions_lawful source.there
@@ -209,6 +209,6 @@ module _ (asm : Assembly) (p : Program) (lawful : IsLawful p) (whole : IsWhole a
       let d = keep b program allocations stack image-of input bytes turns e temps peak in
       record { behaves = d.behaves; only = d.only }
 
-pub programs_behave : ImagesKeep → (asm : Assembly) (p : Program) → IsLawful p → IsWhole asm → (w : Words asm p) → (program : TempProgram) (allocations : List Allocation) (rooms : Rooms) (q : Placing) → IsAllocated program allocations rooms → HasItemsOf asm program (plans_of allocations) q → (stack : ℕ) → IsStack stack → (input : List ℕ) → AreBytes input → (turns : ℕ) (e : Ending) → TempsEnd rooms program input turns e → ending_peak e ≤ stack → ImageBehaves p (plans_of allocations) stack input turns e
+pub programs_behave : ImagesKeep → (asm : Assembly) (p : Program) → IsLawful p → IsWhole asm → (w : Words asm p) → (program : TempProgram) (allocations : List Allocation) (rooms : Rooms) (q : ProgramPlacement) → IsAllocated program allocations rooms → HasItemsOf asm program (plans_of allocations) q → (stack : ℕ) → IsStack stack → (input : List ℕ) → AreBytes input → (turns : ℕ) (e : Ending) → TempsEnd rooms program input turns e → ending_peak e ≤ stack → ImageBehaves p (plans_of allocations) stack input turns e
 programs_behave keep asm p lawful whole w program allocations rooms q allocated has stack is_stack input bytes turns e temps peak =
     behaves asm p lawful whole w program allocations rooms q allocated has stack is_stack keep input bytes turns e temps peak

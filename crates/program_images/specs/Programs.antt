@@ -21,7 +21,7 @@ use Rattle.alloc_model.specs.declared.allocation.Allocation.{Allocation}
 use Rattle.alloc_model.specs.Temporaries.{code_of, main_of, TempsEnd}
 use Rattle.alloc_model.specs.Places.{Plan, plan_of, functions_of}
 use Rattle.alloc_model.specs.Laws.{AllFaithful}
-use Rattle.flat_memory.specs.Bytes.{AreBytes}
+use Rattle.mem_model.specs.Bytes.{AreBytes}
 use Rattle.flat_frames.specs.Shapes.{frame_size}
 use Rattle.instruction_items.specs.Items.{ItemSetting, function_label}
 use Rattle.edge_leads.specs.Leaving.{ending_items}
@@ -50,7 +50,7 @@ start_items main rest = Label 0 ∷ Branch Bsr 26 (function_label main) ∷ (end
 
 -- what the items of each function refer to, and what stands before and behind them; what stands behind the start piece;
 -- and what stands before and behind the division routines
-pub record Placing : Type 0 where
+pub record ProgramPlacement : Type 0 where
   pub setting : (function : ℕ) → ItemSetting
   pub front : (function : ℕ) → List AsmItem
   pub behind : (function : ℕ) → List AsmItem
@@ -59,7 +59,7 @@ pub record Placing : Type 0 where
   pub behind_routines : List AsmItem
 
 -- an assembly has the items and the data of a program so
-pub record HasItemsOf (asm : Assembly) (program : TempProgram) (plans : List Plan) (q : Placing) : Type 0 where
+pub record HasItemsOf (asm : Assembly) (program : TempProgram) (plans : List Plan) (q : ProgramPlacement) : Type 0 where
   pub start : asm.items ≡ start_items (main_of program.functions) q.after_start
   pub functions : (f : ℕ) (a : Plan) → slice_get plans f ≡ Some a →
       asm.items ≡ q.front f ++ function_items a (q.setting f) f (q.behind f)
@@ -81,7 +81,7 @@ pub record ImageBehaves (p : Program) (plans : List Plan) (stack : ℕ) (input :
 abbrev pub ProgramsBehave : Type 0
 ProgramsBehave =
     (asm : Assembly) (p : Program) → IsLawful p → IsWhole asm → Words asm p →
-    (program : TempProgram) (allocations : List Allocation) (rooms : Rooms) (q : Placing) →
+    (program : TempProgram) (allocations : List Allocation) (rooms : Rooms) (q : ProgramPlacement) →
     IsAllocated program allocations rooms → HasItemsOf asm program (plans_of allocations) q →
     (stack : ℕ) → IsStack stack → (input : List ℕ) → AreBytes input → (turns : ℕ) (e : Ending) →
     TempsEnd rooms program input turns e → ending_peak e ≤ stack →

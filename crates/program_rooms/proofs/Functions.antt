@@ -18,7 +18,7 @@ use Rattle.alloc_model.specs.Places.{plan_of}
 use Rattle.flat_frames.specs.Shapes.{objects_size, frame_size}
 use Rattle.frame_rooms.specs.Shapes.{shape_of}
 use Rattle.frame_rooms.proofs.Frames.{objects_are, frames_fit_rooms}
-use Rattle.unit_words.proofs.Placed.{planned}
+use Rattle.unit_words.proofs.Placed.{planned_at}
 use Rattle.plain_programs.specs.Allocations.{IsAllocationOf}
 use Rattle.unit_words.specs.Fit.{IsPreparedOf}
 use Rattle.unit_words.specs.AllocationLaws.{HasFrame}
@@ -98,7 +98,7 @@ functions_have_frames u program m light little k d lt =
 
 pub frames_fit_their_rooms : FramesFitTheirRooms
 frames_fit_their_rooms u program allocations m h k a is =
-    let p = planned allocations k a is in
+    let p = planned_at allocations k a is in
     let g = allocations_stand_by_number program.functions allocations h k p.one p.there in
     let within = slice_get_within program.functions k g.function g.there in
     let count = m.count in

@@ -44,7 +44,7 @@ fn parts_of(alloc: Global, given: &str) -> Result<Row> {
 }
 
 /// The program of a text.
-fn lowered(alloc: Global, text: &[u8]) -> Result<VmProgram> {
+fn lowered_program(alloc: Global, text: &[u8]) -> Result<VmProgram> {
     ensure!(text.len() <= TEXT_LIMIT, "a text that is too long");
     match read_unit(alloc, text) {
         Err(fault) => bail!("a text that has no unit within the limits: {fault:?}"),
@@ -64,13 +64,13 @@ fn ending(alloc: Global, ending: VmEnding) -> Result<Vec<u8>> {
 /// How the program of a row runs.
 pub fn answer(alloc: Global, given: &str) -> Result<Vec<u8>> {
     let Row { text, input, turns } = parts_of(alloc, given)?;
-    let program = lowered(alloc, text.as_slice())?;
+    let program = lowered_program(alloc, text.as_slice())?;
     let mut input = MemSource::new(input, Vec::new(alloc));
     let mut out = MemSink::new(alloc, ROOM, Vec::new(alloc))?;
     let mut shown = ending(alloc, run_vm(alloc, &program, &mut input, &mut out, turns))?;
-    if !out.taken().is_empty() {
+    if !out.taken_bytes().is_empty() {
         shown.extend_from_slice(b"out ")?;
-        shown.extend_from_slice(out.taken())?;
+        shown.extend_from_slice(out.taken_bytes())?;
         shown.push(b'\n')?;
     }
     Ok(shown)

@@ -2,7 +2,7 @@
 use Rattle.std.proofs.Common.{◌≡◌, ◌≢◌, ℕ, zero, suc, ◌+◌, ◌-◌, ◌<◌, ◌≤◌, ◌⊎◌, Bool, true, false, List, [], ◌∷◌, ◌++◌, length, take, drop, replicate, refl, sym, ap, ◌∙◌, subst, arith, inl, inr, ⊎_elim}
 use Rattle.std.specs.Prelude.{slice_index_or, nat_lt, nat_le, ◌==◌, ◌&&◌, ◌||◌}
 use Rattle.std.specs.List.{AllPairs, list_all, list_any, range_with_len}
-use Rattle.std.proofs.lemmas.Bool.{cases_lt, ltb-true, leb-true, eqb-true}
+use Rattle.std.proofs.lemmas.Bool.{cases_lt, ltb-true, leb-true, eqb-true, and_parts}
 use Rattle.std.proofs.lemmas.List.Elements.{filter_map-append}
 use Rattle.alpha_isa.specs.Lawful.{IsBranchDisplacement}
 use Rattle.alpha_items.specs.declared.item.AsmItem.{AsmItem}
@@ -21,17 +21,8 @@ use Rattle.routine_places.proofs.Texts.{place-second, place-first}
 
 all-holds : {X : Type 0} (p : X → Bool) (xs : List X) (k : ℕ) (d : X) → list_all p xs ≡ true → k < length xs → p (slice_index_or xs k d) ≡ true
 all-holds p [] k d h lt = absurd (omega (arith, lt))
-all-holds p (x ∷ xs) zero d h lt = (both (p x) (list_all p xs) h).0
-  where
-    both : (a b : Bool) → (a && b) ≡ true → (a ≡ true) × (b ≡ true)
-    both true true e = (refl, refl)
-    both true false e = absurd (cc)
-    both false b e = absurd (cc)
-all-holds p (x ∷ xs) (suc k) d h lt = all-holds p xs k d (second (p x) (list_all p xs) h) (omega (arith, lt))
-  where
-    second : (a b : Bool) → (a && b) ≡ true → b ≡ true
-    second true b e = e
-    second false b e = absurd (cc)
+all-holds p (x ∷ xs) zero d h lt = (and_parts (p x) (list_all p xs) h).0
+all-holds p (x ∷ xs) (suc k) d h lt = all-holds p xs k d (and_parts (p x) (list_all p xs) h).1 (omega (arith, lt))
 
 range-at : (a n k : ℕ) → k < n → slice_index_or (range_with_len a n) k 0 ≡ a + k
 range-at a zero k lt = absurd (omega (arith, lt))
@@ -243,13 +234,8 @@ module _ (front back : List AsmItem) (once : AllPairs (λ l m. l ≢ m) (labels 
 
     own-reaches : (here : ℕ) (x : AsmItem) → goes_within x ≡ true → ((l : ℕ) → 1 ≤ l → l ≤ 20 → IsBranchDisplacement (displacement here (label_place items other l))) → ItemReaches (label_place items other) here x
     own-reaches here (Branch op ra l) own h =
-        let z = both (nat_le 1 l) (nat_le l 20) own in
+        let z = and_parts (nat_le 1 l) (nat_le l 20) own in
         h l (leb-true 1 l z.0) (leb-true l 20 z.1)
-      where
-        both : (a b : Bool) → (a && b) ≡ true → (a ≡ true) × (b ≡ true)
-        both true true e = (refl, refl)
-        both true false e = absurd (cc)
-        both false b e = absurd (cc)
     own-reaches here (Label l) own h = tt
     own-reaches here (Name bytes) own h = tt
     own-reaches here (Plain insn) own h = tt

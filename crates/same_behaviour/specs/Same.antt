@@ -5,7 +5,7 @@ use Rattle.c_mean.specs.Behaviour as c
 use Rattle.alpha_isa.specs.Program.{Program}
 use Rattle.alpha_isa.specs.Behave.{IsStack, behave_a, output_of}
 use Rattle.alpha_isa.specs.Behave as alpha
-use Rattle.flat_memory.specs.Bytes.{AreBytes}
+use Rattle.mem_model.specs.Bytes.{AreBytes}
 use Rattle.machine_model.specs.Laws.{IsPrefix}
 use Rattle.c_typed_tree.specs.declared.units.TypedUnit.{TypedUnit}
 use Rattle.c_typed_tree.specs.Lawful.{IsTypedUnit}

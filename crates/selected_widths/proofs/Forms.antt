@@ -1,6 +1,6 @@
 -- What is left of a block as its contents.
-use Rattle.std.proofs.Common.{◌≡◌, ℕ, suc, List, [], ◌∷◌, true, map, cond, refl, ap, ◌∙◌, arith}
-use Rattle.std.specs.Prelude.{All, filter}
+use Rattle.std.proofs.Common.{◌≡◌, ℕ, List, [], ◌∷◌, true, map, cond, refl, ap, ◌∙◌}
+use Rattle.std.specs.Prelude.{filter}
 use Rattle.temp_ir.specs.declared.operation.TempBranchOp.{TempBranchOp}
 use Rattle.temp_ir.specs.declared.insn.TempInsn.{TempInsn}
 use Rattle.temp_ir.specs.declared.insn.TempInsn.TheVariants as i
@@ -48,9 +48,3 @@ stays_first z xs e same =
     ∙ ap (λ y. y ∷ contents_of xs) same
 
 -- ---- what holds of all elements
-
-pub all_first : {A : Type 0} (P : A → Type 0) (x : A) (xs : List A) → All P (x ∷ xs) → P x
-all_first P x xs h = h 0 x (omega arith)
-
-pub all_rest : {A : Type 0} (P : A → Type 0) (x : A) (xs : List A) → All P (x ∷ xs) → All P xs
-all_rest P x xs h = λ k d lt. h (suc k) d (omega (arith, lt))

@@ -1,7 +1,7 @@
 -- Blocks with the contents of others have no wider calls, and what they write is within these.
 use Rattle.std.proofs.Common.{◌≡◌, ◌⊎◌, inl, inr, ℕ, zero, suc, ◌<◌, ◌≤◌, List, [], ◌∷◌, length, refl, sym, ap, ◌∙◌, subst, arith}
 use Rattle.std.specs.Prelude.{All}
-use Rattle.std.proofs.lemmas.List.Elements.{All-nil, All-cons}
+use Rattle.std.proofs.lemmas.List.Elements.{All-nil, All-cons, All-head, All-tail}
 use Rattle.temp_ir.specs.declared.insn.TempInsn.{TempInsn}
 use Rattle.temp_ir.specs.declared.insn.TempInsn.TheVariants as i
 use Rattle.temp_ir.specs.Insns.{targets_of, with_block, flows_on_of}
@@ -10,7 +10,7 @@ use Rattle.cfg.specs.Contents.{HasContents, KeepsBlocks}
 use Rattle.alloc_model.specs.Effect.{widest_in, widest_call}
 use Rattle.temp_walk_laws.specs.SameRuns.{WritesWithin}
 use Rattle.selected_widths.specs.Widths.{IsWithinBlock, AreWithinBlocks, BlocksStayWithin, CallsStayNarrow}
-use Rattle.selected_widths.proofs.Forms.{contents_of, Kind, Jumps, Branches, Stays, kind, stays_first, all_first, all_rest}
+use Rattle.selected_widths.proofs.Forms.{contents_of, Kind, Jumps, Branches, Stays, kind, stays_first}
 
 -- ---- contents
 
@@ -21,20 +21,20 @@ module _ (w : ℕ) where
     where
       by_kind : (y : TempInsn) → Kind y → (All (WritesWithin w) (contents_of xs) → All (WritesWithin w) xs) → All (WritesWithin w) (contents_of (y ∷ xs)) → All (WritesWithin w) (y ∷ xs)
       by_kind y (Jumps block) rest g = All-cons (WritesWithin w) (i.Jump block) xs tt (rest g)
-      by_kind y (Branches op a block) rest g = All-cons (WritesWithin w) (i.Branch op a block) xs tt (rest (all_rest (WritesWithin w) (i.Branch op a 0) (contents_of xs) g))
+      by_kind y (Branches op a block) rest g = All-cons (WritesWithin w) (i.Branch op a block) xs tt (rest (All-tail (WritesWithin w) (i.Branch op a 0) (contents_of xs) g))
       by_kind y (Stays y2 e same none) rest g =
           let k : All (WritesWithin w) (y ∷ contents_of xs) = subst (All (WritesWithin w)) (stays_first y xs e same) g in
-          All-cons (WritesWithin w) y xs (all_first (WritesWithin w) y (contents_of xs) k) (rest (all_rest (WritesWithin w) y (contents_of xs) k))
+          All-cons (WritesWithin w) y xs (All-head (WritesWithin w) y (contents_of xs) k) (rest (All-tail (WritesWithin w) y (contents_of xs) k))
 
   to_contents : (xs : List TempInsn) → All (WritesWithin w) xs → All (WritesWithin w) (contents_of xs)
   to_contents [] h = All-nil (WritesWithin w)
   to_contents (z ∷ xs) h = by_kind z (kind z) (to_contents xs) h
     where
       by_kind : (y : TempInsn) → Kind y → (All (WritesWithin w) xs → All (WritesWithin w) (contents_of xs)) → All (WritesWithin w) (y ∷ xs) → All (WritesWithin w) (contents_of (y ∷ xs))
-      by_kind y (Jumps block) rest g = rest (all_rest (WritesWithin w) (i.Jump block) xs g)
-      by_kind y (Branches op a block) rest g = All-cons (WritesWithin w) (i.Branch op a 0) (contents_of xs) tt (rest (all_rest (WritesWithin w) (i.Branch op a block) xs g))
+      by_kind y (Jumps block) rest g = rest (All-tail (WritesWithin w) (i.Jump block) xs g)
+      by_kind y (Branches op a block) rest g = All-cons (WritesWithin w) (i.Branch op a 0) (contents_of xs) tt (rest (All-tail (WritesWithin w) (i.Branch op a block) xs g))
       by_kind y (Stays y2 e same none) rest g =
-          subst (All (WritesWithin w)) (sym (stays_first y xs e same)) (All-cons (WritesWithin w) y (contents_of xs) (all_first (WritesWithin w) y xs g) (rest (all_rest (WritesWithin w) y xs g)))
+          subst (All (WritesWithin w)) (sym (stays_first y xs e same)) (All-cons (WritesWithin w) y (contents_of xs) (All-head (WritesWithin w) y xs g) (rest (All-tail (WritesWithin w) y xs g)))
 
 same_width : (xs : List TempInsn) → widest_in (contents_of xs) ≡ widest_in xs
 same_width [] = refl
@@ -57,8 +57,8 @@ within_by_contents xs ys e h =
 
 within_at : (blocks : List (List TempInsn)) (n : ℕ) → AreWithinBlocks blocks → IsWithinBlock (block_at blocks n)
 within_at [] n h = All-nil (WritesWithin 0)
-within_at (block ∷ blocks) zero h = all_first IsWithinBlock block blocks h
-within_at (block ∷ blocks) (suc n) h = within_at blocks n (all_rest IsWithinBlock block blocks h)
+within_at (block ∷ blocks) zero h = All-head IsWithinBlock block blocks h
+within_at (block ∷ blocks) (suc n) h = within_at blocks n (All-tail IsWithinBlock block blocks h)
 
 all_within : (blocks : List (List TempInsn)) → ((n : ℕ) → n < length blocks → IsWithinBlock (block_at blocks n)) → AreWithinBlocks blocks
 all_within [] h = All-nil IsWithinBlock

@@ -2,7 +2,7 @@
 use Rattle.std.proofs.Common.{◌≡◌, ℕ, suc, ◌+◌, ◌-◌, ◌≤◌, ◌<◌, List, map, [], ◌∷◌, ◌++◌, length, Bool, true, false, Option, refl, arith}
 use Rattle.std.specs.Prelude.{All, nat_lt, if◌then◌else◌}
 use Rattle.std.proofs.lemmas.Bool.{lt-ltb, ltb-false}
-use Rattle.std.proofs.lemmas.List.Elements.{All-nil, All-cons, All-append}
+use Rattle.std.proofs.lemmas.List.Elements.{All-nil, All-cons, All-append, All-head, All-tail}
 use Rattle.suifvm_ir.specs.declared.insn.VmInsn.{VmInsn}
 use Rattle.suifvm_ir.specs.Functions.{AllInsns}
 use Rattle.lowering_bounds.specs.Laws.{arguments_of}
@@ -15,7 +15,6 @@ use Rattle.temp_walk_laws.specs.SameRuns.{WritesWithin}
 use Rattle.selected_widths.specs.Widths.{IsWithinBlock, AreWithinBlocks, SelectedBlocksAreWithin}
 use Rattle.selected_widths.proofs.Plain.{takes-plain, result-plain, Form, Calls, Plain, form}
 use Rattle.selected_widths.proofs.Widths.{widest_append, plains_width, plains_within}
-use Rattle.selected_widths.proofs.Forms.{all_first, all_rest}
 
 -- ---- calls of functions
 
@@ -85,8 +84,8 @@ insns_width most (y ∷ insns) h =
       arith,
       widest_append (selected_insn y) (selected_insns insns),
       insn_width y,
-      all_first (λ z. arguments_of z ≤ most) y insns h,
-      insns_width most insns (all_rest (λ z. arguments_of z ≤ most) y insns h),
+      All-head (λ z. arguments_of z ≤ most) y insns h,
+      insns_width most insns (All-tail (λ z. arguments_of z ≤ most) y insns h),
     )
 
 -- ---- functions
@@ -117,8 +116,8 @@ others_narrow most [] h = omega arith
 others_narrow most (block ∷ blocks) h =
     omega (
       arith,
-      insns_width most block (all_first (All (λ y. arguments_of y ≤ most)) block blocks h),
-      others_narrow most blocks (all_rest (All (λ y. arguments_of y ≤ most)) block blocks h),
+      insns_width most block (All-head (All (λ y. arguments_of y ≤ most)) block blocks h),
+      others_narrow most blocks (All-tail (All (λ y. arguments_of y ≤ most)) block blocks h),
     )
 
 pub calls_narrow : (params most : ℕ) (blocks : List (List VmInsn)) → AllInsns (λ y. arguments_of y ≤ most) blocks → widest_call (selected_blocks params blocks) ≤ most
@@ -128,6 +127,6 @@ calls_narrow params most (block ∷ blocks) h =
       arith,
       widest_append (parameter_items params) (selected_insns block),
       plains_width (parameter_items params) (takes-plain 0 params),
-      insns_width most block (all_first (All (λ y. arguments_of y ≤ most)) block blocks h),
-      others_narrow most blocks (all_rest (All (λ y. arguments_of y ≤ most)) block blocks h),
+      insns_width most block (All-head (All (λ y. arguments_of y ≤ most)) block blocks h),
+      others_narrow most blocks (All-tail (All (λ y. arguments_of y ≤ most)) block blocks h),
     )

@@ -1,19 +1,18 @@
 -- Where branches test values, each call has its arguments still.
 use Rattle.std.proofs.Common.{◌≡◌, ℕ, ◌≤◌, List, map, [], ◌∷◌, refl, arith}
 use Rattle.std.specs.Prelude.{All}
-use Rattle.std.proofs.lemmas.List.Elements.{All-nil, All-cons}
+use Rattle.std.proofs.lemmas.List.Elements.{All-nil, All-cons, All-head, All-tail}
 use Rattle.suifvm_ir.specs.declared.insn.VmInsn.{VmInsn}
 use Rattle.suifvm_ir.specs.declared.insn.VmInsn.TheVariants as x
 use Rattle.suifvm_ir.specs.Functions.{AllInsns}
 use Rattle.lowering_bounds.specs.Laws.{arguments_of}
-use Rattle.value_tests.specs.declared.known.Known.{Known}
-use Rattle.value_tests.specs.declared.known.Known.TheVariants.{Nothing}
+use Rattle.value_tests.specs.declared.known.RegisterFact.{RegisterFact}
+use Rattle.value_tests.specs.declared.known.RegisterFact.TheVariants.{Nothing}
 use Rattle.value_tests.specs.Tests.{facts_after, tested_insn, tested_from, tested_block}
 use Rattle.selected_widths.specs.Widths.{SelectedCallsAreNarrow}
 use Rattle.selected_widths.proofs.Selected.{calls_narrow}
-use Rattle.selected_widths.proofs.Forms.{all_first, all_rest}
 
-seen_arguments : (k : Known) (y : VmInsn) → arguments_of (tested_insn k y) ≡ arguments_of y
+seen_arguments : (k : RegisterFact) (y : VmInsn) → arguments_of (tested_insn k y) ≡ arguments_of y
 seen_arguments k (x.LoadConstant ty d word) = refl
 seen_arguments k (x.LoadAddress d place plus) = refl
 seen_arguments k (x.Load ty d p plus) = refl
@@ -34,19 +33,19 @@ seen_arguments k x.Nop = refl
 abbrev IsFew : ℕ → VmInsn → Type 0
 IsFew most y = arguments_of y ≤ most
 
-tested_few : (most : ℕ) (k : Known) (insns : List VmInsn) → All (IsFew most) insns → All (IsFew most) (tested_from k insns)
+tested_few : (most : ℕ) (k : RegisterFact) (insns : List VmInsn) → All (IsFew most) insns → All (IsFew most) (tested_from k insns)
 tested_few most k [] h = All-nil (IsFew most)
 tested_few most k (y ∷ insns) h =
     All-cons (IsFew most) (tested_insn k y) (tested_from (facts_after k y) insns)
-    (omega (arith, seen_arguments k y, all_first (IsFew most) y insns h))
-    (tested_few most (facts_after k y) insns (all_rest (IsFew most) y insns h))
+    (omega (arith, seen_arguments k y, All-head (IsFew most) y insns h))
+    (tested_few most (facts_after k y) insns (All-tail (IsFew most) y insns h))
 
 blocks_few : (most : ℕ) (blocks : List (List VmInsn)) → AllInsns (IsFew most) blocks → AllInsns (IsFew most) (map tested_block blocks)
 blocks_few most [] h = All-nil (All (IsFew most))
 blocks_few most (block ∷ blocks) h =
     All-cons (All (IsFew most)) (tested_block block) (map tested_block blocks)
-    (tested_few most Nothing block (all_first (All (IsFew most)) block blocks h))
-    (blocks_few most blocks (all_rest (All (IsFew most)) block blocks h))
+    (tested_few most Nothing block (All-head (All (IsFew most)) block blocks h))
+    (blocks_few most blocks (All-tail (All (IsFew most)) block blocks h))
 
 pub selected_narrow : SelectedCallsAreNarrow
 selected_narrow params most blocks h = calls_narrow params most (map tested_block blocks) (blocks_few most blocks h)

@@ -2,7 +2,7 @@
 use Rattle.std.proofs.Common.{◌≡◌, ℕ, ◌+◌, ◌≤◌, List, [], ◌∷◌, ◌++◌, true, refl, arith}
 use Rattle.std.specs.Prelude.{All, max}
 use Rattle.std.proofs.lemmas.Bool.{false≢true, and_parts, lt-ltb, ltb-true}
-use Rattle.std.proofs.lemmas.List.Elements.{All-nil, All-cons}
+use Rattle.std.proofs.lemmas.List.Elements.{All-nil, All-cons, All-head, All-tail}
 use Rattle.suifvm_ir.specs.Functions.{AllInsns}
 use Rattle.temp_ir.specs.declared.insn.TempInsn.{TempInsn}
 use Rattle.temp_ir.specs.declared.insn.TempInsn.TheVariants as i
@@ -10,7 +10,6 @@ use Rattle.alloc_model.specs.Effect.{width_of, widest_in, widest_call}
 use Rattle.temp_walk_laws.specs.SameRuns.{WritesWithin}
 use Rattle.selected_widths.specs.Widths.{IsWithinBlock, AreWithinBlocks, BlocksAreWithinFunctions}
 use Rattle.selected_widths.proofs.Plain.{is_plain, are_plain}
-use Rattle.selected_widths.proofs.Forms.{all_first, all_rest}
 
 pub widest_append : (xs ys : List TempInsn) → widest_in (xs ++ ys) ≡ max (widest_in xs) (widest_in ys)
 widest_append [] ys = omega arith
@@ -95,14 +94,14 @@ wider w v i.Mark le h = tt
 widers : (w v : ℕ) (xs : List TempInsn) → w ≤ v → All (WritesWithin w) xs → All (WritesWithin v) xs
 widers w v [] le h = All-nil (WritesWithin v)
 widers w v (z ∷ xs) le h =
-    All-cons (WritesWithin v) z xs (wider w v z le (all_first (WritesWithin w) z xs h)) (widers w v xs le (all_rest (WritesWithin w) z xs h))
+    All-cons (WritesWithin v) z xs (wider w v z le (All-head (WritesWithin w) z xs h)) (widers w v xs le (All-tail (WritesWithin w) z xs h))
 
 blocks_within : (v : ℕ) (blocks : List (List TempInsn)) → widest_call blocks ≤ v → AreWithinBlocks blocks → AllInsns (WritesWithin v) blocks
 blocks_within v [] le h = All-nil (All (WritesWithin v))
 blocks_within v (block ∷ blocks) le h =
     All-cons (All (WritesWithin v)) block blocks
-    (widers (widest_in block) v block (omega (arith, le)) (all_first IsWithinBlock block blocks h))
-    (blocks_within v blocks (omega (arith, le)) (all_rest IsWithinBlock block blocks h))
+    (widers (widest_in block) v block (omega (arith, le)) (All-head IsWithinBlock block blocks h))
+    (blocks_within v blocks (omega (arith, le)) (All-tail IsWithinBlock block blocks h))
 
 pub functions_within : BlocksAreWithinFunctions
 functions_within blocks h = blocks_within (widest_call blocks) blocks (omega arith) h

@@ -1,13 +1,14 @@
 -- Turns of the loops that put code: what was put, with the code of what is left behind it, is the whole.
 use Rattle.std.proofs.Common.{◌≡◌, ℕ, zero, suc, ◌+◌, ◌-◌, ◌^◌, ◌<◌, ◌≤◌, List, [], ◌∷◌, ◌++◌, length, drop, get_or, All, refl, sym, ap, ◌∙◌, subst, arith}
 use Rattle.std.proofs.lemmas.List.{append_assoc}
+use Rattle.std.proofs.lemmas.List.Elements.{All-cons, All-head, All-tail}
 use Rattle.bk_ilist.specs.Listing.{items}
 use Rattle.suifvm_ir.specs.declared.insn.VmInsn.{VmInsn}
 use Rattle.temp_ir.specs.declared.insn.TempInsn.{TempInsn}
 use Rattle.selection_code.specs.Instructions.{temp_of, pass_item, pass_items, take_item, take_items, selected_insn}
 use Rattle.selection_code.specs.Functions.{selected_insns}
 use Rattle.selection_code.specs.Fields.{HasFields, HasNumbers}
-use Rattle.value_tests.specs.declared.known.Known.{Known}
+use Rattle.value_tests.specs.declared.known.RegisterFact.{RegisterFact}
 use Rattle.value_tests.specs.Tests.{facts_after, tested_insn, tested_from}
 use Rattle.value_tests.specs.model.Registers.{KnownIsBelow}
 use Rattle.value_tests.proofs.Functions.{after_below}
@@ -63,30 +64,20 @@ taken_end count i xs whole le is =
 
 -- ---- instructions of a block
 
-all_first : {A : Type 0} (P : A → Type 0) (x : A) (xs : List A) → All P (x ∷ xs) → P x
-all_first P x xs h = h 0 x (omega arith)
-
-all_rest : {A : Type 0} (P : A → Type 0) (x : A) (xs : List A) → All P (x ∷ xs) → All P xs
-all_rest P x xs h = λ k d lt. h (suc k) d (omega (arith, lt))
-
-all_more : {A : Type 0} (P : A → Type 0) (x : A) (xs : List A) → P x → All P xs → All P (x ∷ xs)
-all_more P x xs p h zero d lt = p
-all_more P x xs p h (suc k) d lt = h k d (omega (arith, lt))
-
 module _ (all : List (ℕ × VmInsn)) (id : ℕ) (y : VmInsn) (rest : List (ℕ × VmInsn)) (is : all ≡ (id, y) ∷ rest) where
-  pub insn_turn : (k next : Known) → next ≡ facts_after k y → (xs ys whole : List TempInsn) → ys ≡ xs ++ selected_insn (tested_insn k y) → xs ++ selected_insns (tested_from k (items all)) ≡ whole → ys ++ selected_insns (tested_from next (items rest)) ≡ whole
+  pub insn_turn : (k next : RegisterFact) → next ≡ facts_after k y → (xs ys whole : List TempInsn) → ys ≡ xs ++ selected_insn (tested_insn k y) → xs ++ selected_insns (tested_from k (items all)) ≡ whole → ys ++ selected_insns (tested_from next (items rest)) ≡ whole
   insn_turn k next behind xs ys whole put e =
       ap (λ j. ys ++ selected_insns (tested_from j (items rest))) behind ∙ ap (λ l. l ++ selected_insns (tested_from (facts_after k y) (items rest))) put
       ∙ append_assoc xs (selected_insn (tested_insn k y)) (selected_insns (tested_from (facts_after k y) (items rest))) ∙ ap (λ l. xs ++ selected_insns (tested_from k (items l))) (sym is) ∙ e
 
   pub numbers_here : All HasNumbers (items all) → HasNumbers y
-  numbers_here h = all_first HasNumbers y (items rest) (subst (λ l. All HasNumbers (items l)) is h)
+  numbers_here h = All-head HasNumbers y (items rest) (subst (λ l. All HasNumbers (items l)) is h)
 
-  pub known_turn : (k next : Known) → next ≡ facts_after k y → All HasNumbers (items all) → KnownIsBelow (2 ^ 32 - 4) next
+  pub known_turn : (k next : RegisterFact) → next ≡ facts_after k y → All HasNumbers (items all) → KnownIsBelow (2 ^ 32 - 4) next
   known_turn k next behind h = let here = numbers_here h in subst (KnownIsBelow (2 ^ 32 - 4)) (sym behind) (after_below (2 ^ 32 - 4) k y (here.reads, here.writes))
 
   pub numbers_left : All HasNumbers (items all) → All HasNumbers (items rest)
-  numbers_left h = all_rest HasNumbers y (items rest) (subst (λ l. All HasNumbers (items l)) is h)
+  numbers_left h = All-tail HasNumbers y (items rest) (subst (λ l. All HasNumbers (items l)) is h)
 
   pub fields_turn : (block : List VmInsn) → (All HasFields (items all) → All HasFields block) → HasFields y → All HasFields (items rest) → All HasFields block
-  fields_turn block h first left = h (subst (λ l. All HasFields (items l)) (sym is) (all_more HasFields y (items rest) first left))
+  fields_turn block h first left = h (subst (λ l. All HasFields (items l)) (sym is) (All-cons HasFields y (items rest) first left))

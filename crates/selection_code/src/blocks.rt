@@ -13,7 +13,7 @@ use std::alloc::{AllocError, Global};
 use suifvm_ir::block::Block;
 use suifvm_ir::insn::VmInsn;
 use temp_ir::insn::TempInsn;
-use value_tests::Known;
+use value_tests::RegisterFact;
 
 /// Puts the code of the instructions of a block. A branch on what a comparison with zero found tests the value.
 #[tactic(auto, using(crate::proofs::Turns::insn_turn, crate::proofs::Turns::numbers_here, crate::proofs::Turns::numbers_left, crate::proofs::Turns::fields_turn))]
@@ -22,7 +22,7 @@ fn put_insns(out: &mut Block<TempInsn>, block: &Block<VmInsn>) -> Result<(), All
     ensures put { OnOk result (out.new ≡ out.old ++ functions.selected_insns (tested_block block.now)) }
     ensures fields { OnOk result (All HasFields block.now) }
 {
-    let mut known = Known::Nothing;
+    let mut known = RegisterFact::Nothing;
     for line in block.insns.iter() {
         let (_id, insn) = line;
         put_insn(out, known, insn)?;

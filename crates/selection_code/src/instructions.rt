@@ -18,13 +18,13 @@ use std::alloc::AllocError;
 use suifvm_ir::block::Block;
 use suifvm_ir::insn::VmInsn;
 use temp_ir::insn::TempInsn;
-use value_tests::Known;
+use value_tests::RegisterFact;
 
 /// Puts the code of an instruction, where this is known of registers. Where memory is short a part of it may have been
 /// put.
 pub(crate) fn put_insn(
     out: &mut Block<TempInsn>,
-    known: Known,
+    known: RegisterFact,
     insn: &VmInsn,
 ) -> Result<(), AllocError>
     requires numbers { HasNumbers insn.now }

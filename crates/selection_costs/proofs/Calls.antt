@@ -1,6 +1,7 @@
 -- How many calls the code has.
 use Rattle.std.proofs.Common.{◌≡◌, ℕ, zero, suc, ◌+◌, ◌-◌, ◌≤◌, List, [], ◌∷◌, ◌++◌, length, Bool, true, false, Option, Some, None, refl, ap, arith}
 use Rattle.std.specs.Prelude.{◌&&◌, ◌==◌, cond, count_by, nat_lt, if◌then◌else◌}
+use Rattle.std.proofs.lemmas.Bool.{and_parts}
 use Rattle.std.proofs.lemmas.List.Sums.{sum_by-cons, sum_by-append}
 use Rattle.suifvm_ir.specs.declared.types.VmType.{VmType}
 use Rattle.suifvm_ir.specs.declared.insn.VmBinaryOp.{VmBinaryOp}
@@ -19,7 +20,6 @@ use Rattle.temp_ir.specs.Fixed.{fixed_reads_of}
 use Rattle.temp_ir.specs.Cost.{makes_call}
 use Rattle.alpha_forms.specs.Operations.{binary_items}
 use Rattle.selection_code.specs.Instructions.{temp_of, argument_register, pass_item, pass_items, take_item, take_items, result_items, byte_items, put_char_items, exit_call_items, builtin_items, call_items, return_items, selected_insn}
-use Rattle.selection_shapes.proofs.Lists.{both}
 use Rattle.selection_shapes.proofs.Plain.{is_simple, are_simple, constant_simple, load_simple, store_simple, parts_simple, shift_simple, compare_simple, convert_simple}
 
 -- ---- code that calls nothing
@@ -64,7 +64,7 @@ calls-append xs ys = sum_by-append (λ y. cond (makes_call y) 1 0) xs ys
 no_calls : (xs : List TempInsn) → are_simple xs ≡ true → count_by makes_call xs ≡ 0
 no_calls [] e = refl
 no_calls (z ∷ xs) e =
-    let p = both (is_simple z) (are_simple xs) e in
+    let p = and_parts (is_simple z) (are_simple xs) e in
     omega (arith, calls-cons z xs, one_call z (simple_calls z p.0), no_calls xs p.1)
 
 simple_few : (xs : List TempInsn) → are_simple xs ≡ true → count_by makes_call xs ≤ 0

@@ -2,6 +2,7 @@
 use Rattle.std.proofs.Common.{◌≡◌, ℕ, ◌+◌, ◌*◌, ◌≤◌, List, [], ◌∷◌, ◌++◌, length, map, sum_by, true, All, refl, sym, subst, arith, length-append}
 use Rattle.std.specs.Prelude.{count_by}
 use Rattle.std.proofs.lemmas.List.Sums.{sum_by-cons}
+use Rattle.std.proofs.lemmas.List.Elements.{All-head, All-tail}
 use Rattle.suifvm_ir.specs.declared.insn.VmInsn.{VmInsn}
 use Rattle.suifvm_ir.specs.Insns as vm
 use Rattle.suifvm_ir.specs.Functions.{EndsLate, count_of, edge_count}
@@ -11,7 +12,6 @@ use Rattle.temp_ir.specs.Insns.{targets_of, flows_on_of}
 use Rattle.temp_ir.specs.Cost.{makes_call, call_count}
 use Rattle.selection_code.specs.Instructions.{selected_insn}
 use Rattle.selection_code.specs.Functions.{selected_insns, parameter_items, selected_blocks}
-use Rattle.selection_shapes.proofs.Lists.{all_first, all_rest}
 use Rattle.selection_shapes.proofs.Plain.{are_plain, takes_plain}
 use Rattle.selection_costs.specs.Costs.{CodeCostsLittle}
 use Rattle.selection_costs.proofs.Lengths.{insn_short, length-take_items}
@@ -59,8 +59,8 @@ blocks_cost (insns ∷ blocks) h =
       arith,
       bulk_more (selected_insns insns) (map selected_insns blocks),
       cost_more insns blocks,
-      block_cost [] insns refl (all_first (EndsLate vm.targets_of vm.flows_on_of) insns blocks h),
-      blocks_cost blocks (all_rest (EndsLate vm.targets_of vm.flows_on_of) insns blocks h),
+      block_cost [] insns refl (All-head (EndsLate vm.targets_of vm.flows_on_of) insns blocks h),
+      blocks_cost blocks (All-tail (EndsLate vm.targets_of vm.flows_on_of) insns blocks h),
     )
 
 -- ---- functions
@@ -72,10 +72,10 @@ function_cost params (insns ∷ blocks) h =
       arith,
       bulk_more (parameter_items params ++ selected_insns insns) (map selected_insns blocks),
       cost_more insns blocks,
-      block_cost (parameter_items params) insns (takes_plain 0 params) (all_first (EndsLate vm.targets_of vm.flows_on_of) insns blocks h),
+      block_cost (parameter_items params) insns (takes_plain 0 params) (All-head (EndsLate vm.targets_of vm.flows_on_of) insns blocks h),
       length-take_items 0 params,
       takes_calls 0 params,
-      blocks_cost blocks (all_rest (EndsLate vm.targets_of vm.flows_on_of) insns blocks h),
+      blocks_cost blocks (All-tail (EndsLate vm.targets_of vm.flows_on_of) insns blocks h),
     )
 
 pub costs_little : CodeCostsLittle

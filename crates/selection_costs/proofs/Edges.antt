@@ -1,7 +1,9 @@
 -- The code of a block has as many edges as the block.
 use Rattle.std.proofs.Common.{◌≡◌, ℕ, List, [], ◌∷◌, ◌++◌, length, Bool, true, false, Option, Some, None, refl, sym, ap, ◌∙◌, subst, arith}
 use Rattle.std.specs.Prelude.{if◌then◌else◌, All}
+use Rattle.std.proofs.lemmas.Bool.{and_parts}
 use Rattle.std.proofs.lemmas.List.{append_assoc, append-nil}
+use Rattle.std.proofs.lemmas.List.Elements.{All-head, All-tail}
 use Rattle.suifvm_ir.specs.declared.insn.VmInsn.{VmInsn}
 use Rattle.suifvm_ir.specs.declared.insn.VmInsn.TheVariants as x
 use Rattle.suifvm_ir.specs.Insns as vm
@@ -12,7 +14,6 @@ use Rattle.temp_ir.specs.Insns.{targets_of, flows_on_of}
 use Rattle.alpha_forms.specs.Operations.{temp_branch}
 use Rattle.selection_code.specs.Instructions.{temp_of, selected_insn}
 use Rattle.selection_code.specs.Functions.{selected_insns}
-use Rattle.selection_shapes.proofs.Lists.{both, all_first, all_rest}
 use Rattle.selection_shapes.proofs.Plain.{is_plain, are_plain, plain-append}
 use Rattle.selection_shapes.proofs.Shaped.{front_more, last_more, last_push, straight_plain, plain_is}
 
@@ -37,9 +38,9 @@ plain_edges : (xs : List TempInsn) → are_plain xs ≡ true → edges xs ≡ 1
 unfolding edges_after
 plain_edges [] e = refl
 plain_edges (z ∷ []) e =
-    let s = plain_is z (both (is_plain z) true e).0 in one_edge (targets_of z) (flows_on_of z) s.0 s.1
+    let s = plain_is z (and_parts (is_plain z) true e).0 in one_edge (targets_of z) (flows_on_of z) s.0 s.1
 plain_edges (z ∷ y ∷ zs) e =
-    ap edges_after (last_more z y zs) ∙ plain_edges (y ∷ zs) (both (is_plain z) (are_plain (y ∷ zs)) e).1
+    ap edges_after (last_more z y zs) ∙ plain_edges (y ∷ zs) (and_parts (is_plain z) (are_plain (y ∷ zs)) e).1
 
 -- ---- the last instruction
 
@@ -78,6 +79,6 @@ block_edges (y ∷ []) before h p = ap (λ l. edges (before ++ l)) (append-nil (
 block_edges (y ∷ z ∷ insns) before h p =
     let g : All (IsStraight vm.targets_of vm.flows_on_of) (y ∷ front_of (z ∷ insns)) = subst (All (IsStraight vm.targets_of vm.flows_on_of)) (front_more y z insns) h in
     ap edges (sym (append_assoc before (selected_insn y) (selected_insns (z ∷ insns))))
-    ∙ block_edges (z ∷ insns) (before ++ selected_insn y) (all_rest (IsStraight vm.targets_of vm.flows_on_of) y (front_of (z ∷ insns)) g)
-    (plain-append before (selected_insn y) p (straight_plain y (all_first (IsStraight vm.targets_of vm.flows_on_of) y (front_of (z ∷ insns)) g)))
+    ∙ block_edges (z ∷ insns) (before ++ selected_insn y) (All-tail (IsStraight vm.targets_of vm.flows_on_of) y (front_of (z ∷ insns)) g)
+    (plain-append before (selected_insn y) p (straight_plain y (All-head (IsStraight vm.targets_of vm.flows_on_of) y (front_of (z ∷ insns)) g)))
     ∙ ap vm_edges_after (sym (last_more y z insns))

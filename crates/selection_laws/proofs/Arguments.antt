@@ -198,18 +198,18 @@ module _ (widest own : ℕ) (o : Outer) where
           wrote_one widest own (i.WriteArgument (k - 6) t) s o (Outgoing (k - 6)) (s (Temp t)) refl refl refl
           (ap (λ b. if b then Writes (s (Temp t) ∷ []) o else fails o) (lt-ltb (k - 6 + 6) widest (omega (arith, high, within))))
 
-  pub record Passed (s : Temps) (k : ℕ) (arguments : List ℕ) : Type 0 where
+  pub record PassesArguments (s : Temps) (k : ℕ) (arguments : List ℕ) : Type 0 where
     pub after : Temps
     pub ran : (xs : List TempInsn) → runs widest (pass_items k arguments ++ xs) own s o ≡ runs widest xs own after o
     pub holds : map after (holders_of Outgoing k (length arguments)) ≡ map (λ a. s (Temp (temp_of a))) arguments
     pub earlier : (j : ℕ) → j < k → after (holder_of Outgoing j) ≡ s (holder_of Outgoing j)
     pub temps : (t : ℕ) → after (Temp t) ≡ s (Temp t)
 
-  pub passed : (arguments : List ℕ) (k : ℕ) (s : Temps) → k + length arguments ≤ widest → Passed s k arguments
-  passed [] k s fits = record { after = s; ran = λ xs. refl; holds = refl; earlier = λ j lt. refl; temps = λ t. refl }
-  passed (a ∷ arguments) k s fits =
+  pub passed_arguments : (arguments : List ℕ) (k : ℕ) (s : Temps) → k + length arguments ≤ widest → PassesArguments s k arguments
+  passed_arguments [] k s fits = record { after = s; ran = λ xs. refl; holds = refl; earlier = λ j lt. refl; temps = λ t. refl }
+  passed_arguments (a ∷ arguments) k s fits =
       let w = pass_wrote k (temp_of a) s (omega (arith, fits)) in
-      let rest = passed arguments (suc k) w.after (omega (arith, fits)) in
+      let rest = passed_arguments arguments (suc k) w.after (omega (arith, fits)) in
       record {
         after = rest.after;
         ran = λ xs. w.ran (pass_items (suc k) arguments ++ xs) ∙ rest.ran xs;
@@ -243,7 +243,7 @@ module _ (widest own : ℕ) (o : Outer) where
           wrote_one widest own (i.ReadArgument (temp_of k) (k - 6)) s o (Temp (temp_of k)) (Plain v) refl refl refl
           (ap (λ c. writes (argument_answer c) o) h ∙ ap (λ a. writes a o) (given v set))
 
-  pub record Taken (s : Temps) (k : ℕ) (vs : List Value) : Type 0 where
+  pub record TakenArguments (s : Temps) (k : ℕ) (vs : List Value) : Type 0 where
     pub after : Temps
     pub ran : (xs : List TempInsn) → runs widest (take_items k (length vs) ++ xs) own s o ≡ runs widest xs own after o
     pub holds : RegistersFrom after k vs
@@ -253,7 +253,7 @@ module _ (widest own : ℕ) (o : Outer) where
   still s t k [] same h = tt
   still s t k (v ∷ vs) same h = (same k ∙ h.0, still s t (suc k) vs same h.1)
 
-  pub taken : (vs : List Value) (k : ℕ) (s : Temps) → HoldsFrom Incoming in_order never_in fixed_in in_temp temp_in s k (map Plain vs) → AllSet vs → Taken s k vs
+  pub taken : (vs : List Value) (k : ℕ) (s : Temps) → HoldsFrom Incoming in_order never_in fixed_in in_temp temp_in s k (map Plain vs) → AllSet vs → TakenArguments s k vs
   taken [] k s h set = record { after = s; ran = λ xs. refl; holds = tt; kept = λ t out. refl }
   taken (v ∷ vs) k s h set =
       let w = take_wrote k v s h.0 set.0 in
@@ -284,12 +284,12 @@ module _ (widest own : ℕ) (o : Outer) where
 
   -- ---- the entry of a function with as many arguments as it takes
 
-  pub record Entered (vs : List Value) : Type 0 where
+  pub record EntersWithArguments (vs : List Value) : Type 0 where
     pub after : Temps
     pub ran : (xs : List TempInsn) → runs widest (take_items 0 (length vs) ++ xs) own (put_all holder_eq (entry_holders (length (map Plain vs))) (map Plain vs) empty) o ≡ runs widest xs own after o
     pub holds : (k : ℕ) → after (Temp (temp_of k)) ≡ Plain (registers_of vs k)
 
-  pub enters : (vs : List Value) → AllSet vs → Entered vs
+  pub enters : (vs : List Value) → AllSet vs → EntersWithArguments vs
   enters vs set =
       let cs = map Plain vs in
       let s = put_all holder_eq (entry_holders (length cs)) cs empty in

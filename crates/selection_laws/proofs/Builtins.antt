@@ -39,7 +39,7 @@ use Rattle.alpha_forms.proofs.Others.{branches_taken}
 use Rattle.selection_code.specs.Instructions.{temp_of, result_items, byte_items}
 use Rattle.selection_code.specs.Functions.{selected_insns, selected_blocks}
 use Rattle.selection_laws.proofs.Plain.{plain_code}
-use Rattle.selection_laws.proofs.Machines.{Placed, next_place, Standing, next_standing}
+use Rattle.selection_laws.proofs.Machines.{BlockPlace, next_place, FlowingPlace, next_standing}
 use Rattle.selection_laws.proofs.Steps.{of_register, IsOrdinary, vm_conf, temp_conf, Here, Waits, Simulates, Reaches, NextReaches, never_undefined, same_ending, enter_block, put_tail, result_tail, vm_acts, turn_step, last_step}
 
 -- ---- the input
@@ -114,7 +114,7 @@ module _ (rooms : Rooms) (fs : List VmFunction) (n : ℕ) (ih : Simulates rooms 
       z : TempInsn
       z = i.Branch (temp_branch op) (temp_of a) (suc block)
 
-      goes : (taken : Bool) (there : ℕ) → Standing (selected_blocks f.params f.blocks) b there (z ∷ selected_insns left) → Rest y w.meter (if taken then Jumps 0 w.outer else Writes [] w.outer) →
+      goes : (taken : Bool) (there : ℕ) → FlowingPlace (selected_blocks f.params f.blocks) b there (z ∷ selected_insns left) → Rest y w.meter (if taken then Jumps 0 w.outer else Writes [] w.outer) →
           NextReaches rooms fs (act_on Content Temps rooms (temp_code (map plain_code fs)) (temp_conf rooms fs g b there own s ts w) w.meter (temp_site (widest_call (selected_blocks f.params f.blocks)) z) (temps.branches (Some taken) w.outer)) e
       goes true there st q = enter_block rooms fs n ih g block own r (without (is_emptied z) s) f vs ts w e h.number h.holds h.held ordinary waits defined q
       goes false there st q =
@@ -127,7 +127,7 @@ module _ (rooms : Rooms) (fs : List VmFunction) (n : ℕ) (ih : Simulates rooms 
             held = h.held;
           }) ordinary waits defined q
 
-      by_test : (o : Option Bool) → value_holds w.outer.memory ty (r a) ≡ o → (there : ℕ) → Standing (selected_blocks f.params f.blocks) b there (z ∷ selected_insns left) →
+      by_test : (o : Option Bool) → value_holds w.outer.memory ty (r a) ≡ o → (there : ℕ) → FlowingPlace (selected_blocks f.params f.blocks) b there (z ∷ selected_insns left) →
           NextReaches rooms fs (act_on Content Temps rooms (temp_code (map plain_code fs)) (temp_conf rooms fs g b there own s ts w) w.meter (temp_site (widest_call (selected_blocks f.params f.blocks)) z)
           (temps.does (widest_call (selected_blocks f.params f.blocks)) z own (map s (holders_read z)) w.outer)) e
       by_test None test there st =
@@ -151,7 +151,7 @@ module _ (rooms : Rooms) (fs : List VmFunction) (n : ℕ) (ih : Simulates rooms 
   argument_set false y m a R is go = absurd (never_undefined (whole_world w.outer m) _ e is defined)
 
   -- the byte that was put is the result
-  byte_tail : (d : Option ℕ) (a k there : ℕ) (t : Temps) (u : World) → r a ≡ Word k → Placed f.blocks b (suc at) left → Standing (selected_blocks f.params f.blocks) b there (byte_items d a ++ selected_insns left) → slice_get fs g ≡ Some f
+  byte_tail : (d : Option ℕ) (a k there : ℕ) (t : Temps) (u : World) → r a ≡ Word k → BlockPlace f.blocks b (suc at) left → FlowingPlace (selected_blocks f.params f.blocks) b there (byte_items d a ++ selected_insns left) → slice_get fs g ≡ Some f
       → ((j : ℕ) → t (Temp (temp_of j)) ≡ Plain (r j)) → ((j : ℕ) → IsHeldWord (r j)) → IsOrdinary u.outer
       → exec Value Registers rooms (vm_code (map code_of fs)) n (vm_conf rooms fs g b (suc at) own (set_registers (named_register d) (Word (k % 256) ∷ []) r) vs u) ≡ Over e →
       Reaches rooms fs (temp_conf rooms fs g b there own t ts u) e
@@ -180,7 +180,7 @@ module _ (rooms : Rooms) (fs : List VmFunction) (n : ℕ) (ih : Simulates rooms 
       t : Temps
       t = put holder_eq (Fixed 0) (word_content 2) (without (is_emptied (i.SetFixed fixed.Value (pos 2))) t1)
 
-      by_value : (v : Value) → r a ≡ v → (m : Meter) (there : ℕ) → Standing (selected_blocks f.params f.blocks) b there (i.Serve service.PutByte ∷ (byte_items d a ++ selected_insns left)) →
+      by_value : (v : Value) → r a ≡ v → (m : Meter) (there : ℕ) → FlowingPlace (selected_blocks f.params f.blocks) b there (i.Serve service.PutByte ∷ (byte_items d a ++ selected_insns left)) →
           Rest y m (puts_char v w.outer) → Now (i.Serve service.PutByte) t m there
       by_value (Address p) is m there st q = absurd (never_undefined (whole_world w.outer m) _ e q defined)
       by_value Unset is m there st q = absurd (never_undefined (whole_world w.outer m) _ e q defined)

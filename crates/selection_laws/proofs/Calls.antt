@@ -33,8 +33,8 @@ use Rattle.selection_code.specs.Instructions.{temp_of, pass_items, take_items, r
 use Rattle.selection_code.specs.Functions.{selected_insns, parameter_items, selected_blocks}
 use Rattle.selection_laws.proofs.Plain.{plain_code}
 use Rattle.selection_laws.proofs.Memories.{bytes_begins, bytes_ends}
-use Rattle.selection_laws.proofs.Machines.{next_place, Standing, next_standing, site_there, comes_then, Came, straight}
-use Rattle.selection_laws.proofs.Arguments.{registers_and_places, out_order, never_out, fixed_out, out_temp, temp_out, Passed, passed, AllSet, Entered, enters}
+use Rattle.selection_laws.proofs.Machines.{next_place, FlowingPlace, next_standing, site_there, comes_then, Came, straight}
+use Rattle.selection_laws.proofs.Arguments.{registers_and_places, out_order, never_out, fixed_out, out_temp, temp_out, PassesArguments, passed_arguments, AllSet, EntersWithArguments, enters}
 use Rattle.selection_laws.proofs.Steps.{first_block, IsOrdinary, vm_conf, temp_conf, Here, Waits, none, more, Simulates, Reaches, NextReaches, is_over, never_undefined, same_ending, vm_number, temp_number, vm_site, lost, result_tail, vm_acts, turn_step, last_step}
 
 -- ---- lists
@@ -95,8 +95,8 @@ module _ (rooms : Rooms) (fs : List VmFunction) where
           absurd (lost rooms fs n (vm_conf rooms fs g 0 0 own (registers_of us) vs w) e (ap (site_in_function 0 0) (vm_number rooms fs g f number) ∙ ap (site_in_block 0 0) there) defined is)
       by_block (Some insns) there =
           let widest = widest_call (selected_blocks f.params f.blocks) in
-          let entered : Entered widest own w.outer us = enters widest own w.outer us set in
-          let standing : Standing (selected_blocks f.params f.blocks) 0 0 (parameter_items f.params ++ selected_insns insns) =
+          let entered : EntersWithArguments widest own w.outer us = enters widest own w.outer us set in
+          let standing : FlowingPlace (selected_blocks f.params f.blocks) 0 0 (parameter_items f.params ++ selected_insns insns) =
           record { place = record { before = []; there = first_block f.params f.blocks ∙ ap (option_map (λ l. parameter_items f.params ++ selected_insns l)) there; here = refl }; flows = refl } in
           let ran : runs widest (parameter_items f.params) own start w.outer ≡ After entered.after w.outer =
           ap (λ k. runs widest (take_items 0 k) own start w.outer) (sym count)
@@ -146,8 +146,8 @@ module _ (rooms : Rooms) (fs : List VmFunction) where
             let two = wide_among (selected_blocks f.params f.blocks) b (h.standing.place.before ++ selected_insns (y ∷ left)) h.standing.place.there in
             omega (arith, one, two)
 
-        p : Passed (widest_call (selected_blocks f.params f.blocks)) own w.outer s 0 arguments
-        p = passed (widest_call (selected_blocks f.params f.blocks)) own w.outer arguments 0 s fits
+        p : PassesArguments (widest_call (selected_blocks f.params f.blocks)) own w.outer s 0 arguments
+        p = passed_arguments (widest_call (selected_blocks f.params f.blocks)) own w.outer arguments 0 s fits
 
         read : map p.after (holders_read z) ≡ map Plain (map r arguments)
         read =
@@ -157,7 +157,7 @@ module _ (rooms : Rooms) (fs : List VmFunction) where
         entered_outer : (m : Meter) → IsOrdinary (begin_locals w.outer (sizes_in (slice_get (map code_of fs) k)))
         entered_outer m = record { memory = bytes_begins (sizes_in (slice_get (map code_of fs) k)) w.outer.memory ordinary.memory; input = ordinary.input }
 
-        by_set : (c : Bool) → list_all is_set (map r arguments) ≡ c → (m : Meter) (there : ℕ) → Standing (selected_blocks f.params f.blocks) b there (z ∷ (result_items d ++ selected_insns left)) →
+        by_set : (c : Bool) → list_all is_set (map r arguments) ≡ c → (m : Meter) (there : ℕ) → FlowingPlace (selected_blocks f.params f.blocks) b there (z ∷ (result_items d ++ selected_insns left)) →
             go_on (act_on Value Registers rooms (vm_code (map code_of fs)) (vm_conf rooms fs g b at own r vs w) m (insn_site y) (if c then Calls k (map r arguments) w.outer else fails w.outer)) (exec Value Registers rooms (vm_code (map code_of fs)) n) ≡ Over e →
             NextReaches rooms fs (act_on Content Temps rooms (temp_code (map plain_code fs)) (temp_conf rooms fs g b there own p.after ts w) m (temp_site (widest_call (selected_blocks f.params f.blocks)) z) (Calls k (map p.after (holders_read z)) w.outer)) e
         by_set false c m there st q = absurd (never_undefined (whole_world w.outer m) _ e q defined)

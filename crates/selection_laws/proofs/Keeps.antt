@@ -34,7 +34,7 @@ use Rattle.value_tests.proofs.Lawful.{all_lawful, codes_same, names_stay, mains_
 use Rattle.selection_laws.proofs.Plain.{plain_code, selected_plain, fields_kept, has_meaning}
 use Rattle.selection_laws.specs.Laws.{SelectedPrograms}
 use Rattle.selection_laws.proofs.Memories.{bytes_begins, start_has_bytes}
-use Rattle.selection_laws.proofs.Machines.{all_get, read_behind, Placed}
+use Rattle.selection_laws.proofs.Machines.{all_get, read_behind, BlockPlace}
 use Rattle.selection_laws.proofs.Steps.{IsOrdinary, vm_conf, temp_conf, Here, Waits, none, Simulates, Reaches, lost, behind_block}
 use Rattle.selection_laws.proofs.Operations.{constant_step, address_step, load_step, store_step, copy_step, unary_step, binary_step, shift_step, convert_step, compare_step}
 use Rattle.selection_laws.proofs.Builtins.{nop_step, mark_step, jump_step, branch_step, put_char_step, get_char_step, abort_step, exit_step}
@@ -43,17 +43,17 @@ use Rattle.selection_laws.proofs.Calls.{same_sizes, enter_function, function_ste
 -- ---- an instruction where it stands
 
 -- what holds of each instruction of the blocks holds of the one that stands at a place
-insn_has : (P : VmInsn → Type 0) (blocks : List (List VmInsn)) (b at : ℕ) (y : VmInsn) (left : List VmInsn) → AllInsns P blocks → Placed blocks b at (y ∷ left) → P y
+insn_has : (P : VmInsn → Type 0) (blocks : List (List VmInsn)) (b at : ℕ) (y : VmInsn) (left : List VmInsn) → AllInsns P blocks → BlockPlace blocks b at (y ∷ left) → P y
 insn_has P blocks b at y left h p = all_get P (p.before ++ y ∷ left) (length p.before) y (all_get (All P) blocks b (p.before ++ y ∷ left) h p.there) (read_behind p.before y left)
 
 module _ (rooms : Rooms) (fs : List VmFunction) (globals : List DataObject) (lawful : All (IsLawfulFunction fs globals) fs) (fields : All (λ (f : VmFunction). AllInsns HasFields f.blocks) fs) where
   -- what a program says of an instruction
-  pub record Known (f : VmFunction) (y : VmInsn) : Type 0 where
+  pub record KnownInsn (f : VmFunction) (y : VmInsn) : Type 0 where
     pub names : IsTrue (names_what_is_there fs globals f.objects y)
     pub targets : GoesToBlocks targets_of (length f.blocks) y
     pub numbers : HasFields y
 
-  known : (g b at : ℕ) (f : VmFunction) (y : VmInsn) (left : List VmInsn) → slice_get fs g ≡ Some f → Placed f.blocks b at (y ∷ left) → Known f y
+  known : (g b at : ℕ) (f : VmFunction) (y : VmInsn) (left : List VmInsn) → slice_get fs g ≡ Some f → BlockPlace f.blocks b at (y ∷ left) → KnownInsn f y
   known g b at f y left number p = record {
     names = insn_has (λ i. IsTrue (names_what_is_there fs globals f.objects i)) f.blocks b at y left (all_get (IsLawfulFunction fs globals) fs g f lawful number).names p;
     targets = insn_has (GoesToBlocks targets_of (length f.blocks)) f.blocks b at y left f.targets p;
@@ -61,15 +61,15 @@ module _ (rooms : Rooms) (fs : List VmFunction) (globals : List DataObject) (law
   }
 
   -- a function that is called is there, and takes as many arguments
-  pub record Called (k count : ℕ) : Type 0 where
+  pub record CalledFunction (k count : ℕ) : Type 0 where
     pub function : VmFunction
     pub there : slice_get fs k ≡ Some function
     pub takes : function.params ≡ count
 
-  called : (k count : ℕ) → function_takes count (slice_get fs k) ≡ true → Called k count
+  called : (k count : ℕ) → function_takes count (slice_get fs k) ≡ true → CalledFunction k count
   called k count = by_function (slice_get fs k) refl
     where
-      by_function : (o : Option VmFunction) → slice_get fs k ≡ o → function_takes count o ≡ true → Called k count
+      by_function : (o : Option VmFunction) → slice_get fs k ≡ o → function_takes count o ≡ true → CalledFunction k count
       by_function None there e = absurd (cc)
       by_function (Some f) there e = record { function = f; there = there; takes = eqb-true f.params count e }
 
@@ -93,7 +93,7 @@ module _ (rooms : Rooms) (fs : List VmFunction) (globals : List DataObject) (law
     call_step d (callee.Builtin Exit) [] takes = absurd (cc)
     call_step d (callee.Builtin Exit) (a ∷ arguments) takes = exit_step rooms fs n ih g b at place own r s f left vs ts w e ordinary waits defined d a arguments
 
-    insn_step : (y : VmInsn) → Known f y → Steps y
+    insn_step : (y : VmInsn) → KnownInsn f y → Steps y
     insn_step (x.LoadConstant ty d word) k = constant_step rooms fs n ih g b at place own r s f left vs ts w e ordinary waits defined ty d word k.numbers
     insn_step (x.LoadAddress d object plus) k = address_step rooms fs n ih g b at place own r s f left vs ts w e ordinary waits defined d object plus
     insn_step (x.Load ty d p plus) k = load_step rooms fs n ih g b at place own r s f left vs ts w e ordinary waits defined ty d p plus k.numbers

@@ -37,29 +37,29 @@ all_get P xs k x h e = subst P (get_or_from_slice_get xs k x x e) (h k x (slice_
 -- ---- a place in a block
 
 -- so many instructions stand before a place of a block, and what is left stands from there on
-pub record Placed {I : Type 0} (blocks : List (List I)) (block at : ℕ) (left : List I) : Type 0 where
+pub record BlockPlace {I : Type 0} (blocks : List (List I)) (block at : ℕ) (left : List I) : Type 0 where
   pub before : List I
   pub there : slice_get blocks block ≡ Some (before ++ left)
   pub here : length before ≡ at
 
-abbrev pub next_place : {I : Type 0} (blocks : List (List I)) (block at : ℕ) (x : I) (left : List I) → Placed blocks block at (x ∷ left) → Placed blocks block (suc at) left
+abbrev pub next_place : {I : Type 0} (blocks : List (List I)) (block at : ℕ) (x : I) (left : List I) → BlockPlace blocks block at (x ∷ left) → BlockPlace blocks block (suc at) left
 next_place blocks block at x left p = record {
   before = p.before ++ x ∷ [];
   there = p.there ∙ ap Some (sym (append_assoc p.before (x ∷ []) left));
   here = let h = p.here in omega (arith, h, length-append p.before (x ∷ []));
 }
 
-pub insn_there : {I : Type 0} (blocks : List (List I)) (block at : ℕ) (x : I) (left insns : List I) → Placed blocks block at (x ∷ left) → slice_get blocks block ≡ Some insns → slice_get insns at ≡ Some x
+pub insn_there : {I : Type 0} (blocks : List (List I)) (block at : ℕ) (x : I) (left insns : List I) → BlockPlace blocks block at (x ∷ left) → slice_get blocks block ≡ Some insns → slice_get insns at ≡ Some x
 insn_there blocks block at x left insns p e =
     let same : p.before ++ x ∷ left ≡ insns = same_Some (p.before ++ x ∷ left) insns (sym p.there ∙ e) in
     ap (λ k. slice_get insns k) (sym p.here) ∙ ap (λ l. slice_get l (length p.before)) (sym same) ∙ read_behind p.before x left
 
 -- over temporaries, besides, what stands before flows on
-pub record Standing (blocks : List (List TempInsn)) (block at : ℕ) (left : List TempInsn) : Type 0 where
-  pub place : Placed blocks block at left
+pub record FlowingPlace (blocks : List (List TempInsn)) (block at : ℕ) (left : List TempInsn) : Type 0 where
+  pub place : BlockPlace blocks block at left
   pub flows : list_all flows_on_of place.before ≡ true
 
-pub next_standing : (blocks : List (List TempInsn)) (block at : ℕ) (x : TempInsn) (left : List TempInsn) → flows_on_of x ≡ true → Standing blocks block at (x ∷ left) → Standing blocks block (suc at) left
+pub next_standing : (blocks : List (List TempInsn)) (block at : ℕ) (x : TempInsn) (left : List TempInsn) → flows_on_of x ≡ true → FlowingPlace blocks block at (x ∷ left) → FlowingPlace blocks block (suc at) left
 next_standing blocks block at x left f s = record {
   place = next_place blocks block at x left s.place;
   flows = list_all-append flows_on_of s.place.before (x ∷ []) ∙ and_from (list_all flows_on_of s.place.before) (flows_on_of x && true) s.flows (and_from (flows_on_of x) true f refl);
@@ -88,7 +88,7 @@ all_flow xs h = by_last (last_of xs) refl
     by_last (Some x) e = from_all xs _ x h e
 
 module _ (functions : List TemporaryCode) (g b : ℕ) (fn : TemporaryCode) (number : slice_get functions g ≡ Some fn) where
-  pub site_there : (at : ℕ) (x : TempInsn) (left : List TempInsn) → Standing fn.blocks b at (x ∷ left) →
+  pub site_there : (at : ℕ) (x : TempInsn) (left : List TempInsn) → FlowingPlace fn.blocks b at (x ∷ left) →
       (temp_code functions).site (record { function = g; block = b; at = at }) ≡ Some (temp_site (widest_call fn.blocks) x)
   site_there at x left s =
       ap (λ o. temp_site_at (blocks_in o) (record { function = g; block = b; at = at })) number
@@ -96,7 +96,7 @@ module _ (functions : List TemporaryCode) (g b : ℕ) (fn : TemporaryCode) (numb
       ∙ ap (λ o. site_or_next (temp_site (widest_call fn.blocks)) b (is_left_at (s.place.before ++ x ∷ left) at) o)
       (insn_there fn.blocks b at x left (s.place.before ++ x ∷ left) s.place s.place.there)
 
-  pub site_behind : (at : ℕ) → Standing fn.blocks b at [] → (temp_code functions).site (record { function = g; block = b; at = at }) ≡ Some (next_site b)
+  pub site_behind : (at : ℕ) → FlowingPlace fn.blocks b at [] → (temp_code functions).site (record { function = g; block = b; at = at }) ≡ Some (next_site b)
   site_behind at s =
       let insns = s.place.before ++ [] in
       let none : slice_get insns at ≡ None = ap (slice_get insns) (sym s.place.here) ∙ read_end s.place.before in
@@ -168,18 +168,18 @@ module _ (rooms : Rooms) (functions : List TemporaryCode) where
     pub record CameBehind (at : ℕ) (s : Temps) (o : Outer) (ys : List TempInsn) (t : Temps) (p : Outer) : Type 0 where
       pub place : ℕ
       pub comes : Comes (tconf g b at own s ts (whole_world o m)) (Goes (tconf g b place own t ts (whole_world p m)))
-      pub standing : Standing fn.blocks b place ys
+      pub standing : FlowingPlace fn.blocks b place ys
 
-    pub record Stopped (at : ℕ) (s : Temps) (o : Outer) (e : Stop) (p : Outer) : Type 0 where
+    pub record HasStopped (at : ℕ) (s : Temps) (o : Outer) (e : Stop) (p : Outer) : Type 0 where
       pub insn : ℕ
       pub comes : Comes (tconf g b at own s ts (whole_world o m)) (Over (stop_ending e insn (whole_world p m)))
 
     abbrev pub Came : (at : ℕ) → Temps → Outer → List TempInsn → Ran → Type 0
     Came at s o ys (After t p) = CameBehind at s o ys t p
-    Came at s o ys (Halted e p) = Stopped at s o e p
+    Came at s o ys (Halted e p) = HasStopped at s o e p
     Came at s o ys NotStraight = Unit {0}
 
-    pub straight : (xs ys : List TempInsn) (at : ℕ) (s : Temps) (o : Outer) → Standing fn.blocks b at (xs ++ ys) → Came at s o ys (runs (widest_call fn.blocks) xs own s o)
+    pub straight : (xs ys : List TempInsn) (at : ℕ) (s : Temps) (o : Outer) → FlowingPlace fn.blocks b at (xs ++ ys) → Came at s o ys (runs (widest_call fn.blocks) xs own s o)
     straight [] ys at s o h = record { place = at; comes = comes_here _; standing = h }
     straight (x ∷ xs) ys at s o h =
         by_turn (λ t p k. straight xs ys (suc at) t p k) (takes_turn x) refl (does (widest_call fn.blocks) x own (map s (holders_read x)) o) refl
@@ -202,7 +202,7 @@ module _ (rooms : Rooms) (functions : List TemporaryCode) where
         then_came t p (Halted e q) c d = record { insn = d.insn; comes = comes_then _ _ _ c d.comes }
         then_came t p NotStraight c d = tt
 
-        by_turn : ((t : Temps) (p : Outer) → Standing fn.blocks b (suc at) (xs ++ ys) → Came (suc at) t p ys (runs (widest_call fn.blocks) xs own t p)) →
+        by_turn : ((t : Temps) (p : Outer) → FlowingPlace fn.blocks b (suc at) (xs ++ ys) → Came (suc at) t p ys (runs (widest_call fn.blocks) xs own t p)) →
             (turn : Bool) → takes_turn x ≡ turn → (a : Act Content) → does (widest_call fn.blocks) x own (map s (holders_read x)) o ≡ a →
             Came at s o ys (if turn then NotStraight else goes_with x s a (λ t p. runs (widest_call fn.blocks) xs own t p))
         by_turn rest true turn a act = tt

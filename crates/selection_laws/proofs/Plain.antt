@@ -5,7 +5,7 @@ use Rattle.suifvm_ir.specs.Programs.{VmFunction}
 use Rattle.suifvm_ir.specs.declared.insn.VmInsn.{VmInsn}
 use Rattle.suifvm_ir.specs.declared.insn.VmInsn.TheVariants as x
 use Rattle.alloc_model.specs.Temporaries.{TemporaryCode}
-use Rattle.value_tests.specs.declared.known.Known.{Known}
+use Rattle.value_tests.specs.declared.known.RegisterFact.{RegisterFact}
 use Rattle.value_tests.specs.Tests.{tested_insn, HasMeaning}
 use Rattle.value_tests.proofs.Functions.{tested_function}
 use Rattle.selection_code.specs.Fields.{HasFields}
@@ -20,7 +20,7 @@ selected_plain [] = refl
 selected_plain (f ∷ fs) = ap (λ l. selected_code f ∷ l) (selected_plain fs)
 
 -- the numbers in an instruction stay
-pub fields_kept : (k : Known) (i : VmInsn) → HasFields i → HasFields (tested_insn k i)
+pub fields_kept : (k : RegisterFact) (i : VmInsn) → HasFields i → HasFields (tested_insn k i)
 fields_kept k (x.LoadConstant ty d word) h = h
 fields_kept k (x.LoadAddress d place plus) h = h
 fields_kept k (x.Load ty d p plus) h = h

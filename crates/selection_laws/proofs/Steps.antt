@@ -35,7 +35,7 @@ use Rattle.selection_code.specs.Functions.{selected_insns, parameter_items, sele
 use Rattle.selection_laws.proofs.Plain.{plain_code}
 use Rattle.selection_laws.proofs.Values.{AnswerIsHeld}
 use Rattle.selection_laws.proofs.Memories.{AnyMemoryHasBytes}
-use Rattle.selection_laws.proofs.Machines.{Placed, next_place, insn_there, read_end, Standing, site_there, site_behind, Comes, comes_then, comes_by, CameBehind, Came, straight}
+use Rattle.selection_laws.proofs.Machines.{BlockPlace, next_place, insn_there, read_end, FlowingPlace, site_there, site_behind, Comes, comes_then, comes_by, CameBehind, Came, straight}
 
 -- ---- numbers of temporaries
 
@@ -86,8 +86,8 @@ module _ (rooms : Rooms) (fs : List VmFunction) where
   -- both stand in a function at the same instructions, and registers are held
   pub record Here (g b at place : ℕ) (r : Registers) (s : Temps) (f : VmFunction) (left : List VmInsn) : Type 0 where
     pub number : slice_get fs g ≡ Some f
-    pub placed : Placed f.blocks b at left
-    pub standing : Standing (selected_blocks f.params f.blocks) b place (selected_insns left)
+    pub placed : BlockPlace f.blocks b at left
+    pub standing : FlowingPlace (selected_blocks f.params f.blocks) b place (selected_insns left)
     pub holds : (k : ℕ) → s (Temp (temp_of k)) ≡ Plain (r k)
     pub held : (k : ℕ) → IsHeldWord (r k)
 
@@ -95,8 +95,8 @@ module _ (rooms : Rooms) (fs : List VmFunction) where
   pub data Waits : List (Frame Registers) → List (Frame Temps) → Type 0 where
     none : Waits [] []
     more : (g b at place own : ℕ) (r : Registers) (s : Temps) (f : VmFunction) (d : Option ℕ) (h : ℕ) (arguments : List ℕ) (left : List VmInsn) (vs : List (Frame Registers)) (ts : List (Frame Temps)) →
-        slice_get fs g ≡ Some f → Placed f.blocks b at (x.Call d (callee.Function h) arguments ∷ left) →
-        Standing (selected_blocks f.params f.blocks) b place (i.Call h (length arguments) ∷ (result_items d ++ selected_insns left)) →
+        slice_get fs g ≡ Some f → BlockPlace f.blocks b at (x.Call d (callee.Function h) arguments ∷ left) →
+        FlowingPlace (selected_blocks f.params f.blocks) b place (i.Call h (length arguments) ∷ (result_items d ++ selected_insns left)) →
         ((k : ℕ) → s (Temp (temp_of k)) ≡ Plain (r k)) → ((k : ℕ) → IsHeldWord (r k)) → Waits vs ts →
         Waits (record { point = record { function = g; block = b; at = at }; own = own; store = r } ∷ vs) (record { point = record { function = g; block = b; at = place }; own = own; store = s } ∷ ts)
 
@@ -115,13 +115,13 @@ module _ (rooms : Rooms) (fs : List VmFunction) where
   pub temp_number : (g : ℕ) (f : VmFunction) → slice_get fs g ≡ Some f → slice_get (map plain_code fs) g ≡ Some (plain_code f)
   temp_number g f e = slice_get-map plain_code fs g ∙ ap (option_map plain_code) e
 
-  pub vm_site : (g b at : ℕ) (f : VmFunction) (y : VmInsn) (left : List VmInsn) → slice_get fs g ≡ Some f → Placed f.blocks b at (y ∷ left) →
+  pub vm_site : (g b at : ℕ) (f : VmFunction) (y : VmInsn) (left : List VmInsn) → slice_get fs g ≡ Some f → BlockPlace f.blocks b at (y ∷ left) →
       (vm_code (map code_of fs)).site (record { function = g; block = b; at = at }) ≡ Some (insn_site y)
   vm_site g b at f y left number p =
       ap (site_in_function b at) (vm_number g f number) ∙ ap (site_in_block b at) p.there
       ∙ ap (λ o. Some (site_or_next b o)) (insn_there f.blocks b at y left (p.before ++ y ∷ left) p p.there)
 
-  vm_behind : (g b at : ℕ) (f : VmFunction) → slice_get fs g ≡ Some f → Placed f.blocks b at [] →
+  vm_behind : (g b at : ℕ) (f : VmFunction) → slice_get fs g ≡ Some f → BlockPlace f.blocks b at [] →
       (vm_code (map code_of fs)).site (record { function = g; block = b; at = at }) ≡ Some (next_site b)
   vm_behind g b at f number p =
       ap (site_in_function b at) (vm_number g f number) ∙ ap (site_in_block b at) p.there
@@ -135,14 +135,14 @@ module _ (rooms : Rooms) (fs : List VmFunction) where
       (sym (ap (λ o. go_on (step_at Value Registers rooms (vm_code (map code_of fs)) k o) (exec Value Registers rooms (vm_code (map code_of fs)) n)) missing) ∙ is) defined
 
   -- one step, and the rest
-  pub vm_steps : (n g b at own : ℕ) (r : Registers) (f : VmFunction) (y : VmInsn) (left : List VmInsn) (vs : List (Frame Registers)) (w : World) → slice_get fs g ≡ Some f → Placed f.blocks b at (y ∷ left) →
+  pub vm_steps : (n g b at own : ℕ) (r : Registers) (f : VmFunction) (y : VmInsn) (left : List VmInsn) (vs : List (Frame Registers)) (w : World) → slice_get fs g ≡ Some f → BlockPlace f.blocks b at (y ∷ left) →
       exec Value Registers rooms (vm_code (map code_of fs)) (suc n) (vm_conf g b at own r vs w)
       ≡ go_on (step_with Value Registers rooms (vm_code (map code_of fs)) (vm_conf g b at own r vs w) (insn_site y) (turn_if (takes_turn y) w.meter)) (exec Value Registers rooms (vm_code (map code_of fs)) n)
   vm_steps n g b at own r f y left vs w number p =
       ap (λ o. go_on (step_at Value Registers rooms (vm_code (map code_of fs)) (vm_conf g b at own r vs w) o) (exec Value Registers rooms (vm_code (map code_of fs)) n)) (vm_site g b at f y left number p)
 
   pub temp_steps : (g b place own : ℕ) (s : Temps) (f : VmFunction) (y : TempInsn) (left : List TempInsn) (ts : List (Frame Temps)) (w : World) → slice_get fs g ≡ Some f
-      → Standing (selected_blocks f.params f.blocks) b place (y ∷ left) →
+      → FlowingPlace (selected_blocks f.params f.blocks) b place (y ∷ left) →
       step Content Temps rooms (temp_code (map plain_code fs)) (temp_conf g b place own s ts w)
       ≡ step_with Content Temps rooms (temp_code (map plain_code fs)) (temp_conf g b place own s ts w) (temp_site (widest_call (selected_blocks f.params f.blocks)) y) (turn_if (temps.takes_turn y) w.meter)
   temp_steps g b place own s f y left ts w number h =
@@ -206,7 +206,7 @@ module _ (rooms : Rooms) (fs : List VmFunction) where
 
   -- code that puts a value into a register, past which both go on
   pub put_tail : (n : ℕ) → Simulates n → (g b at place own : ℕ) (r : Registers) (s : Temps) (f : VmFunction) (left : List VmInsn) (vs : List (Frame Registers)) (ts : List (Frame Temps)) (w : World) (e : Ending)
-      (xs : List TempInsn) (d : ℕ) (v : Value) → slice_get fs g ≡ Some f → Placed f.blocks b at left → Standing (selected_blocks f.params f.blocks) b place (xs ++ selected_insns left)
+      (xs : List TempInsn) (d : ℕ) (v : Value) → slice_get fs g ≡ Some f → BlockPlace f.blocks b at left → FlowingPlace (selected_blocks f.params f.blocks) b place (xs ++ selected_insns left)
       → ((k : ℕ) → s (Temp (temp_of k)) ≡ Plain (r k)) → ((k : ℕ) → IsHeldWord (r k)) → IsOrdinary w.outer → Waits vs ts → IsDefined e
       → PutsValue s w.outer (temp_of d) v (runs (widest_call (selected_blocks f.params f.blocks)) xs own s w.outer) → IsHeldWord v
       → exec Value Registers rooms (vm_code (map code_of fs)) n (vm_conf g b at own (set_register d v r) vs w) ≡ Over e →
@@ -226,7 +226,7 @@ module _ (rooms : Rooms) (fs : List VmFunction) where
 
   -- what a call left in register 0 is put into its register, if one is named
   pub result_tail : (n : ℕ) → Simulates n → (g b at place own : ℕ) (r : Registers) (s : Temps) (f : VmFunction) (left : List VmInsn) (vs : List (Frame Registers)) (ts : List (Frame Temps)) (w : World) (e : Ending)
-      (d : Option ℕ) (us : List Value) → slice_get fs g ≡ Some f → Placed f.blocks b at left → Standing (selected_blocks f.params f.blocks) b place (result_items d ++ selected_insns left)
+      (d : Option ℕ) (us : List Value) → slice_get fs g ≡ Some f → BlockPlace f.blocks b at left → FlowingPlace (selected_blocks f.params f.blocks) b place (result_items d ++ selected_insns left)
       → ((k : ℕ) → s (Temp (temp_of k)) ≡ Plain (r k)) → ((k : ℕ) → IsHeldWord (r k)) → IsOrdinary w.outer → Waits vs ts → IsDefined e
       → s (Fixed 0) ≡ Plain (first_or_unset us) → IsHeldWord (first_or_unset us)
       → exec Value Registers rooms (vm_code (map code_of fs)) n (vm_conf g b at own (set_registers (named_register d) us r) vs w) ≡ Over e →
@@ -313,11 +313,11 @@ module _ (rooms : Rooms) (fs : List VmFunction) where
     before_last xs z rest t parts ran =
         subst (Came rooms (map plain_code fs) g b own ts w.meter (plain_code f) (temp_number g f h.number) place s w.outer (z ∷ rest)) ran
         (straight rooms (map plain_code fs) g b own ts w.meter (plain_code f) (temp_number g f h.number) xs (z ∷ rest) place s w.outer
-        (subst (Standing (selected_blocks f.params f.blocks) b place) parts h.standing))
+        (subst (FlowingPlace (selected_blocks f.params f.blocks) b place) parts h.standing))
 
     pub turn_step : (xs : List TempInsn) (z : TempInsn) (rest : List TempInsn) (t : Temps) → selected_insns (y ∷ left) ≡ xs ++ z ∷ rest → takes_turn y ≡ true → temps.takes_turn z ≡ true
         → runs (widest_call (selected_blocks f.params f.blocks)) xs own s w.outer ≡ After t w.outer
-        → ((m : Meter) (there : ℕ) → Standing (selected_blocks f.params f.blocks) b there (z ∷ rest) →
+        → ((m : Meter) (there : ℕ) → FlowingPlace (selected_blocks f.params f.blocks) b there (z ∷ rest) →
         go_on (act_on Value Registers rooms (vm_code (map code_of fs)) (vm_conf g b at own r vs w) m (insn_site y) (does y own (map r (reads_of y)) w.outer)) (exec Value Registers rooms (vm_code (map code_of fs)) n) ≡ Over e →
         NextReaches (act_on Content Temps rooms (temp_code (map plain_code fs)) (temp_conf g b there own t ts w) m (temp_site (widest_call (selected_blocks f.params f.blocks)) z)
         (temps.does (widest_call (selected_blocks f.params f.blocks)) z own (map t (holders_read z)) w.outer)) e) →
@@ -333,7 +333,7 @@ module _ (rooms : Rooms) (fs : List VmFunction) where
         (by_next l (step_with Content Temps rooms (temp_code (map plain_code fs)) l (temp_site (widest_call (selected_blocks f.params f.blocks)) z) (take_turn w.meter)) e stepped
         (by_turn (take_turn w.meter) c.place c.standing gone))
       where
-        by_turn : (m : Option Meter) (there : ℕ) → Standing (selected_blocks f.params f.blocks) b there (z ∷ rest) →
+        by_turn : (m : Option Meter) (there : ℕ) → FlowingPlace (selected_blocks f.params f.blocks) b there (z ∷ rest) →
             go_on (step_with Value Registers rooms (vm_code (map code_of fs)) (vm_conf g b at own r vs w) (insn_site y) m) (exec Value Registers rooms (vm_code (map code_of fs)) n) ≡ Over e →
             NextReaches (step_with Content Temps rooms (temp_code (map plain_code fs)) (temp_conf g b there own t ts w) (temp_site (widest_call (selected_blocks f.params f.blocks)) z) m) e
         by_turn None there st q = same_ending (More w) e q
@@ -341,7 +341,7 @@ module _ (rooms : Rooms) (fs : List VmFunction) where
 
     pub last_step : (xs : List TempInsn) (z : TempInsn) (rest : List TempInsn) (t : Temps) → selected_insns (y ∷ left) ≡ xs ++ z ∷ rest → temps.takes_turn z ≡ false
         → runs (widest_call (selected_blocks f.params f.blocks)) xs own s w.outer ≡ After t w.outer
-        → ((there : ℕ) → Standing (selected_blocks f.params f.blocks) b there (z ∷ rest) →
+        → ((there : ℕ) → FlowingPlace (selected_blocks f.params f.blocks) b there (z ∷ rest) →
         NextReaches (act_on Content Temps rooms (temp_code (map plain_code fs)) (temp_conf g b there own t ts w) w.meter (temp_site (widest_call (selected_blocks f.params f.blocks)) z)
         (temps.does (widest_call (selected_blocks f.params f.blocks)) z own (map t (holders_read z)) w.outer)) e) →
         Reaches (temp_conf g b place own s ts w) e

@@ -1,4 +1,3 @@
-pub mod Lists
 pub mod Plain
 pub mod Shaped
 pub mod Registers

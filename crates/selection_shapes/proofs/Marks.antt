@@ -2,8 +2,9 @@
 use Rattle.std.proofs.Common.{◌≡◌, ℕ, zero, suc, ◌<◌, List, [], ◌∷◌, ◌++◌, length, Bool, true, false, Option, Some, None, All, refl, sym, ap, ◌∙◌, subst, arith}
 use Rattle.std.specs.Prelude.{◌||◌, nat_lt, IsTrue, slice_get, option_map}
 use Rattle.std.specs.List.{list_all}
-use Rattle.std.proofs.lemmas.Bool.{and_from}
+use Rattle.std.proofs.lemmas.Bool.{and_from, and_parts}
 use Rattle.std.proofs.lemmas.Option.{none-some, same_Some, slice_get-map, slice_get_within, get_or_from_slice_get}
+use Rattle.std.proofs.lemmas.List.Elements.{All-nil, All-cons, All-head, All-tail, All-append}
 use Rattle.suifvm_ir.specs.declared.insn.VmInsn.{VmInsn}
 use Rattle.suifvm_ir.specs.declared.insn.VmInsn.TheVariants as x
 use Rattle.suifvm_ir.specs.Programs as vm
@@ -18,7 +19,6 @@ use Rattle.alpha_forms.specs.Operations.{temp_branch}
 use Rattle.selection_code.specs.Instructions.{temp_of, selected_insn}
 use Rattle.selection_code.specs.Functions.{selected_insns, parameter_items, selected_blocks}
 use Rattle.selection_shapes.specs.Shapes.{SelectionKeepsMarks}
-use Rattle.selection_shapes.proofs.Lists.{both, all_nil, all_more, all_first, all_rest, all_append}
 use Rattle.selection_shapes.proofs.Plain.{is_plain, are_plain, takes_plain}
 use Rattle.selection_shapes.proofs.Shaped.{straight_plain, plain_is}
 
@@ -72,19 +72,19 @@ module _ (params : ℕ) (blocks : List (List VmInsn)) (b : ℕ) where
   no_targets (t ∷ ts) e = absurd (omega (arith, e))
 
   plain_back : (xs : List TempInsn) → are_plain xs ≡ true → All Back xs
-  plain_back [] e = all_nil Back
+  plain_back [] e = All-nil Back
   plain_back (z ∷ xs) e =
-      let p = both (is_plain z) (are_plain xs) e in
-      all_more Back z xs (no_targets (targets_of z) (plain_is z p.0).0) (plain_back xs p.1)
+      let p = and_parts (is_plain z) (are_plain xs) e in
+      All-cons Back z xs (no_targets (targets_of z) (plain_is z p.0).0) (plain_back xs p.1)
 
   one_back : (z : TempInsn) → goes_back_to_marks (selected_blocks params blocks) b z ≡ true → All Back (z ∷ [])
-  one_back z e = all_more Back z [] e (all_nil Back)
+  one_back z e = All-cons Back z [] e (All-nil Back)
 
   target_back : (target : ℕ) → All (λ t. (0 < t) × (t < length blocks)) (target ∷ []) → list_all (λ t. nat_lt b t || vm.begins_with_mark (slice_get blocks t)) (target ∷ []) ≡ true →
       list_all (λ t. nat_lt b t || begins_with_mark (slice_get (selected_blocks params blocks) t)) (target ∷ []) ≡ true
   target_back target h e =
       and_from (nat_lt b target || begins_with_mark (slice_get (selected_blocks params blocks) target)) true
-      (mark_target params blocks b target (h 0 0 (omega arith)).0 (both (nat_lt b target || vm.begins_with_mark (slice_get blocks target)) true e).0) refl
+      (mark_target params blocks b target (h 0 0 (omega arith)).0 (and_parts (nat_lt b target || vm.begins_with_mark (slice_get blocks target)) true e).0) refl
 
   insn_back : (y : VmInsn) → GoesToBlocks insns.targets_of (length blocks) y → vm.goes_back_to_marks blocks b y ≡ true → All Back (selected_insn y)
   insn_back (x.LoadConstant ty d word) h e = plain_back (selected_insn (x.LoadConstant ty d word)) (straight_plain (x.LoadConstant ty d word) (refl, refl))
@@ -101,16 +101,16 @@ module _ (params : ℕ) (blocks : List (List VmInsn)) (b : ℕ) where
   insn_back (x.Jump target) h e = one_back (i.Jump target) (target_back target h e)
   insn_back (x.Call d c arguments) h e = plain_back (selected_insn (x.Call d c arguments)) (straight_plain (x.Call d c arguments) (refl, refl))
   insn_back (x.Return None) h e = one_back (i.Return false) refl
-  insn_back (x.Return (Some value)) h e = all_more Back (i.ToFixed fixed.Value (temp_of value.register)) (i.Return true ∷ []) refl (one_back (i.Return true) refl)
+  insn_back (x.Return (Some value)) h e = All-cons Back (i.ToFixed fixed.Value (temp_of value.register)) (i.Return true ∷ []) refl (one_back (i.Return true) refl)
   insn_back x.Mark h e = plain_back (selected_insn x.Mark) refl
-  insn_back x.Nop h e = all_nil Back
+  insn_back x.Nop h e = All-nil Back
 
   insns_back : (block : List VmInsn) → All (GoesToBlocks insns.targets_of (length blocks)) block → All (λ y. IsTrue (vm.goes_back_to_marks blocks b y)) block → All Back (selected_insns block)
-  insns_back [] h e = all_nil Back
+  insns_back [] h e = All-nil Back
   insns_back (y ∷ block) h e =
-      all_append Back (selected_insn y) (selected_insns block)
-      (insn_back y (all_first (GoesToBlocks insns.targets_of (length blocks)) y block h) (all_first (λ y. IsTrue (vm.goes_back_to_marks blocks b y)) y block e))
-      (insns_back block (all_rest (GoesToBlocks insns.targets_of (length blocks)) y block h) (all_rest (λ y. IsTrue (vm.goes_back_to_marks blocks b y)) y block e))
+      All-append Back (selected_insn y) (selected_insns block)
+      (insn_back y (All-head (GoesToBlocks insns.targets_of (length blocks)) y block h) (All-head (λ y. IsTrue (vm.goes_back_to_marks blocks b y)) y block e))
+      (insns_back block (All-tail (GoesToBlocks insns.targets_of (length blocks)) y block h) (All-tail (λ y. IsTrue (vm.goes_back_to_marks blocks b y)) y block e))
 
 -- ---- all blocks
 
@@ -137,4 +137,4 @@ pub marks_kept : SelectionKeepsMarks
 marks_kept f marks k code there =
     blocks_at (λ b code. All (λ z. IsTrue (goes_back_to_marks (selected_blocks f.params f.blocks) b z)) code) f.params f.blocks
     (λ b block at. insns_back f.params f.blocks b block (all_get (All (GoesToBlocks insns.targets_of (length f.blocks))) f.blocks b block f.targets at) (marks b block at))
-    (λ b xs ys p h. all_append (λ z. IsTrue (goes_back_to_marks (selected_blocks f.params f.blocks) b z)) xs ys (plain_back f.params f.blocks b xs p) h) k code there
+    (λ b xs ys p h. All-append (λ z. IsTrue (goes_back_to_marks (selected_blocks f.params f.blocks) b z)) xs ys (plain_back f.params f.blocks b xs p) h) k code there

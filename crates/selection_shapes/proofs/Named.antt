@@ -2,7 +2,8 @@
 use Rattle.std.proofs.Common.{◌≡◌, ℕ, zero, suc, ◌-◌, List, [], ◌∷◌, ◌++◌, length, map, Bool, true, false, Option, Some, None, All, refl}
 use Rattle.std.specs.Prelude.{◌&&◌, nat_lt, IsTrue, slice_get, if◌then◌else◌}
 use Rattle.std.specs.List.{list_all}
-use Rattle.std.proofs.lemmas.Bool.{and_from}
+use Rattle.std.proofs.lemmas.Bool.{and_from, and_parts}
+use Rattle.std.proofs.lemmas.List.Elements.{All-nil, All-cons, All-head, All-tail, All-append}
 use Rattle.data_object.specs.declared.DataObject.{DataObject}
 use Rattle.suifvm_ir.specs.declared.function.MemoryLocal.{MemoryLocal}
 use Rattle.suifvm_ir.specs.declared.types.VmType.{VmType}
@@ -21,7 +22,6 @@ use Rattle.temp_ir.specs.declared.insn.TempInsn.{TempInsn}
 use Rattle.temp_ir.specs.declared.insn.TempInsn.TheVariants as i
 use Rattle.temp_ir.specs.Programs.{TempFn, function_takes, names_what_is_there}
 use Rattle.alpha_forms.specs.Operations.{binary_items}
-use Rattle.selection_shapes.proofs.Lists.{both, all_nil, all_more, all_first, all_rest, all_append}
 use Rattle.selection_code.specs.Instructions.{temp_of, argument_register, pass_item, pass_items, take_item, take_items, result_items, byte_items, put_char_items, exit_call_items, builtin_items, call_items, return_items, selected_insn}
 use Rattle.selection_code.specs.Functions.{selected_insns, parameter_items, selected_blocks}
 use Rattle.selection_shapes.specs.Shapes.{SelectedNamesAreThere}
@@ -33,8 +33,8 @@ are_nameless xs = list_all is_nameless xs
 simple_nameless : (xs : List TempInsn) → are_simple xs ≡ true → are_nameless xs ≡ true
 simple_nameless [] e = refl
 simple_nameless (z ∷ xs) e =
-    let p = both (is_simple z) (are_simple xs) e in
-    and_from (is_nameless z) (are_nameless xs) (both (is_nameless z) (is_plain z) (both _ (is_nameless z && is_plain z) p.0).1).0 (simple_nameless xs p.1)
+    let p = and_parts (is_simple z) (are_simple xs) e in
+    and_from (is_nameless z) (are_nameless xs) (and_parts (is_nameless z) (is_plain z) (and_parts _ (is_nameless z && is_plain z) p.0).1).0 (simple_nameless xs p.1)
 
 binary_nameless : (op : VmBinaryOp) (ty : VmType) (d a b : ℕ) → are_nameless (binary_items op ty d a b) ≡ true
 binary_nameless Add ty d a b = refl
@@ -120,18 +120,18 @@ module _ (fs : List vm.VmFunction) (ts : List TempFn) (globals : List DataObject
   of_nameless i.Mark e = refl
 
   nameless_there : (xs : List TempInsn) → are_nameless xs ≡ true → All There xs
-  nameless_there [] e = all_nil There
+  nameless_there [] e = All-nil There
   nameless_there (z ∷ xs) e =
-      let p = both (is_nameless z) (are_nameless xs) e in
-      all_more There z xs (of_nameless z p.0) (nameless_there xs p.1)
+      let p = and_parts (is_nameless z) (are_nameless xs) e in
+      All-cons There z xs (of_nameless z p.0) (nameless_there xs p.1)
 
   one_there : (z : TempInsn) → names_what_is_there ts globals objects z ≡ true → All There (z ∷ [])
-  one_there z h = all_more There z [] h (all_nil There)
+  one_there z h = All-cons There z [] h (All-nil There)
 
   call_there : (d : Option ℕ) (c : VmCallee) (arguments : List ℕ) → vm.callee_takes fs (length arguments) c ≡ true → All There (call_items d c arguments)
   call_there d (callee.Function k) arguments h =
-      all_append There (pass_items 0 arguments) (i.Call k (length arguments) ∷ result_items d) (nameless_there (pass_items 0 arguments) (passes_nameless 0 arguments))
-      (all_more There (i.Call k (length arguments)) (result_items d) (same k (length arguments) h) (nameless_there (result_items d) (result_nameless d)))
+      All-append There (pass_items 0 arguments) (i.Call k (length arguments) ∷ result_items d) (nameless_there (pass_items 0 arguments) (passes_nameless 0 arguments))
+      (All-cons There (i.Call k (length arguments)) (result_items d) (same k (length arguments) h) (nameless_there (result_items d) (result_nameless d)))
   call_there d (callee.Builtin b) arguments h = nameless_there (builtin_items d b arguments) (builtin_nameless d b arguments)
 
   insn_there : (y : VmInsn) → vm.names_what_is_there fs globals objects y ≡ true → All There (selected_insn y)
@@ -150,26 +150,26 @@ module _ (fs : List vm.VmFunction) (ts : List TempFn) (globals : List DataObject
   insn_there (x.Call d c arguments) h = call_there d c arguments h
   insn_there (x.Return value) h = nameless_there (return_items value) (return_nameless value)
   insn_there x.Mark h = nameless_there (selected_insn x.Mark) refl
-  insn_there x.Nop h = all_nil There
+  insn_there x.Nop h = All-nil There
 
   insns_there : (insns : List VmInsn) → All (λ y. IsTrue (vm.names_what_is_there fs globals objects y)) insns → All There (selected_insns insns)
-  insns_there [] h = all_nil There
+  insns_there [] h = All-nil There
   insns_there (y ∷ insns) h =
-      all_append There (selected_insn y) (selected_insns insns) (insn_there y (all_first (λ y. IsTrue (vm.names_what_is_there fs globals objects y)) y insns h))
-      (insns_there insns (all_rest (λ y. IsTrue (vm.names_what_is_there fs globals objects y)) y insns h))
+      All-append There (selected_insn y) (selected_insns insns) (insn_there y (All-head (λ y. IsTrue (vm.names_what_is_there fs globals objects y)) y insns h))
+      (insns_there insns (All-tail (λ y. IsTrue (vm.names_what_is_there fs globals objects y)) y insns h))
 
   others_there : (blocks : List (List VmInsn)) → AllInsns (λ y. IsTrue (vm.names_what_is_there fs globals objects y)) blocks → All (All There) (map selected_insns blocks)
-  others_there [] h = all_nil (All There)
+  others_there [] h = All-nil (All There)
   others_there (block ∷ blocks) h =
-      all_more (All There) (selected_insns block) (map selected_insns blocks) (insns_there block (all_first (All (λ y. IsTrue (vm.names_what_is_there fs globals objects y))) block blocks h))
-      (others_there blocks (all_rest (All (λ y. IsTrue (vm.names_what_is_there fs globals objects y))) block blocks h))
+      All-cons (All There) (selected_insns block) (map selected_insns blocks) (insns_there block (All-head (All (λ y. IsTrue (vm.names_what_is_there fs globals objects y))) block blocks h))
+      (others_there blocks (All-tail (All (λ y. IsTrue (vm.names_what_is_there fs globals objects y))) block blocks h))
 
   pub blocks_there : (params : ℕ) (blocks : List (List VmInsn)) → AllInsns (λ y. IsTrue (vm.names_what_is_there fs globals objects y)) blocks → AllInsns (λ z. IsTrue (names_what_is_there ts globals objects z)) (selected_blocks params blocks)
-  blocks_there params [] h = all_nil (All There)
+  blocks_there params [] h = All-nil (All There)
   blocks_there params (block ∷ blocks) h =
-      all_more (All There) (parameter_items params ++ selected_insns block) (map selected_insns blocks)
-      (all_append There (parameter_items params) (selected_insns block) (nameless_there (parameter_items params) (takes_nameless 0 params)) (insns_there block (all_first (All (λ y. IsTrue (vm.names_what_is_there fs globals objects y))) block blocks h)))
-      (others_there blocks (all_rest (All (λ y. IsTrue (vm.names_what_is_there fs globals objects y))) block blocks h))
+      All-cons (All There) (parameter_items params ++ selected_insns block) (map selected_insns blocks)
+      (All-append There (parameter_items params) (selected_insns block) (nameless_there (parameter_items params) (takes_nameless 0 params)) (insns_there block (All-head (All (λ y. IsTrue (vm.names_what_is_there fs globals objects y))) block blocks h)))
+      (others_there blocks (All-tail (All (λ y. IsTrue (vm.names_what_is_there fs globals objects y))) block blocks h))
 
 pub names_there : SelectedNamesAreThere
 names_there fs ts globals f same h = blocks_there fs ts globals f.objects same f.params f.blocks h

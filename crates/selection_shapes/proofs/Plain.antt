@@ -3,7 +3,7 @@ use Rattle.std.proofs.Common.{◌≡◌, ℕ, zero, suc, ◌+◌, ◌-◌, List,
 use Rattle.std.specs.Prelude.{◌&&◌, ◌==◌, nat_lt, if◌then◌else◌}
 use Rattle.std.specs.List.{list_all}
 use Rattle.std.specs.Int.{w16}
-use Rattle.std.proofs.lemmas.Bool.{and_from}
+use Rattle.std.proofs.lemmas.Bool.{and_from, and_parts}
 use Rattle.std.proofs.lemmas.List.Folds.{list_all-append}
 use Rattle.alpha_isa.specs.Arithmetic.{fits_signed, word_from}
 use Rattle.alpha_constants.specs.declared.recipe.Finish.{Finish}
@@ -35,7 +35,6 @@ use Rattle.alpha_forms.specs.Constants.{unless_zero, near_items, lower_items, fi
 use Rattle.alpha_forms.specs.Accesses.{near_load, near_store, far_items, load_by, load_items, store_by, store_items}
 use Rattle.alpha_forms.specs.Operations.{binary_items, left_items, logical_right_items, shift_items, compare_items, convert_items, convert_item, is_narrow, from_unsigned_item, from_wide_item}
 use Rattle.alpha_copies.specs.Copies.{part_items, moved_items, copy_reach, parts_items}
-use Rattle.selection_shapes.proofs.Lists.{both}
 use Rattle.selection_code.specs.Instructions.{temp_of, pass_item, pass_items, take_item, take_items, result_items, byte_items, put_char_items, exit_call_items, builtin_items, call_items, argument_register}
 
 -- an instruction without targets that is followed by the next one
@@ -71,8 +70,8 @@ simple_one false xs ys h g = g
 pub simple_plain : (xs : List TempInsn) → are_simple xs ≡ true → are_plain xs ≡ true
 simple_plain [] e = refl
 simple_plain (z ∷ xs) e =
-    let p = both (is_simple z) (are_simple xs) e in
-    and_from (is_plain z) (are_plain xs) (both (is_nameless z) (is_plain z) (both (length (fixed_reads_of z) == 0) (is_nameless z && is_plain z) p.0).1).1 (simple_plain xs p.1)
+    let p = and_parts (is_simple z) (are_simple xs) e in
+    and_from (is_plain z) (are_plain xs) (and_parts (is_nameless z) (is_plain z) (and_parts (length (fixed_reads_of z) == 0) (is_nameless z && is_plain z) p.0).1).1 (simple_plain xs p.1)
 
 -- ---- constants
 

@@ -2,6 +2,7 @@
 use Rattle.std.proofs.Common.{◌≡◌, ℕ, zero, suc, ◌+◌, ◌-◌, ◌<◌, ◌≤◌, List, [], ◌∷◌, ◌++◌, length, map, Bool, true, false, ℤ, pos, Option, Some, None, All, refl, sym, subst, arith}
 use Rattle.std.specs.Prelude.{◌==◌, nat_lt, if◌then◌else◌}
 use Rattle.std.specs.Int.{w16}
+use Rattle.std.proofs.lemmas.List.Elements.{All-nil, All-cons, All-head, All-tail, All-append}
 use Rattle.alpha_isa.specs.Arithmetic.{fits_signed, word_from}
 use Rattle.alpha_constants.specs.declared.recipe.Finish.{Finish}
 use Rattle.alpha_constants.specs.declared.recipe.Finish.TheVariants.{Nothing, ShiftLeft, ShiftRight, LowHalf, AddLower}
@@ -40,7 +41,6 @@ use Rattle.alpha_copies.specs.Copies.{part_items, moved_items, copy_reach, parts
 use Rattle.selection_code.specs.Instructions.{temp_of, pass_item, pass_items, take_item, take_items, result_items, byte_items, put_char_items, exit_call_items, call_items, return_items, selected_insn, argument_register}
 use Rattle.selection_code.specs.Functions.{selected_insns, parameter_items, selected_blocks}
 use Rattle.selection_shapes.specs.Shapes.{RegistersAreUsed}
-use Rattle.selection_shapes.proofs.Lists.{all_nil, all_more, all_first, all_rest, all_append}
 
 -- an instruction names temporaries below a number
 abbrev pub Uses : (n : ℕ) → TempInsn → Type 0
@@ -51,28 +51,28 @@ AllUse n xs = All (UsesRegisters reads_of writes_of n) xs
 
 module _ (n : ℕ) (some : 4 ≤ n) where
   none : All (λ t. t < n) []
-  none = all_nil (λ t. t < n)
+  none = All-nil (λ t. t < n)
 
   one : (a : ℕ) → a < n → All (λ t. t < n) (a ∷ [])
-  one a f = all_more (λ t. t < n) a [] f none
+  one a f = All-cons (λ t. t < n) a [] f none
 
   two : (a b : ℕ) → a < n → b < n → All (λ t. t < n) (a ∷ b ∷ [])
-  two a b f g = all_more (λ t. t < n) a (b ∷ []) f (one b g)
+  two a b f g = All-cons (λ t. t < n) a (b ∷ []) f (one b g)
 
   use_nil : AllUse n []
   unfolding AllUse
-  use_nil = all_nil (UsesRegisters reads_of writes_of n)
+  use_nil = All-nil (UsesRegisters reads_of writes_of n)
 
   use_more : (z : TempInsn) (xs : List TempInsn) → Uses n z → AllUse n xs → AllUse n (z ∷ xs)
   unfolding AllUse
-  use_more z xs h g = all_more (UsesRegisters reads_of writes_of n) z xs h g
+  use_more z xs h g = All-cons (UsesRegisters reads_of writes_of n) z xs h g
 
   use_one : (z : TempInsn) → Uses n z → AllUse n (z ∷ [])
   use_one z h = use_more z [] h use_nil
 
   use_both : (xs ys : List TempInsn) → AllUse n xs → AllUse n ys → AllUse n (xs ++ ys)
   unfolding AllUse
-  use_both xs ys h g = all_append (UsesRegisters reads_of writes_of n) xs ys h g
+  use_both xs ys h g = All-append (UsesRegisters reads_of writes_of n) xs ys h g
 
   use_if : (b : Bool) (xs ys : List TempInsn) → AllUse n xs → AllUse n ys → AllUse n (if b then xs else ys)
   use_if true xs ys h g = h
@@ -240,19 +240,19 @@ module _ (count : ℕ) where
   room k lt = omega (arith, lt)
 
   only : (k : ℕ) → All (λ r. r < count) (k ∷ []) → temp_of k < count + 4
-  only k h = room k (all_first (λ r. r < count) k [] h)
+  only k h = room k (All-head (λ r. r < count) k [] h)
 
   first : (k j : ℕ) → All (λ r. r < count) (k ∷ j ∷ []) → temp_of k < count + 4
-  first k j h = room k (all_first (λ r. r < count) k (j ∷ []) h)
+  first k j h = room k (All-head (λ r. r < count) k (j ∷ []) h)
 
   second : (k j : ℕ) → All (λ r. r < count) (k ∷ j ∷ []) → temp_of j < count + 4
-  second k j h = only j (all_rest (λ r. r < count) k (j ∷ []) h)
+  second k j h = only j (All-tail (λ r. r < count) k (j ∷ []) h)
 
   passes_use : (k : ℕ) (arguments : List ℕ) → All (λ r. r < count) arguments → AllUse (count + 4) (pass_items k arguments)
   passes_use k [] h = use_nil (count + 4) some
   passes_use k (a ∷ arguments) h =
-      use_more (count + 4) some (pass_item k (temp_of a)) (pass_items (suc k) arguments) (pass_uses (count + 4) some k (temp_of a) (room a (all_first (λ r. r < count) a arguments h)))
-      (passes_use (suc k) arguments (all_rest (λ r. r < count) a arguments h))
+      use_more (count + 4) some (pass_item k (temp_of a)) (pass_items (suc k) arguments) (pass_uses (count + 4) some k (temp_of a) (room a (All-head (λ r. r < count) a arguments h)))
+      (passes_use (suc k) arguments (All-tail (λ r. r < count) a arguments h))
 
   pub takes_use : (k rest : ℕ) → k + rest ≤ count → AllUse (count + 4) (take_items k rest)
   takes_use k zero le = use_nil (count + 4) some
@@ -274,13 +274,13 @@ module _ (count : ℕ) where
   put_char_use : (d : Option ℕ) (arguments : List ℕ) → All (λ r. r < count) arguments → All (λ r. r < count) (vm.named_register d) → AllUse (count + 4) (put_char_items d arguments)
   put_char_use d [] h g = use_nil (count + 4) some
   put_char_use d (a ∷ arguments) h g =
-      let f = all_first (λ r. r < count) a arguments h in
+      let f = All-head (λ r. r < count) a arguments h in
       use_more (count + 4) some _ _ (one (count + 4) some (temp_of a) (room a f), none (count + 4) some) (no_temps _ _ refl refl (no_temps _ _ refl refl (byte_use d a f g)))
 
   exit_use : (arguments : List ℕ) → All (λ r. r < count) arguments → AllUse (count + 4) (exit_call_items arguments)
   exit_use [] h = use_nil (count + 4) some
   exit_use (a ∷ arguments) h =
-      use_more (count + 4) some _ _ (one (count + 4) some (temp_of a) (room a (all_first (λ r. r < count) a arguments h)), none (count + 4) some)
+      use_more (count + 4) some _ _ (one (count + 4) some (temp_of a) (room a (All-head (λ r. r < count) a arguments h)), none (count + 4) some)
       (no_temps _ _ refl refl (no_temps _ [] refl refl (use_nil (count + 4) some)))
 
   call_use : (d : Option ℕ) (c : VmCallee) (arguments : List ℕ) → All (λ r. r < count) arguments → All (λ r. r < count) (vm.named_register d) → AllUse (count + 4) (call_items d c arguments)
@@ -317,23 +317,23 @@ module _ (count : ℕ) where
   pub insns_use : (insns : List VmInsn) → All (UsesRegisters vm.reads_of vm.writes_of count) insns → AllUse (count + 4) (selected_insns insns)
   insns_use [] h = use_nil (count + 4) some
   insns_use (y ∷ insns) h =
-      use_both (count + 4) some (selected_insn y) (selected_insns insns) (insn_use y (all_first (UsesRegisters vm.reads_of vm.writes_of count) y insns h))
-      (insns_use insns (all_rest (UsesRegisters vm.reads_of vm.writes_of count) y insns h))
+      use_both (count + 4) some (selected_insn y) (selected_insns insns) (insn_use y (All-head (UsesRegisters vm.reads_of vm.writes_of count) y insns h))
+      (insns_use insns (All-tail (UsesRegisters vm.reads_of vm.writes_of count) y insns h))
 
 -- ---- a function
 
 others_use : (count : ℕ) (blocks : List (List VmInsn)) → AllInsns (UsesRegisters vm.reads_of vm.writes_of count) blocks → All (AllUse (count + 4)) (map selected_insns blocks)
-others_use count [] h = all_nil (AllUse (count + 4))
+others_use count [] h = All-nil (AllUse (count + 4))
 others_use count (block ∷ blocks) h =
-    all_more (AllUse (count + 4)) (selected_insns block) (map selected_insns blocks) (insns_use count block (all_first (All (UsesRegisters vm.reads_of vm.writes_of count)) block blocks h))
-    (others_use count blocks (all_rest (All (UsesRegisters vm.reads_of vm.writes_of count)) block blocks h))
+    All-cons (AllUse (count + 4)) (selected_insns block) (map selected_insns blocks) (insns_use count block (All-head (All (UsesRegisters vm.reads_of vm.writes_of count)) block blocks h))
+    (others_use count blocks (All-tail (All (UsesRegisters vm.reads_of vm.writes_of count)) block blocks h))
 
 blocks_use : (count params : ℕ) (blocks : List (List VmInsn)) → params ≤ count → AllInsns (UsesRegisters vm.reads_of vm.writes_of count) blocks → All (AllUse (count + 4)) (selected_blocks params blocks)
-blocks_use count params [] le h = all_nil (AllUse (count + 4))
+blocks_use count params [] le h = All-nil (AllUse (count + 4))
 blocks_use count params (block ∷ blocks) le h =
-    all_more (AllUse (count + 4)) (parameter_items params ++ selected_insns block) (map selected_insns blocks)
-    (use_both (count + 4) (some count) (parameter_items params) (selected_insns block) (takes_use count 0 params (omega (arith, le))) (insns_use count block (all_first (All (UsesRegisters vm.reads_of vm.writes_of count)) block blocks h)))
-    (others_use count blocks (all_rest (All (UsesRegisters vm.reads_of vm.writes_of count)) block blocks h))
+    All-cons (AllUse (count + 4)) (parameter_items params ++ selected_insns block) (map selected_insns blocks)
+    (use_both (count + 4) (some count) (parameter_items params) (selected_insns block) (takes_use count 0 params (omega (arith, le))) (insns_use count block (All-head (All (UsesRegisters vm.reads_of vm.writes_of count)) block blocks h)))
+    (others_use count blocks (All-tail (All (UsesRegisters vm.reads_of vm.writes_of count)) block blocks h))
 
 pub registers_used : RegistersAreUsed
 unfolding AllUse

@@ -2,7 +2,7 @@
 use Rattle.std.proofs.Common.{◌≡◌, ℕ, zero, suc, ◌-◌, ◌≤◌, min, List, [], ◌∷◌, ◌++◌, length, map, take, true, false, Option, Some, None, refl, ap, ◌∙◌, arith, le-ltb}
 use Rattle.std.specs.Prelude.{◌==◌, nat_lt, if◌then◌else◌}
 use Rattle.std.specs.List.{list_all}
-use Rattle.std.proofs.lemmas.Bool.{and_from, eqb-true}
+use Rattle.std.proofs.lemmas.Bool.{and_from, eqb-true, and_parts}
 use Rattle.std.proofs.lemmas.List.{append_assoc}
 use Rattle.suifvm_ir.specs.declared.types.VmType.{VmType}
 use Rattle.suifvm_ir.specs.declared.insn.VmBinaryOp.{VmBinaryOp}
@@ -18,7 +18,6 @@ use Rattle.temp_ir.specs.declared.insn.TempInsn.{TempInsn}
 use Rattle.temp_ir.specs.declared.insn.TempInsn.TheVariants as i
 use Rattle.temp_ir.specs.Fixed.{argument_registers, fixed_reads_of, has_number, written_behind, is_settled_block, is_settled}
 use Rattle.alpha_forms.specs.Operations.{quotient_routine, remainder_routine, division_items, binary_items}
-use Rattle.selection_shapes.proofs.Lists.{both}
 use Rattle.selection_code.specs.Instructions.{temp_of, argument_register, pass_items, take_items, result_items, put_char_items, exit_call_items, call_items, return_items, selected_insn}
 use Rattle.selection_code.specs.Functions.{selected_insns, parameter_items, selected_blocks}
 use Rattle.selection_shapes.specs.Shapes.{FunctionsAreSettled}
@@ -43,9 +42,9 @@ none_read (r ∷ rs) written e = let some : length (r ∷ rs) ≡ 0 = eqb-true (
 simple_settles : (xs : List TempInsn) → are_simple xs ≡ true → Settles xs
 simple_settles [] e written ys h = h written
 simple_settles (z ∷ xs) e written ys h =
-    let p = both (is_simple z) (are_simple xs) e in
+    let p = and_parts (is_simple z) (are_simple xs) e in
     and_from (list_all (has_number written) (fixed_reads_of z)) (is_settled_block (written_behind written z) (xs ++ ys))
-    (none_read (fixed_reads_of z) written (both (length (fixed_reads_of z) == 0) _ p.0).0) (simple_settles xs p.1 (written_behind written z) ys h)
+    (none_read (fixed_reads_of z) written (and_parts (length (fixed_reads_of z) == 0) _ p.0).0) (simple_settles xs p.1 (written_behind written z) ys h)
 
 -- ---- divisions
 

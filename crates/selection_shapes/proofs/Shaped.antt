@@ -1,9 +1,10 @@
 -- The blocks of a selected function are shaped as those of the function.
 use Rattle.std.proofs.Common.{◌≡◌, ℕ, suc, ◌-◌, ◌<◌, List, [], ◌∷◌, ◌++◌, length, take, map, Bool, true, false, Option, Some, None, All, refl, sym, ap, ◌∙◌, subst, arith}
 use Rattle.std.specs.Prelude.{◌&&◌, ◌==◌, slice_get, slice_index_or, if◌then◌else◌}
-use Rattle.std.proofs.lemmas.Bool.{and_from, eqb-true}
+use Rattle.std.proofs.lemmas.Bool.{and_from, eqb-true, and_parts}
 use Rattle.std.proofs.lemmas.Option.{none-some, same_Some}
 use Rattle.std.proofs.lemmas.List.{append_assoc, length-map}
+use Rattle.std.proofs.lemmas.List.Elements.{All-nil, All-cons, All-head, All-tail, All-append}
 use Rattle.suifvm_ir.specs.declared.insn.VmInsn.{VmInsn}
 use Rattle.suifvm_ir.specs.declared.insn.VmInsn.TheVariants as x
 use Rattle.suifvm_ir.specs.Insns as vm
@@ -14,7 +15,6 @@ use Rattle.temp_ir.specs.Insns.{targets_of, flows_on_of}
 use Rattle.selection_code.specs.Instructions.{temp_of, selected_insn}
 use Rattle.selection_code.specs.Functions.{selected_insns, parameter_items, selected_blocks}
 use Rattle.selection_shapes.specs.Shapes.{BlocksAreShaped}
-use Rattle.selection_shapes.proofs.Lists.{both, all_nil, all_more, all_first, all_rest, all_append}
 use Rattle.selection_shapes.proofs.Plain.{is_plain, are_plain, simple_plain, constant_simple, load_simple, store_simple, parts_simple, binary_plain, shift_simple, compare_simple, convert_simple, call_plain, takes_plain}
 
 -- ---- lists
@@ -55,7 +55,7 @@ straight_plain x.Mark s = refl
 straight_plain x.Nop s = refl
 
 pub plain_is : (z : TempInsn) → is_plain z ≡ true → IsStraight targets_of flows_on_of z
-plain_is z e = let h = both (length (targets_of z) == 0) (flows_on_of z) e in (eqb-true (length (targets_of z)) 0 h.0, h.1)
+plain_is z e = let h = and_parts (length (targets_of z) == 0) (flows_on_of z) e in (eqb-true (length (targets_of z)) 0 h.0, h.1)
 
 -- ---- what goes elsewhere stands last
 
@@ -68,9 +68,9 @@ late_behind : (xs ys : List TempInsn) → are_plain xs ≡ true → late ys ≡ 
 unfolding late
 late_behind [] ys h g = g
 late_behind (x ∷ []) [] h g = refl
-late_behind (x ∷ []) (y ∷ ys) h g = and_from (is_plain x) (late (y ∷ ys)) (both (is_plain x) true h).0 g
+late_behind (x ∷ []) (y ∷ ys) h g = and_from (is_plain x) (late (y ∷ ys)) (and_parts (is_plain x) true h).0 g
 late_behind (x ∷ z ∷ xs) ys h g =
-    let p = both (is_plain x) (are_plain (z ∷ xs)) h in
+    let p = and_parts (is_plain x) (are_plain (z ∷ xs)) h in
     and_from (is_plain x) (late (z ∷ (xs ++ ys))) p.0 (late_behind (z ∷ xs) ys p.1 g)
 
 plain_late : (xs : List TempInsn) → are_plain xs ≡ true → late xs ≡ true
@@ -79,12 +79,12 @@ plain_late xs h = subst (λ l. late l ≡ true) (append_nil xs) (late_behind xs 
 
 ends_late : (xs : List TempInsn) → late xs ≡ true → EndsLate targets_of flows_on_of xs
 unfolding late
-ends_late [] e = all_nil (IsStraight targets_of flows_on_of)
-ends_late (z ∷ []) e = all_nil (IsStraight targets_of flows_on_of)
+ends_late [] e = All-nil (IsStraight targets_of flows_on_of)
+ends_late (z ∷ []) e = All-nil (IsStraight targets_of flows_on_of)
 ends_late (z ∷ y ∷ zs) e =
-    let p = both (is_plain z) (late (y ∷ zs)) e in
+    let p = and_parts (is_plain z) (late (y ∷ zs)) e in
     subst (All (IsStraight targets_of flows_on_of)) (sym (front_more z y zs))
-    (all_more (IsStraight targets_of flows_on_of) z (front_of (y ∷ zs)) (plain_is z p.0) (ends_late (y ∷ zs) p.1))
+    (All-cons (IsStraight targets_of flows_on_of) z (front_of (y ∷ zs)) (plain_is z p.0) (ends_late (y ∷ zs) p.1))
 
 by_straight : (y : VmInsn) → IsStraight vm.targets_of vm.flows_on_of y → late (selected_insn y) ≡ true
 by_straight y s = plain_late (selected_insn y) (straight_plain y s)
@@ -115,24 +115,24 @@ block_late [] h = refl
 block_late (y ∷ []) h = subst (λ l. late l ≡ true) (sym (append_nil (selected_insn y))) (insn_late y)
 block_late (y ∷ z ∷ insns) h =
     let g : All (IsStraight vm.targets_of vm.flows_on_of) (y ∷ front_of (z ∷ insns)) = subst (All (IsStraight vm.targets_of vm.flows_on_of)) (front_more y z insns) h in
-    late_behind (selected_insn y) (selected_insns (z ∷ insns)) (straight_plain y (all_first (IsStraight vm.targets_of vm.flows_on_of) y (front_of (z ∷ insns)) g))
-    (block_late (z ∷ insns) (all_rest (IsStraight vm.targets_of vm.flows_on_of) y (front_of (z ∷ insns)) g))
+    late_behind (selected_insn y) (selected_insns (z ∷ insns)) (straight_plain y (All-head (IsStraight vm.targets_of vm.flows_on_of) y (front_of (z ∷ insns)) g))
+    (block_late (z ∷ insns) (All-tail (IsStraight vm.targets_of vm.flows_on_of) y (front_of (z ∷ insns)) g))
 
 -- ---- targets
 
 module _ (n : ℕ) where
   no_targets : (ts : List ℕ) → length ts ≡ 0 → All (λ target. (0 < target) × (target < n)) ts
-  no_targets [] e = all_nil (λ target. (0 < target) × (target < n))
+  no_targets [] e = All-nil (λ target. (0 < target) × (target < n))
   no_targets (t ∷ ts) e = absurd (omega (arith, e))
 
   plain_goes : (xs : List TempInsn) → are_plain xs ≡ true → All (GoesToBlocks targets_of n) xs
-  plain_goes [] e = all_nil (GoesToBlocks targets_of n)
+  plain_goes [] e = All-nil (GoesToBlocks targets_of n)
   plain_goes (z ∷ xs) e =
-      let p = both (is_plain z) (are_plain xs) e in
-      all_more (GoesToBlocks targets_of n) z xs (no_targets (targets_of z) (plain_is z p.0).0) (plain_goes xs p.1)
+      let p = and_parts (is_plain z) (are_plain xs) e in
+      All-cons (GoesToBlocks targets_of n) z xs (no_targets (targets_of z) (plain_is z p.0).0) (plain_goes xs p.1)
 
   one_goes : (z : TempInsn) → GoesToBlocks targets_of n z → All (GoesToBlocks targets_of n) (z ∷ [])
-  one_goes z h = all_more (GoesToBlocks targets_of n) z [] h (all_nil (GoesToBlocks targets_of n))
+  one_goes z h = All-cons (GoesToBlocks targets_of n) z [] h (All-nil (GoesToBlocks targets_of n))
 
   straight_goes : (y : VmInsn) → IsStraight vm.targets_of vm.flows_on_of y → All (GoesToBlocks targets_of n) (selected_insn y)
   straight_goes y s = plain_goes (selected_insn y) (straight_plain y s)
@@ -152,29 +152,29 @@ module _ (n : ℕ) where
   insn_goes (x.Jump block) h = one_goes _ h
   insn_goes (x.Call d c arguments) h = straight_goes (x.Call d c arguments) (refl, refl)
   insn_goes (x.Return None) h = one_goes (i.Return false) (no_targets [] refl)
-  insn_goes (x.Return (Some value)) h = all_more (GoesToBlocks targets_of n) _ (i.Return true ∷ []) (no_targets [] refl) (one_goes (i.Return true) (no_targets [] refl))
+  insn_goes (x.Return (Some value)) h = All-cons (GoesToBlocks targets_of n) _ (i.Return true ∷ []) (no_targets [] refl) (one_goes (i.Return true) (no_targets [] refl))
   insn_goes x.Mark h = straight_goes x.Mark (refl, refl)
   insn_goes x.Nop h = straight_goes x.Nop (refl, refl)
 
   insns_go : (insns : List VmInsn) → All (GoesToBlocks vm.targets_of n) insns → All (GoesToBlocks targets_of n) (selected_insns insns)
-  insns_go [] h = all_nil (GoesToBlocks targets_of n)
+  insns_go [] h = All-nil (GoesToBlocks targets_of n)
   insns_go (y ∷ insns) h =
-      all_append (GoesToBlocks targets_of n) (selected_insn y) (selected_insns insns) (insn_goes y (all_first (GoesToBlocks vm.targets_of n) y insns h))
-      (insns_go insns (all_rest (GoesToBlocks vm.targets_of n) y insns h))
+      All-append (GoesToBlocks targets_of n) (selected_insn y) (selected_insns insns) (insn_goes y (All-head (GoesToBlocks vm.targets_of n) y insns h))
+      (insns_go insns (All-tail (GoesToBlocks vm.targets_of n) y insns h))
 
 -- ---- all blocks
 
 -- what the code of each block has, and keeps behind plain code, the blocks of the function have
 all_blocks : (P : List TempInsn → Type 0) (Q : List VmInsn → Type 0) → ((insns : List VmInsn) → Q insns → P (selected_insns insns)) → ((xs ys : List TempInsn) → are_plain xs ≡ true → P ys → P (xs ++ ys)) →
     (params : ℕ) (blocks : List (List VmInsn)) → All Q blocks → All P (selected_blocks params blocks)
-all_blocks P Q code behind params [] h = all_nil P
+all_blocks P Q code behind params [] h = All-nil P
 all_blocks P Q code behind params (block ∷ blocks) h =
-    all_more P (parameter_items params ++ selected_insns block) (map selected_insns blocks) (behind (parameter_items params) (selected_insns block) (takes_plain 0 params) (code block (all_first Q block blocks h)))
-    (others blocks (all_rest Q block blocks h))
+    All-cons P (parameter_items params ++ selected_insns block) (map selected_insns blocks) (behind (parameter_items params) (selected_insns block) (takes_plain 0 params) (code block (All-head Q block blocks h)))
+    (others blocks (All-tail Q block blocks h))
   where
     others : (bs : List (List VmInsn)) → All Q bs → All P (map selected_insns bs)
-    others [] g = all_nil P
-    others (b ∷ bs) g = all_more P (selected_insns b) (map selected_insns bs) (code b (all_first Q b bs g)) (others bs (all_rest Q b bs g))
+    others [] g = All-nil P
+    others (b ∷ bs) g = All-cons P (selected_insns b) (map selected_insns bs) (code b (All-head Q b bs g)) (others bs (All-tail Q b bs g))
 
 -- ---- the end
 
@@ -243,7 +243,7 @@ blocks_shaped f =
     let n = length f.blocks in
     record {
       targets = subst (λ k. AllInsns (GoesToBlocks targets_of k) (selected_blocks f.params f.blocks)) (sym (length-function f.params f.blocks))
-          (all_blocks (All (GoesToBlocks targets_of n)) (All (GoesToBlocks vm.targets_of n)) (insns_go n) (λ xs ys p h. all_append (GoesToBlocks targets_of n) xs ys (plain_goes n xs p) h) f.params f.blocks f.targets);
+          (all_blocks (All (GoesToBlocks targets_of n)) (All (GoesToBlocks vm.targets_of n)) (insns_go n) (λ xs ys p h. All-append (GoesToBlocks targets_of n) xs ys (plain_goes n xs p) h) f.params f.blocks f.targets);
       straight = λ k d lt. ends_late (slice_index_or (selected_blocks f.params f.blocks) k d)
           (all_blocks (λ zs. late zs ≡ true) (EndsLate vm.targets_of vm.flows_on_of) block_late late_behind f.params f.blocks f.straight k d lt);
       stops = function_ends f.params f.blocks f.stops;

@@ -16,6 +16,9 @@ pub struct MemoryLocal {
     pub align: u32,
 }
 
+/// A function has fewer blocks than this, and fewer instructions.
+pub const COUNT_LIMIT: usize = 1 << 30;
+
 /// A function. Block 0 is its entry; its first registers have the arguments.
 #[derive(Drop)]
 pub struct Func<I: Insn> {

@@ -24,17 +24,17 @@ use Rattle.suifvm_machine.specs.declared.machine.Machine.{Machine}
 use Rattle.suifvm_machine.specs.declared.machine.Stop.TheVariants as stop
 use Rattle.suifvm_machine.specs.declared.machine.Turn.{Turn}
 use Rattle.suifvm_machine.specs.declared.machine.Turn.TheVariants as turn
-use Rattle.suifvm_machine.specs.Config.{Hidden, IsSound, Comes, TurnIs, Wrote, config_of, point_of, program_of, world_in, step_there, wrote, with_byte}
+use Rattle.suifvm_machine.specs.Config.{HiddenState, IsSound, Comes, TurnIs, Wrote, config_of, point_of, program_of, world_in, step_there, wrote, with_byte}
 use Rattle.suifvm_machine.specs.model.Acts.{act_there, at_block}
 use Rattle.suifvm_machine.specs.Tables.{block_insns}
 use Rattle.suifvm_machine.proofs.Sites.{site_there}
-use Rattle.suifvm_machine.proofs.Turns.{unwaited, turn_as, stops_there, wrote_none, fails_turn, traps_turn, exits_turn}
+use Rattle.suifvm_machine.proofs.Turns.{unwaited_case, turn_as, stops_there, wrote_none, fails_turn, traps_turn, exits_turn}
 
 pub puts_turn : (m new : Machine) (d : Option ℕ) (byte : ℕ) (i : VmInsn) → Wrote m new (named_register d) (Word byte) → writes_of i ≡ named_register d → TurnIs m new (turn.Puts byte) (λ rooms h. act_there rooms m h i (Writes (Word byte ∷ []) (put_byte (world_in m h).outer byte)))
 puts_turn m new d byte i w is = record {
   sound = λ goes. w.sound;
   program = λ goes. w.program;
-  place = λ waits. absurd (unwaited waits);
+  place = λ waits. absurd (unwaited_case waits);
   comes = λ rooms h. record {
     hidden = h;
     goes = ap (λ rs. Goes (wrote rs (Word byte ∷ []) (config_of m (with_byte byte h)))) is ∙ sym (ap (λ k. Goes k) (w.config (with_byte byte h)));
@@ -54,7 +54,7 @@ takes_turn_to m d i sound place is = record {
   };
 }
   where
-    written : Rooms → Hidden → List ℕ → Next Registers
+    written : Rooms → HiddenState → List ℕ → Next Registers
     written rooms h rs = Goes (wrote rs (Word (input_word (slice_get h.input 0)) ∷ []) (config_of m (record h { input = drop 1 h.input; takings = h.takings + 1 })))
 
 -- ---- one step, by what stands there
@@ -72,7 +72,7 @@ module _ (rooms : Rooms) (code : Code Value Registers) where
   act_same k w meter s (Returns vs o) = refl
   act_same k w meter s (Stops e o) = refl
 
-abbrev pub done_there : Rooms → Machine → Hidden → VmInsn → Next Registers
+abbrev pub done_there : Rooms → Machine → HiddenState → VmInsn → Next Registers
 done_there rooms m h i = act_there rooms m h i (does i m.here.own (map (registers_of (drop m.here.base m.stack.items)) (reads_of i)) (world_in m h).outer)
 
 module _ (m : Machine) (sound : IsSound m) where
@@ -127,7 +127,7 @@ module _ (m : Machine) (sound : IsSound m) where
 
 -- ---- what an instruction does, by its parts
 
-abbrev pub acts : Machine → VmInsn → (Outer → Act Value) → Rooms → Hidden → Next Registers
+abbrev pub acts : Machine → VmInsn → (Outer → Act Value) → Rooms → HiddenState → Next Registers
 acts m i act rooms h = act_there rooms m h i (act (world_in m h).outer)
 
 -- the same done another way
@@ -210,7 +210,7 @@ advanced m new i sound place is none =
     let w : Wrote m new [] Unset = wrote_none m new Unset sound place is in record {
       sound = λ goes. w.sound;
       program = λ goes. w.program;
-      place = λ waits. absurd (unwaited waits);
+      place = λ waits. absurd (unwaited_case waits);
       comes = λ rooms h. record {
         hidden = h;
         goes = ap (λ rs. Goes (wrote rs [] (config_of m h))) none ∙ sym (ap (λ k. Goes k) (w.config h));
@@ -224,12 +224,12 @@ branch_if b o = if b then Jumps 0 o else Writes [] o
 pub branch_failure : (m : Machine) (r : Turn) (i : VmInsn) (op : VmBranchOp) (test : Option Bool) → test ≡ None → IsSound m → r ≡ turn.Over (stop.Undefined (m.here.row.now.first + m.here.at)) → TurnIs m m r (λ rooms h. act_there rooms m h i (branches op test (world_in m h).outer))
 branch_failure m r i op test is sound failed = as_act m m r i fails (branches op test) (λ o. ap (λ x. branches op x o) (sym is)) (fails_turn m r i sound failed)
 
-pub jumped : (m new : Machine) (r : Turn) (i : VmInsn) (block : ℕ) → targets_of i ≡ block ∷ [] → writes_of i ≡ [] → TurnIs m new r (λ rooms h. Goes (at_block block (config_of m h))) → TurnIs m new r (λ rooms h. act_there rooms m h i (Jumps 0 (world_in m h).outer))
-jumped m new r i block target none t = turn_as m new r (λ rooms h. Goes (at_block block (config_of m h))) (acts m i (Jumps 0)) (λ rooms h.
+pub jumped_turn : (m new : Machine) (r : Turn) (i : VmInsn) (block : ℕ) → targets_of i ≡ block ∷ [] → writes_of i ≡ [] → TurnIs m new r (λ rooms h. Goes (at_block block (config_of m h))) → TurnIs m new r (λ rooms h. act_there rooms m h i (Jumps 0 (world_in m h).outer))
+jumped_turn m new r i block target none t = turn_as m new r (λ rooms h. Goes (at_block block (config_of m h))) (acts m i (Jumps 0)) (λ rooms h.
     ap (λ rs. moved rooms h (set_registers rs [] (registers_of (drop m.here.base m.stack.items)))) (sym none)
     ∙ ap (λ ts. jump_to Value Registers rooms (vm_code (program_of m)) (config_of m h) (world_in m h) (insn_site i) (slice_get ts 0)) (sym target)) t
   where
-    moved : Rooms → Hidden → Registers → Next Registers
+    moved : Rooms → HiddenState → Registers → Next Registers
     moved rooms h store = Goes (record {
       here = record { point = record { function = m.here.function; block = block; at = 0 }; own = m.here.own; store = store };
       callers = (config_of m h).callers;
@@ -237,7 +237,7 @@ jumped m new r i block target none t = turn_as m new r (λ rooms h. Goes (at_blo
     })
 
 pub branch_taken : (m new : Machine) (r : Turn) (i : VmInsn) (op : VmBranchOp) (test : Option Bool) (b : Bool) (block : ℕ) → test ≡ Some b → is_branch_taken op b ≡ true → targets_of i ≡ block ∷ [] → writes_of i ≡ [] → TurnIs m new r (λ rooms h. Goes (at_block block (config_of m h))) → TurnIs m new r (λ rooms h. act_there rooms m h i (branches op test (world_in m h).outer))
-branch_taken m new r i op test b block is taken target none t = as_act m new r i (Jumps 0) (branches op test) (λ o. ap (λ x. branch_if x o) (sym taken) ∙ ap (λ x. branches op x o) (sym is)) (jumped m new r i block target none t)
+branch_taken m new r i op test b block is taken target none t = as_act m new r i (Jumps 0) (branches op test) (λ o. ap (λ x. branch_if x o) (sym taken) ∙ ap (λ x. branches op x o) (sym is)) (jumped_turn m new r i block target none t)
 
 pub branch_passed : (m new : Machine) (i : VmInsn) (op : VmBranchOp) (test : Option Bool) (b : Bool) → test ≡ Some b → is_branch_taken op b ≡ false → IsSound m → m.here.at < length m.here.row.now.insns.items → new ≡ record m { here = record m.here { at = m.here.at + 1 } } → writes_of i ≡ [] → TurnIs m new turn.Goes (λ rooms h. act_there rooms m h i (branches op test (world_in m h).outer))
 branch_passed m new i op test b is passed sound place new_is none = as_act m new turn.Goes i (Writes []) (branches op test) (λ o. ap (λ x. branch_if x o) (sym passed) ∙ ap (λ x. branches op x o) (sym is)) (advanced m new i sound place new_is none)

@@ -17,11 +17,11 @@ use Rattle.suifvm_machine.specs.declared.machine.Call.{Call}
 use Rattle.suifvm_machine.specs.declared.machine.Machine.{Machine}
 use Rattle.suifvm_machine.specs.declared.machine.Stop.TheVariants as stop
 use Rattle.suifvm_machine.specs.declared.machine.Turn.TheVariants as turn
-use Rattle.suifvm_machine.specs.Config.{Hidden, Wait, IsSound, TurnIs, config_of, frame_of_call, frames_of, program_of, world_in}
+use Rattle.suifvm_machine.specs.Config.{HiddenState, Wait, IsSound, TurnIs, config_of, frame_of_call, frames_of, program_of, world_in}
 use Rattle.suifvm_machine.specs.model.Acts.{act_there}
 use Rattle.vm_operations.specs.Tidy.{MemoryIsTidy}
 use Rattle.suifvm_machine.specs.declared.tables.FunctionTable.{FunctionTable}
-use Rattle.suifvm_machine.proofs.Turns.{unwaited}
+use Rattle.suifvm_machine.proofs.Turns.{unwaited_case}
 use Rattle.suifvm_machine.proofs.Sites.{sizes_are, site_past, site_missing, number_past, number_missing}
 
 module _ (m new : Machine) (k : ℕ) (vs : List Value) (i : VmInsn) (sound : IsSound m) (place : m.here.at < length m.here.row.now.insns.items)
@@ -80,10 +80,10 @@ module _ (m new : Machine) (k : ℕ) (vs : List Value) (i : VmInsn) (sound : IsS
         longer : length m.stack.items ≤ length new.stack.items
         longer = let len = ap length stack ∙ length-append m.stack.items vs in omega (arith, len)
 
-    abbrev after : Rooms → Hidden → Hidden
+    abbrev after : Rooms → HiddenState → HiddenState
     after rooms h = record h { room = h.room + room_of rooms k; peak = max h.peak (h.room + room_of rooms k) }
 
-    abbrev shape : Rooms → Hidden → ℕ → Registers → List (Frame Registers) → Memory → Config Registers
+    abbrev shape : Rooms → HiddenState → ℕ → Registers → List (Frame Registers) → Memory → Config Registers
     shape rooms h own store fs objects = record {
       here = record { point = record { function = k; block = 0; at = 0 }; own = own; store = store };
       callers = fs;
@@ -96,7 +96,7 @@ module _ (m new : Machine) (k : ℕ) (vs : List Value) (i : VmInsn) (sound : IsS
     abbrev waiting_frames : List (Frame Registers)
     waiting_frames = frame_of_call m.here (drop m.here.base m.stack.items) ∷ frames_of (reverse m.callers.items) (take m.here.base m.stack.items)
 
-    goes : (rooms : Rooms) (h : Hidden) → act_there rooms m h i (Calls k vs (world_in m h).outer) ≡ Goes (config_of target (after rooms h))
+    goes : (rooms : Rooms) (h : HiddenState) → act_there rooms m h i (Calls k vs (world_in m h).outer) ≡ Goes (config_of target (after rooms h))
     goes rooms h =
         sym (ap (λ x. Goes x) (
         ap (λ own. shape rooms h own (registers_of (drop (length m.stack.items) new.stack.items)) (frames_of (reverse new.callers.items) (take (length m.stack.items) new.stack.items)) new.memory) sound.made
@@ -106,11 +106,11 @@ module _ (m new : Machine) (k : ℕ) (vs : List Value) (i : VmInsn) (sound : IsS
         ∙ ap (λ x. shape rooms h (length m.memory) (registers_of vs) waiting_frames x) memory
         ∙ ap (λ sizes. shape rooms h (length m.memory) (registers_of vs) waiting_frames (begin_objects m.memory sizes)) (sym (sizes_are m.program.now k new.here.table.now table))))
 
-    pub entered : TurnIs m new turn.Goes (λ rooms h. act_there rooms m h i (Calls k vs (world_in m h).outer))
-    entered = subst (λ x. TurnIs m x turn.Goes (λ rooms h. act_there rooms m h i (Calls k vs (world_in m h).outer))) (sym is_target) (record {
+    pub entered_call : TurnIs m new turn.Goes (λ rooms h. act_there rooms m h i (Calls k vs (world_in m h).outer))
+    entered_call = subst (λ x. TurnIs m x turn.Goes (λ rooms h. act_there rooms m h i (Calls k vs (world_in m h).outer))) (sym is_target) (record {
       sound = λ goes. target_sound;
       program = λ goes. refl;
-      place = λ waits. absurd (unwaited waits);
+      place = λ waits. absurd (unwaited_case waits);
       comes = λ rooms h. record { hidden = after rooms h; goes = goes rooms h; same = record { input = refl; takings = refl; output = refl } };
     })
 
@@ -125,7 +125,7 @@ module _ (m new : Machine) (k : ℕ) (vs : List Value) (i : VmInsn) (sound : IsS
   no_function none = record {
     sound = λ goes. absurd (clash goes);
     program = λ goes. absurd (clash goes);
-    place = λ waits. absurd (unwaited waits);
+    place = λ waits. absurd (unwaited_case waits);
     comes = λ rooms h. record {
       steps = 1;
       last = (entry rooms h).world;
@@ -138,14 +138,14 @@ module _ (m new : Machine) (k : ℕ) (vs : List Value) (i : VmInsn) (sound : IsS
       clash : (let b : Bool = false in b ≡ true) → ⊥
       clash h = cc
 
-      entry : Rooms → Hidden → Config Registers
+      entry : Rooms → HiddenState → Config Registers
       entry rooms h = started (config_of m h) (act_there rooms m h i (Calls k vs (world_in m h).outer))
 
   pub no_block : (t : FunctionTable) → slice_get m.program.now.functions.items k ≡ Some t → slice_get t.blocks.items 0 ≡ None → TurnIs m new (turn.Over (stop.Undefined t.end)) (λ rooms h. act_there rooms m h i (Calls k vs (world_in m h).outer))
   no_block t there none = record {
     sound = λ goes. absurd (clash goes);
     program = λ goes. absurd (clash goes);
-    place = λ waits. absurd (unwaited waits);
+    place = λ waits. absurd (unwaited_case waits);
     comes = λ rooms h. record {
       steps = 1;
       last = (entry rooms h).world;
@@ -158,5 +158,5 @@ module _ (m new : Machine) (k : ℕ) (vs : List Value) (i : VmInsn) (sound : IsS
       clash : (let b : Bool = false in b ≡ true) → ⊥
       clash h = cc
 
-      entry : Rooms → Hidden → Config Registers
+      entry : Rooms → HiddenState → Config Registers
       entry rooms h = started (config_of m h) (act_there rooms m h i (Calls k vs (world_in m h).outer))

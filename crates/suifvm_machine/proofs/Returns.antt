@@ -16,7 +16,7 @@ use Rattle.vm_meaning.specs.Behave.{Registers, registers_of, set_registers, firs
 use Rattle.suifvm_machine.specs.declared.machine.Machine.{Machine}
 use Rattle.suifvm_machine.specs.declared.machine.Stop.{Stop}
 use Rattle.suifvm_machine.specs.declared.machine.Turn.TheVariants as turn
-use Rattle.suifvm_machine.specs.Config.{Hidden, Wait, IsSound, TurnIs, Wrote, config_of, frame_of_call, frames_of, point_of, program_of, world_in, wrote, ending_by}
+use Rattle.suifvm_machine.specs.Config.{HiddenState, Wait, IsSound, TurnIs, Wrote, config_of, frame_of_call, frames_of, point_of, program_of, world_in, wrote, ending_by}
 use Rattle.suifvm_machine.specs.model.Acts.{act_there, ends_with}
 use Rattle.suifvm_machine.specs.Tables.{block_insns}
 use Rattle.vm_operations.specs.Tidy.{MemoryIsTidy}
@@ -41,24 +41,24 @@ local_count : (m : Machine) → IsSound m → length (sizes_in (slice_get (progr
 local_count m sound =
     ap length (sizes_are m.program.now m.here.function m.here.table.now sound.here.table) ∙ length-map m.here.table.now.objects.now (λ (o : MemoryLocal). o.size)
 
-abbrev left : Rooms → Machine → Hidden → Hidden
+abbrev left : Rooms → Machine → HiddenState → HiddenState
 left rooms m h = record h { room = h.room - room_of rooms m.here.function }
 
 -- the world after a return whose objects have ended
-abbrev world_left : Rooms → Machine → Memory → Hidden → World
+abbrev world_left : Rooms → Machine → Memory → HiddenState → World
 world_left rooms m objects h = record {
   outer = record { memory = objects; input = h.input; takings = h.takings; output = h.output };
   meter = record { turns = m.turns; room = h.room - room_of rooms m.here.function; peak = h.peak };
 }
 
-ended_by : (m : Machine) → IsSound m → (rooms : Rooms) (h : Hidden) (i : VmInsn) (vs : List Value) → act_there rooms m h i (Returns vs (world_in m h).outer) ≡ return_to Value Registers rooms (vm_code (program_of m)) (m.here.row.now.first + m.here.at) vs (world_left rooms m (end_objects m.memory m.here.own (length m.here.table.now.objects.now)) h) (frames_of (reverse m.callers.items) (take m.here.base m.stack.items))
+ended_by : (m : Machine) → IsSound m → (rooms : Rooms) (h : HiddenState) (i : VmInsn) (vs : List Value) → act_there rooms m h i (Returns vs (world_in m h).outer) ≡ return_to Value Registers rooms (vm_code (program_of m)) (m.here.row.now.first + m.here.at) vs (world_left rooms m (end_objects m.memory m.here.own (length m.here.table.now.objects.now)) h) (frames_of (reverse m.callers.items) (take m.here.base m.stack.items))
 ended_by m sound rooms h i vs =
     ap (λ n. return_to Value Registers rooms (vm_code (program_of m)) n vs (world_left rooms m (end_objects m.memory m.here.own (length (sizes_in (slice_get (program_of m) m.here.function)))) h) (frames_of (reverse m.callers.items) (take m.here.base m.stack.items))) (number_here m sound)
     ∙ ap (λ k. return_to Value Registers rooms (vm_code (program_of m)) (m.here.row.now.first + m.here.at) vs (world_left rooms m (end_objects m.memory m.here.own k) h) (frames_of (reverse m.callers.items) (take m.here.base m.stack.items))) (local_count m sound)
 
 -- the first function returns
-pub finished : (m new : Machine) (i : VmInsn) (vs : List Value) (v : Value) (number : ℕ) (s : Stop) → IsSound m → m.callers.items ≡ [] → number ≡ m.here.row.now.first + m.here.at → ((w : World) → ending_by s w ≡ ends_with number w (value_status v)) → v ≡ first_or_unset vs → TurnIs m new (turn.Over s) (λ rooms h. act_there rooms m h i (Returns vs (world_in m h).outer))
-finished m new i vs v number s sound none number_is status is = record {
+pub finished_run : (m new : Machine) (i : VmInsn) (vs : List Value) (v : Value) (number : ℕ) (s : Stop) → IsSound m → m.callers.items ≡ [] → number ≡ m.here.row.now.first + m.here.at → ((w : World) → ending_by s w ≡ ends_with number w (value_status v)) → v ≡ first_or_unset vs → TurnIs m new (turn.Over s) (λ rooms h. act_there rooms m h i (Returns vs (world_in m h).outer))
+finished_run m new i vs v number s sound none number_is status is = record {
   sound = λ goes. absurd (clash goes);
   program = λ goes. absurd (clash goes);
   place = λ takes. absurd (clash takes);
@@ -77,7 +77,7 @@ finished m new i vs v number s sound none number_is status is = record {
   };
 }
   where
-    w : Rooms → Hidden → World
+    w : Rooms → HiddenState → World
     w rooms h = world_left rooms m (end_objects m.memory m.here.own (length m.here.table.now.objects.now)) h
 
     clash : (let b : Bool = false in b ≡ true) → ⊥
@@ -111,8 +111,8 @@ module _ (m mid : Machine) (sound : IsSound m)
     back_place = wait.1
 
     -- the call that waits goes on
-    pub returned : (new : Machine) (i j : VmInsn) (vs : List Value) (v : Value) (d : Option ℕ) → slice_get (block_insns mid.here.row.now) mid.here.at ≡ Some j → writes_of j ≡ named_register d → v ≡ first_or_unset vs → Wrote mid new (named_register d) v → TurnIs m new turn.Goes (λ rooms h. act_there rooms m h i (Returns vs (world_in m h).outer))
-    returned new i j vs v d there written is w = record {
+    pub returned_call : (new : Machine) (i j : VmInsn) (vs : List Value) (v : Value) (d : Option ℕ) → slice_get (block_insns mid.here.row.now) mid.here.at ≡ Some j → writes_of j ≡ named_register d → v ≡ first_or_unset vs → Wrote mid new (named_register d) v → TurnIs m new turn.Goes (λ rooms h. act_there rooms m h i (Returns vs (world_in m h).outer))
+    returned_call new i j vs v d there written is w = record {
       sound = λ goes. w.sound;
       program = λ goes. w.program ∙ ap (λ (x : Machine). x.program.now) only;
       place = λ takes. absurd (clash takes);
@@ -128,7 +128,7 @@ module _ (m mid : Machine) (sound : IsSound m)
         store : Registers
         store = registers_of (drop mid.here.base mid.stack.items)
 
-        shape : Rooms → Hidden → Registers → Memory → Next Registers
+        shape : Rooms → HiddenState → Registers → Memory → Next Registers
         shape rooms h rs objects = Goes (record {
           here = record { point = record { function = mid.here.function; block = mid.here.block; at = suc mid.here.at }; own = mid.here.own; store = rs };
           callers = fs;
@@ -140,7 +140,7 @@ module _ (m mid : Machine) (sound : IsSound m)
             site_there m.program.now mid.here.function mid.here.table.now wait.0.table mid.here.block mid.here.at mid.here.row.now wait.0.row
             ∙ ap (λ o. Some (site_or_next mid.here.block o)) there
 
-        goes : (rooms : Rooms) (h : Hidden) → act_there rooms m h i (Returns vs (world_in m h).outer) ≡ Goes (config_of new (left rooms m h))
+        goes : (rooms : Rooms) (h : HiddenState) → act_there rooms m h i (Returns vs (world_in m h).outer) ≡ Goes (config_of new (left rooms m h))
         goes rooms h =
             let objects : Memory = end_objects m.memory m.here.own (length m.here.table.now.objects.now) in
             ended_by m sound rooms h i vs

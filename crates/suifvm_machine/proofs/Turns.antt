@@ -19,21 +19,21 @@ use Rattle.suifvm_machine.specs.declared.machine.Machine.{Machine}
 use Rattle.suifvm_machine.specs.declared.machine.Stop.TheVariants as stop
 use Rattle.suifvm_machine.specs.declared.machine.Turn.{Turn}
 use Rattle.suifvm_machine.specs.declared.machine.Turn.TheVariants as turn
-use Rattle.suifvm_machine.specs.Config.{Hidden, Wait, IsSound, SameTraffic, ShowsAs, Comes, TurnIs, Wrote, config_of, world_in, frames_of, point_of, program_of, ending_by, wrote}
+use Rattle.suifvm_machine.specs.Config.{HiddenState, Wait, IsSound, SameTraffic, ShowsAs, Comes, TurnIs, Wrote, config_of, world_in, frames_of, point_of, program_of, ending_by, wrote}
 use Rattle.suifvm_machine.specs.model.Acts.{act_there, at_block}
 use Rattle.vm_operations.specs.Tidy.{MemoryIsTidy}
 use Rattle.suifvm_machine.proofs.Sites.{number_there, number_past, site_past}
 
-pub unwaited : (let b : Bool = false in b ≡ true) → ⊥
-unwaited h = cc
+pub unwaited_case : (let b : Bool = false in b ≡ true) → ⊥
+unwaited_case h = cc
 
-same_traffic : (h : Hidden) → SameTraffic h h
+same_traffic : (h : HiddenState) → SameTraffic h h
 same_traffic h = record { input = refl; takings = refl; output = refl }
 
-shows : (m : Machine) (h : Hidden) → ShowsAs (world_in m h) h
+shows : (m : Machine) (h : HiddenState) → ShowsAs (world_in m h) h
 shows m h = record { input = refl; takings = refl; output = refl }
 
-pub turn_as : (old new : Machine) (r : Turn) (f g : Rooms → Hidden → Next Registers) → ((rooms : Rooms) (h : Hidden) → f rooms h ≡ g rooms h) → TurnIs old new r f → TurnIs old new r g
+pub turn_as : (old new : Machine) (r : Turn) (f g : Rooms → HiddenState → Next Registers) → ((rooms : Rooms) (h : HiddenState) → f rooms h ≡ g rooms h) → TurnIs old new r f → TurnIs old new r g
 turn_as old new r f g same t = record {
   sound = t.sound;
   program = t.program;
@@ -61,14 +61,14 @@ module _ (m mid new : Machine) (registers : List ℕ) (v : Value) (sound : IsSou
     callers = subst (Wait m.program.now (reverse m.callers.items)) (sym below) sound.callers;
   }
 
-  abbrev build : Hidden → ℕ → Registers → List Value → Config Registers
+  abbrev build : HiddenState → ℕ → Registers → List Value → Config Registers
   build h at store stack = record {
     here = record { point = record { function = m.here.function; block = m.here.block; at = at }; own = m.here.own; store = store };
     callers = frames_of (reverse m.callers.items) stack;
     world = world_in m h;
   }
 
-  next_config : (h : Hidden) → config_of next h ≡ wrote registers (v ∷ []) (config_of m h)
+  next_config : (h : HiddenState) → config_of next h ≡ wrote registers (v ∷ []) (config_of m h)
   next_config h =
       ap (λ at. build h at (registers_of (drop m.here.base mid.stack.items)) (take m.here.base mid.stack.items)) (add-one m.here.at)
       ∙ ap (λ store. build h (suc m.here.at) store (take m.here.base mid.stack.items)) window
@@ -90,7 +90,7 @@ pub gives_turn : (m new : Machine) (registers : List ℕ) (v : Value) (i : VmIns
 gives_turn m new registers v i w is = record {
   sound = λ goes. w.sound;
   program = λ goes. w.program;
-  place = λ waits. absurd (unwaited waits);
+  place = λ waits. absurd (unwaited_case waits);
   comes = λ rooms h. record {
     hidden = h;
     goes = ap (λ rs. Goes (wrote rs (v ∷ []) (config_of m h))) is ∙ sym (ap (λ k. Goes k) (w.config h));
@@ -99,11 +99,11 @@ gives_turn m new registers v i w is = record {
 }
 
 -- a run that is over there
-pub stops_there : (m : Machine) (s : _) (f : Rooms → Hidden → Next Registers) → ((rooms : Rooms) (h : Hidden) → f rooms h ≡ Over (ending_by s (world_in m h))) → TurnIs m m (turn.Over s) f
+pub stops_there : (m : Machine) (s : _) (f : Rooms → HiddenState → Next Registers) → ((rooms : Rooms) (h : HiddenState) → f rooms h ≡ Over (ending_by s (world_in m h))) → TurnIs m m (turn.Over s) f
 stops_there m s f is = record {
   sound = λ goes. absurd (clash goes);
   program = λ goes. refl;
-  place = λ waits. absurd (unwaited waits);
+  place = λ waits. absurd (unwaited_case waits);
   comes = λ rooms h. record {
     steps = 0;
     last = world_in m h;
@@ -142,11 +142,11 @@ give_trap m code answer i is = by_answer m m (turn.Over (stop.Traps code)) i (Tr
 pub give_failure : (m : Machine) (r : Turn) (answer : Answer) (i : VmInsn) → answer ≡ Fails → IsSound m → r ≡ turn.Over (stop.Undefined (m.here.row.now.first + m.here.at)) → TurnIs m m r (λ rooms h. act_there rooms m h i (writes answer (world_in m h).outer))
 give_failure m r answer i is sound failed = by_answer m m r i Fails answer is (fails_turn m r i sound failed)
 
-pub no_memory : (m new : Machine) (f : Rooms → Hidden → Next Registers) → MemoryIsShort → TurnIs m new turn.NoMemory f
+pub no_memory : (m new : Machine) (f : Rooms → HiddenState → Next Registers) → MemoryIsShort → TurnIs m new turn.NoMemory f
 no_memory m new f short = record {
   sound = λ goes. absurd (clash goes);
   program = λ goes. absurd (clash goes);
-  place = λ waits. absurd (unwaited waits);
+  place = λ waits. absurd (unwaited_case waits);
   comes = λ rooms h. short;
 }
   where
@@ -168,7 +168,7 @@ module _ (m new : Machine) (block : ℕ) (sound : IsSound m) where
       callers = sound.callers;
     };
     program = λ goes. refl;
-    place = λ waits. absurd (unwaited waits);
+    place = λ waits. absurd (unwaited_case waits);
     comes = λ rooms h. record { hidden = h; goes = refl; same = same_traffic h };
   })
 
@@ -176,7 +176,7 @@ module _ (m new : Machine) (block : ℕ) (sound : IsSound m) where
   past_blocks past = record {
     sound = λ goes. absurd (clash goes);
     program = λ goes. refl;
-    place = λ waits. absurd (unwaited waits);
+    place = λ waits. absurd (unwaited_case waits);
     comes = λ rooms h. record {
       steps = 1;
       last = world_in m h;
@@ -204,7 +204,7 @@ changed_turn m mid new i memory sound place tidy count mid_is new_is is none =
         callers = sound.callers;
       };
       program = λ goes. refl;
-      place = λ waits. absurd (unwaited waits);
+      place = λ waits. absurd (unwaited_case waits);
       comes = λ rooms h. record {
         hidden = h;
         goes = ap (λ o. act_there rooms m h i (changes o (world_in m h).outer)) is
@@ -220,7 +220,7 @@ changed_turn m mid new i memory sound place tidy count mid_is new_is is none =
     same : new ≡ next
     same = new_is ∙ ap (λ (k : Machine). record k { here = record k.here { at = k.here.at + 1 } }) mid_is
 
-    build : Hidden → ℕ → Registers → Config Registers
+    build : HiddenState → ℕ → Registers → Config Registers
     build h at store = record {
       here = record { point = record { function = m.here.function; block = m.here.block; at = at }; own = m.here.own; store = store };
       callers = frames_of (reverse m.callers.items) (take m.here.base m.stack.items);

@@ -11,7 +11,7 @@ use Rattle.suifvm_machine.specs.declared.machine.Stop.{Stop}
 use Rattle.suifvm_machine.specs.declared.machine.NoStart.{NoStart}
 use Rattle.suifvm_machine.specs.declared.machine.NoStart.TheVariants as no_start
 use Rattle.suifvm_machine.specs.declared.tables.ProgramTable.{ProgramTable}
-use Rattle.suifvm_machine.specs.Config.{Hidden, IsSound, ShowsAs, ending_by, config_of}
+use Rattle.suifvm_machine.specs.Config.{HiddenState, IsSound, ShowsAs, ending_by, config_of}
 use Rattle.suifvm_machine.specs.Tables.{program_code}
 
 -- the start of a function without arguments
@@ -22,7 +22,7 @@ start_at rooms p main memory turns input =
       meter = meter_of turns;
     })
 
-abbrev pub first_hidden : Rooms → (main : ℕ) → (input : List ℕ) → Hidden
+abbrev pub first_hidden : Rooms → (main : ℕ) → (input : List ℕ) → HiddenState
 first_hidden rooms main input = record {
   input = input;
   takings = 0;

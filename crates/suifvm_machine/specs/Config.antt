@@ -35,20 +35,20 @@ frames_of [] stack = []
 frames_of (c ∷ cs) stack = frame_of_call c (drop c.base stack) ∷ frames_of cs (take c.base stack)
 
 -- what a machine does not hold: the input that is left, how often it was asked, the output, and the rooms
-pub record Hidden : Type 0 where
+pub record HiddenState : Type 0 where
   pub input : List ℕ
   pub takings : ℕ
   pub output : List ℕ
   pub room : ℕ
   pub peak : ℕ
 
-abbrev pub world_in : Machine → Hidden → World
+abbrev pub world_in : Machine → HiddenState → World
 world_in m h = record {
   outer = record { memory = m.memory; input = h.input; takings = h.takings; output = h.output };
   meter = record { turns = m.turns; room = h.room; peak = h.peak };
 }
 
-abbrev pub config_of : Machine → Hidden → Config Registers
+abbrev pub config_of : Machine → HiddenState → Config Registers
 config_of m h = record {
   here = frame_of_call m.here (drop m.here.base m.stack.items);
   callers = frames_of (reverse m.callers.items) (take m.here.base m.stack.items);
@@ -85,12 +85,12 @@ pub record IsSound (m : Machine) : Type 0 where
 -- ---- what a turn comes to
 
 -- the same input, output and count
-pub record SameTraffic (h g : Hidden) : Type 0 where
+pub record SameTraffic (h g : HiddenState) : Type 0 where
   pub input : g.input ≡ h.input
   pub takings : g.takings ≡ h.takings
   pub output : g.output ≡ h.output
 
-pub record ShowsAs (w : World) (h : Hidden) : Type 0 where
+pub record ShowsAs (w : World) (h : HiddenState) : Type 0 where
   pub input : w.outer.input ≡ h.input
   pub takings : w.outer.takings ≡ h.takings
   pub output : w.outer.output ≡ h.output
@@ -101,7 +101,7 @@ ending_by (stop.Traps code) w = Trap w code
 ending_by (stop.Undefined number) w = Undefined w number
 ending_by stop.Budget w = More w
 
-abbrev pub with_byte : (byte : ℕ) → Hidden → Hidden
+abbrev pub with_byte : (byte : ℕ) → HiddenState → HiddenState
 with_byte byte h = record h { output = h.output ++ byte ∷ [] }
 
 -- values are written into registers, and the call goes on
@@ -114,24 +114,24 @@ wrote registers vs k = record k {
   };
 }
 
-abbrev pub with_byte_taken : Hidden → Hidden
+abbrev pub with_byte_taken : HiddenState → HiddenState
 with_byte_taken h = record h { input = drop 1 h.input; takings = h.takings + 1 }
 
 -- the run goes on where the machine stands, behind what is still to be done
-pub record GoesTo (next : Next Registers) (after : Hidden → Config Registers) (h : Hidden) : Type 0 where
-  pub hidden : Hidden
+pub record GoesTo (next : Next Registers) (after : HiddenState → Config Registers) (h : HiddenState) : Type 0 where
+  pub hidden : HiddenState
   pub goes : next ≡ Goes (after hidden)
   pub same : SameTraffic h hidden
 
 -- the run ends, after some more steps
-pub record EndsBy (rooms : Rooms) (p : ProgramTable) (next : Next Registers) (s : Stop) (h : Hidden) : Type 0 where
+pub record EndsBy (rooms : Rooms) (p : ProgramTable) (next : Next Registers) (s : Stop) (h : HiddenState) : Type 0 where
   pub steps : ℕ
   pub last : World
   pub over : go_on next (exec Value Registers rooms (vm_code (program_code p)) steps) ≡ Over (ending_by s last)
   pub shows : ShowsAs last h
 
 -- what a turn came to, where a step came to `next`
-abbrev pub Comes : Rooms → ProgramTable → Turn → Machine → Hidden → Next Registers → Type 0
+abbrev pub Comes : Rooms → ProgramTable → Turn → Machine → HiddenState → Next Registers → Type 0
 Comes rooms p turn.Goes m h next = GoesTo next (config_of m) h
 Comes rooms p (turn.Over s) m h next = EndsBy rooms p next s h
 Comes rooms p (turn.Puts byte) m h next = GoesTo next (λ g. config_of m (with_byte byte g)) h
@@ -141,7 +141,7 @@ Comes rooms p (turn.Takes destination) m h next =
     (config_of m (with_byte_taken g))) h
 Comes rooms p turn.NoMemory m h next = MemoryIsShort
 
-abbrev pub step_there : Rooms → Machine → Hidden → Next Registers
+abbrev pub step_there : Rooms → Machine → HiddenState → Next Registers
 step_there rooms m h = step Value Registers rooms (vm_code (program_of m)) (config_of m h)
 
 -- whether the run goes on after a turn, at once or when a byte was put or taken
@@ -161,14 +161,14 @@ waits (turn.Puts byte) = false
 waits turn.NoMemory = false
 
 -- a turn came to what a step comes to
-pub record TurnIs (old new : Machine) (result : Turn) (next : Rooms → Hidden → Next Registers) : Type 0 where
+pub record TurnIs (old new : Machine) (result : Turn) (next : Rooms → HiddenState → Next Registers) : Type 0 where
   pub sound : turn_goes_on result ≡ true → IsSound new
   pub program : turn_goes_on result ≡ true → new.program.now ≡ old.program.now
   pub place : waits result ≡ true → new.here.at < length new.here.row.now.insns.items
-  pub comes : (rooms : Rooms) (h : Hidden) → Comes rooms old.program.now result new h (next rooms h)
+  pub comes : (rooms : Rooms) (h : HiddenState) → Comes rooms old.program.now result new h (next rooms h)
 
 -- a value was written into registers, and the call goes on
 pub record Wrote (old new : Machine) (registers : List ℕ) (v : Value) : Type 0 where
   pub sound : IsSound new
   pub program : new.program.now ≡ old.program.now
-  pub config : (h : Hidden) → config_of new h ≡ wrote registers (v ∷ []) (config_of old h)
+  pub config : (h : HiddenState) → config_of new h ≡ wrote registers (v ∷ []) (config_of old h)

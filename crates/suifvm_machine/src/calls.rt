@@ -146,7 +146,7 @@ fn status_of(value: Value, number: u64) -> Stop
 
 impl<'c, 'p> Machine<'c, 'p> {
     /// A call of a function of the program.
-    #[tactic(auto, using(crate::proofs::Entries::entered, crate::proofs::Entries::no_function, crate::proofs::Entries::no_block, crate::proofs::Turns::no_memory))]
+    #[tactic(auto, using(crate::proofs::Entries::entered_call, crate::proofs::Entries::no_function, crate::proofs::Entries::no_block, crate::proofs::Turns::no_memory))]
     fn enter(&mut self, function: u32, arguments: &[u32]) -> Turn
         requires sound { config.IsSound self.old }
         requires within { self.old.here.at < length self.old.here.row.now.insns.items }
@@ -192,7 +192,7 @@ impl<'c, 'p> Machine<'c, 'p> {
     }
 
     /// Ends the call, and gives a value to the one that waits for it.
-    #[tactic(auto, using(crate::proofs::Returns::finished, crate::proofs::Returns::back_sound, crate::proofs::Returns::back_place, crate::proofs::Returns::returned, crate::proofs::Turns::no_memory))]
+    #[tactic(auto, using(crate::proofs::Returns::finished_run, crate::proofs::Returns::back_sound, crate::proofs::Returns::back_place, crate::proofs::Returns::returned_call, crate::proofs::Turns::no_memory))]
     fn leave(&mut self, value: Value) -> Turn
         requires sound { config.IsSound self.old }
         requires within { self.old.here.at < length self.old.here.row.now.insns.items }

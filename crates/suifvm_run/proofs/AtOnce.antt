@@ -19,7 +19,7 @@ use Rattle.suifvm_machine.specs.Config.{IsSound, TurnIs, Wrote, step_there, conf
 use Rattle.suifvm_machine.specs.model.Acts.{act_there, at_block}
 use Rattle.suifvm_machine.specs.Tables.{block_insns}
 use Rattle.suifvm_machine.proofs.Turns.{give_value, turn_as}
-use Rattle.suifvm_machine.proofs.Effects.{branch_taken, jumped, done_as, done_there, step_plain, step_past}
+use Rattle.suifvm_machine.proofs.Effects.{branch_taken, jumped_turn, done_as, done_there, step_plain, step_past}
 
 -- what follows from what holds where a test is true
 pub where_done : (done : Bool) (A B : Type 0) → (A → B) → OnTrue done A → OnTrue done B
@@ -53,41 +53,41 @@ module _ (m new : Machine) (done : Bool) where
   gave_two f d n v x w y first second is k =
       gave_constant (f x y) d n (ap (λ z. f z y) (sym first) ∙ ap (f v) (sym second) ∙ is) k
 
-  abbrev pub Branched : VmBranchOp → Option Bool → (block : ℕ) → Type 0
-  Branched op test block = (i : VmInsn) → targets_of i ≡ block ∷ [] → writes_of i ≡ [] → TurnIs m new turn.Goes (λ rooms h. act_there rooms m h i (branches op test (world_in m h).outer))
+  abbrev pub BranchIsTaken : VmBranchOp → Option Bool → (block : ℕ) → Type 0
+  BranchIsTaken op test block = (i : VmInsn) → targets_of i ≡ block ∷ [] → writes_of i ≡ [] → TurnIs m new turn.Goes (λ rooms h. act_there rooms m h i (branches op test (world_in m h).outer))
 
-  abbrev pub Jumped : (block : ℕ) → Type 0
-  Jumped block = TurnIs m new turn.Goes (λ rooms h. Goes (at_block block (config_of m h)))
+  abbrev pub JumpIsTaken : (block : ℕ) → Type 0
+  JumpIsTaken block = TurnIs m new turn.Goes (λ rooms h. Goes (at_block block (config_of m h)))
 
-  pub branched_there : (op : VmBranchOp) (b : Bool) (block : ℕ) → is_branch_taken op b ≡ true → OnTrue done (Jumped block) → OnTrue done (Branched op (Some b) block)
+  pub branched_there : (op : VmBranchOp) (b : Bool) (block : ℕ) → is_branch_taken op b ≡ true → OnTrue done (JumpIsTaken block) → OnTrue done (BranchIsTaken op (Some b) block)
   branched_there op b block taken t =
-      where_done done (Jumped block) (Branched op (Some b) block) (λ t i target none. branch_taken m new turn.Goes i op (Some b) b block refl taken target none t) t
+      where_done done (JumpIsTaken block) (BranchIsTaken op (Some b) block) (λ t i target none. branch_taken m new turn.Goes i op (Some b) b block refl taken target none t) t
 
-  pub branched_on : (op : VmBranchOp) (b : Bool) (test : Option Bool) (block : ℕ) → test ≡ Some b → OnTrue done (Branched op (Some b) block) → OnTrue done (Branched op test block)
+  pub branched_on : (op : VmBranchOp) (b : Bool) (test : Option Bool) (block : ℕ) → test ≡ Some b → OnTrue done (BranchIsTaken op (Some b) block) → OnTrue done (BranchIsTaken op test block)
   branched_on op b test block is t =
-      where_done done (Branched op (Some b) block) (Branched op test block) (λ t i target none.
+      where_done done (BranchIsTaken op (Some b) block) (BranchIsTaken op test block) (λ t i target none.
       turn_as m new turn.Goes (λ rooms h. act_there rooms m h i (branches op (Some b) (world_in m h).outer)) (λ rooms h. act_there rooms m h i (branches op test (world_in m h).outer))
       (λ rooms h. ap (λ o. act_there rooms m h i (branches op o (world_in m h).outer)) (sym is)) (t i target none)) t
 
-  abbrev pub Stepped : Type 0
-  Stepped = TurnIs m new turn.Goes (λ rooms h. step_there rooms m h)
+  abbrev pub StepIsTaken : Type 0
+  StepIsTaken = TurnIs m new turn.Goes (λ rooms h. step_there rooms m h)
 
   abbrev pub Is : VmInsn → Type 0
   Is insn = slice_get (block_insns m.here.row.now) m.here.at ≡ Some insn
 
   -- a step of an instruction that takes no turn
-  pub stepped : (A : Type 0) (insn : VmInsn) → IsSound m → takes_turn insn ≡ false → (A → TurnIs m new turn.Goes (λ rooms h. done_there rooms m h insn)) → OnTrue done A → OnTrue done (Is insn → Stepped)
-  stepped A insn sound plain f a =
-      where_done done A (Is insn → Stepped) (λ a there. step_plain m sound new turn.Goes insn there plain (f a)) a
+  pub stepped_turn : (A : Type 0) (insn : VmInsn) → IsSound m → takes_turn insn ≡ false → (A → TurnIs m new turn.Goes (λ rooms h. done_there rooms m h insn)) → OnTrue done A → OnTrue done (Is insn → StepIsTaken)
+  stepped_turn A insn sound plain f a =
+      where_done done A (Is insn → StepIsTaken) (λ a there. step_plain m sound new turn.Goes insn there plain (f a)) a
 
-  pub stepped_jump : (insn : VmInsn) (block : ℕ) → IsSound m → insn ≡ Jump block → OnTrue done (Jumped block) → OnTrue done (Is insn → Stepped)
+  pub stepped_jump : (insn : VmInsn) (block : ℕ) → IsSound m → insn ≡ Jump block → OnTrue done (JumpIsTaken block) → OnTrue done (Is insn → StepIsTaken)
   stepped_jump insn block sound is t =
-      stepped (Jumped block) insn sound (ap takes_turn is) (λ t.
-      done_as m new turn.Goes insn (Jump block) (λ o. Jumps 0 o) is (λ o same. refl) (jumped m new turn.Goes (Jump block) block refl refl t)) t
+      stepped_turn (JumpIsTaken block) insn sound (ap takes_turn is) (λ t.
+      done_as m new turn.Goes insn (Jump block) (λ o. Jumps 0 o) is (λ o same. refl) (jumped_turn m new turn.Goes (Jump block) block refl refl t)) t
 
-  pub stepped_mark : (insn : VmInsn) → insn ≡ Mark → OnTrue done (Is Mark → Stepped) → OnTrue done (Is insn → Stepped)
-  stepped_mark insn is t = where_done done (Is Mark → Stepped) (Is insn → Stepped) (λ t there. t (there ∙ ap (λ i. Some i) is)) t
+  pub stepped_mark : (insn : VmInsn) → insn ≡ Mark → OnTrue done (Is Mark → StepIsTaken) → OnTrue done (Is insn → StepIsTaken)
+  stepped_mark insn is t = where_done done (Is Mark → StepIsTaken) (Is insn → StepIsTaken) (λ t there. t (there ∙ ap (λ i. Some i) is)) t
 
-  pub stepped_past : (block : ℕ) → IsSound m → slice_get (block_insns m.here.row.now) m.here.at ≡ None → block ≡ m.here.block + 1 → OnTrue done (Jumped block) → OnTrue done Stepped
+  pub stepped_past : (block : ℕ) → IsSound m → slice_get (block_insns m.here.row.now) m.here.at ≡ None → block ≡ m.here.block + 1 → OnTrue done (JumpIsTaken block) → OnTrue done StepIsTaken
   stepped_past block sound past next t =
-      where_done done (Jumped block) Stepped (λ t. step_past m sound new turn.Goes block past next t) t
+      where_done done (JumpIsTaken block) StepIsTaken (λ t. step_past m sound new turn.Goes block past next t) t

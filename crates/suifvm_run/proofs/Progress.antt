@@ -20,7 +20,7 @@ use Rattle.suifvm_machine.specs.declared.machine.Stop.{Stop}
 use Rattle.suifvm_machine.specs.declared.machine.Stop.TheVariants as stop
 use Rattle.suifvm_machine.specs.declared.machine.Turn.TheVariants as turn
 use Rattle.suifvm_machine.specs.declared.tables.ProgramTable.{ProgramTable}
-use Rattle.suifvm_machine.specs.Config.{Hidden, TurnIs, Wrote, GoesTo, EndsBy, ending_by, config_of, world_in, step_there, with_byte, with_byte_taken, wrote}
+use Rattle.suifvm_machine.specs.Config.{HiddenState, TurnIs, Wrote, GoesTo, EndsBy, ending_by, config_of, world_in, step_there, with_byte, with_byte_taken, wrote}
 use Rattle.suifvm_machine.specs.Tables.{program_code}
 use Rattle.suifvm_run.specs.model.Progress.{run_from, StandsAt, TurnEnds, stop_ending}
 use Rattle.suifvm_run.specs.Run.{Steps, GoesOn, input_calls}
@@ -71,12 +71,12 @@ module _ (rooms : Rooms) (start : Config Registers) (turns : ℕ) (told : Traffi
   run = run_from rooms p start
 
   -- so many steps, then one, then some more
-  more : (n k : ℕ) (h : Hidden) → run n ≡ Goes (config_of m h) → run (n + suc k) ≡ go_on (step_there rooms m h) (exec Value Registers rooms (vm_code (program_code p)) k)
+  more : (n k : ℕ) (h : HiddenState) → run n ≡ Goes (config_of m h) → run (n + suc k) ≡ go_on (step_there rooms m h) (exec Value Registers rooms (vm_code (program_code p)) k)
   more n k h reached =
       steps_add_up Value Registers rooms (vm_code (program_code p)) n (suc k) start
       ∙ ap (λ x. go_on x (exec Value Registers rooms (vm_code (program_code p)) (suc k))) reached
 
-  one : (n : ℕ) (h : Hidden) (k : Config Registers) → run n ≡ Goes (config_of m h) → step_there rooms m h ≡ Goes k → run (suc n) ≡ Goes k
+  one : (n : ℕ) (h : HiddenState) (k : Config Registers) → run n ≡ Goes (config_of m h) → step_there rooms m h ≡ Goes k → run (suc n) ≡ Goes k
   one n h k reached is = ap run (sym (add-one n)) ∙ more n 0 h reached ∙ ap (λ x. go_on x (λ j. Goes j)) is
 
   pub goes_on : (now : Traffic) → TurnIs m new turn.Goes (λ rs h. step_there rs m h) → StandsAt rooms p start told now m → StandsAt rooms p start told now new
@@ -135,7 +135,7 @@ module _ (rooms : Rooms) (start : Config Registers) (turns : ℕ) (told : Traffi
       }
 
   -- a byte that was taken, and is still to be written
-  abbrev waiting : Option ℕ → Hidden → Config Registers
+  abbrev waiting : Option ℕ → HiddenState → Config Registers
   waiting d x = wrote (named_register d) (Word (input_word (slice_get x.input 0)) ∷ []) (config_of new (with_byte_taken x))
 
   pub take_failed : (now after : Traffic) (d : Option ℕ) → TurnIs m new (turn.Takes d) (λ rs h. step_there rs m h) → StandsAt rooms p start told now m → after.left ≡ now.left → after.made ≡ option_map next_count now.made → after.taken ≡ now.taken → IsRun run turns e.InputFault told after

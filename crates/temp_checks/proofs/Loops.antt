@@ -50,23 +50,23 @@ has_end xs i r past = at_drop_all (λ ys. has_number ys r) xs i past
 
 -- ---- what an instruction keeps
 
-abbrev pub kept : TempInsn → List ℕ → List ℕ
-kept insn registers = filter (λ register. not (has_number (ended_of insn) register)) registers
+abbrev pub kept_numbers : TempInsn → List ℕ → List ℕ
+kept_numbers insn registers = filter (λ register. not (has_number (ended_of insn) register)) registers
 
 pub kept_next : (insn : TempInsn) (out xs : List ℕ) (i x : ℕ) → x ≡ get_or xs i x → i < length xs →
-    (out ++ kept insn (x ∷ [])) ++ kept insn (drop (i + 1) xs) ≡ out ++ kept insn (drop i xs)
+    (out ++ kept_numbers insn (x ∷ [])) ++ kept_numbers insn (drop (i + 1) xs) ≡ out ++ kept_numbers insn (drop i xs)
 kept_next insn out xs i x is within =
-    append_assoc out (kept insn (x ∷ [])) (kept insn (drop (i + 1) xs))
+    append_assoc out (kept_numbers insn (x ∷ [])) (kept_numbers insn (drop (i + 1) xs))
     ∙ sym (ap (λ y. out ++ y) (kept_here (λ register. not (has_number (ended_of insn) register)) xs i x is within))
 
-pub kept_end : (insn : TempInsn) (out xs : List ℕ) (i : ℕ) → length xs ≤ i → out ++ kept insn (drop i xs) ≡ out
+pub kept_end : (insn : TempInsn) (out xs : List ℕ) (i : ℕ) → length xs ≤ i → out ++ kept_numbers insn (drop i xs) ≡ out
 kept_end insn out xs i past =
-    ap (λ y. out ++ y) (at_drop_all (kept insn) xs i past) ∙ append-nil out
+    ap (λ y. out ++ y) (at_drop_all (kept_numbers insn) xs i past) ∙ append-nil out
 
-pub is_kept : (insn : TempInsn) (x : ℕ) → has_number (ended_of insn) x ≡ false → kept insn (x ∷ []) ≡ x ∷ []
+pub is_kept : (insn : TempInsn) (x : ℕ) → has_number (ended_of insn) x ≡ false → kept_numbers insn (x ∷ []) ≡ x ∷ []
 is_kept insn x e = rw e refl
 
-pub is_lost : (insn : TempInsn) (x : ℕ) → has_number (ended_of insn) x ≡ true → kept insn (x ∷ []) ≡ []
+pub is_lost : (insn : TempInsn) (x : ℕ) → has_number (ended_of insn) x ≡ true → kept_numbers insn (x ∷ []) ≡ []
 is_lost insn x e = rw e refl
 
 -- ---- the instructions of a block

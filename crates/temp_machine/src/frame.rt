@@ -20,7 +20,7 @@ pub type CallContent = Option<u64>;
 
 /// A place and what it holds.
 #[derive(Clone, Copy, Debug)]
-pub struct Held {
+pub struct PlaceContent {
     place: CallPlace,
     content: CallContent,
 }
@@ -31,7 +31,7 @@ pub struct CallFrame {
     pub function: u32,
     pub block: u32,
     pub at: u32,
-    held: Vec<Held>,
+    held: Vec<PlaceContent>,
     /// The places of its objects.
     pub objects: Vec<u64>,
     /// The place in memory from which on its objects lie.
@@ -74,7 +74,7 @@ impl CallFrame {
                 return Ok(());
             }
         }
-        self.held.push(Held { place, content })?;
+        self.held.push(PlaceContent { place, content })?;
         Ok(())
     }
 

@@ -184,8 +184,8 @@ kept_at i s calm h = ap (λ b. if b then unset_content else s h) (never_emptied 
     never_emptied i (Incoming k) calm = refl
     never_emptied i (Outgoing k) calm = calm
 
-pub kept : (i : TempInsn) (s : Temps) → calls_function i ≡ false → without (is_emptied i) s ≡ s
-kept i s calm = fun_ext (kept_at i s calm)
+pub kept_temps : (i : TempInsn) (s : Temps) → calls_function i ≡ false → without (is_emptied i) s ≡ s
+kept_temps i s calm = fun_ext (kept_at i s calm)
 
 -- steps that only go elsewhere in a function
 module _ (rooms : Rooms) (hs : List TemporaryCode) where
@@ -197,7 +197,7 @@ module _ (rooms : Rooms) (hs : List TemporaryCode) where
 
   pub step_jump : (n own : ℕ) (rs : Temps) (c to : ℕ) (us : List (Frame Temps)) (w : World) (g : TemporaryCode) (i : TempInsn) (t : ℕ) (rest : List TempInsn) → slice_get hs n ≡ Some g → c < length g.blocks → drop to (block_at g.blocks c) ≡ i ∷ rest → i ≡ Jump t → step Content Temps rooms code (config n own rs c to us w) ≡ Goes (config n own rs t 0 us w)
   step_jump n own rs c to us w g i t rest is below here jump =
-      ap (step_at Content Temps rooms code (config n own rs c to us w)) (site_insn hs n c to g i rest is below here ∙ ap (λ j. Some (insn_site g j)) jump) ∙ ap (λ s. Goes (config n own s t 0 us w)) (kept (Jump t) rs refl)
+      ap (step_at Content Temps rooms code (config n own rs c to us w)) (site_insn hs n c to g i rest is below here ∙ ap (λ j. Some (insn_site g j)) jump) ∙ ap (λ s. Goes (config n own s t 0 us w)) (kept_temps (Jump t) rs refl)
 
   pub record Came (n own : ℕ) (rs : Temps) (c to : ℕ) (us : List (Frame Temps)) (w : World) (g : TemporaryCode) (d : ℕ) (ys : List TempInsn) : Type 0 where
     pub steps : ℕ

@@ -19,7 +19,7 @@ use Rattle.temp_walk_laws.specs.SameRuns.{WritesWithin, AreWithin}
 use Rattle.temp_walk_laws.proofs.Within.{within_at}
 use Rattle.temp_walk_laws.proofs.Flows.{writes_flow, calls_flow, does_same}
 use Rattle.temp_walk_laws.proofs.Walking.{Sort, IsJump, IsBranch, IsPlain, sort, Loud, Pair, SameInsn, TwoBranches, pair_of, Silent, Alike, meets, after_same, after_passed, after_taken, after_jump, after_fall}
-use Rattle.temp_walk_laws.proofs.Following.{Valid, SameAt, Stands, left_zero, stands_next, stands_at, target_below, frame, config, site_in_function, insn_site, put_after, kept, site_insn, silent_run, step_end, step_jump, go_zero}
+use Rattle.temp_walk_laws.proofs.Following.{Valid, SameAt, Stands, left_zero, stands_next, stands_at, target_below, frame, config, site_in_function, insn_site, put_after, kept_temps, site_insn, silent_run, step_end, step_jump, go_zero}
 
 -- what a called function is given
 abbrev entry_store : List Content → Temps
@@ -38,12 +38,12 @@ module _ (rooms : Rooms) (fs gs : List TemporaryCode) (same : (n : ℕ) → Same
     Missing : (n own : ℕ) (rs : Temps) → slice_get fs n ≡ None → slice_get gs n ≡ None → SameFrame (frame n own rs 0 0) (frame n own rs 0 0)
 
   -- calls that wait at an instruction, and go on alike behind it
-  pub data Waiting : List (Frame Temps) → List (Frame Temps) → Type 0 where
-    NoCaller : Waiting [] []
-    Caller : {us ws : List (Frame Temps)} (n own : ℕ) (rs : Temps) (f g : TemporaryCode) (b at c to : ℕ) (i : TempInsn) → slice_get fs n ≡ Some f → slice_get gs n ≡ Some g → Valid f.blocks → AreWithin f.blocks → AreWithin g.blocks → site_in_function b at (slice_get fs n) ≡ Some (insn_site f i) → site_in_function c to (slice_get gs n) ≡ Some (insn_site g i) → Stands f.blocks g.blocks b (suc at) c (suc to) → Waiting us ws → Waiting (frame n own rs b at ∷ us) (frame n own rs c to ∷ ws)
+  pub data SameCallers : List (Frame Temps) → List (Frame Temps) → Type 0 where
+    NoCaller : SameCallers [] []
+    Caller : {us ws : List (Frame Temps)} (n own : ℕ) (rs : Temps) (f g : TemporaryCode) (b at c to : ℕ) (i : TempInsn) → slice_get fs n ≡ Some f → slice_get gs n ≡ Some g → Valid f.blocks → AreWithin f.blocks → AreWithin g.blocks → site_in_function b at (slice_get fs n) ≡ Some (insn_site f i) → site_in_function c to (slice_get gs n) ≡ Some (insn_site g i) → Stands f.blocks g.blocks b (suc at) c (suc to) → SameCallers us ws → SameCallers (frame n own rs b at ∷ us) (frame n own rs c to ∷ ws)
 
   pub data SameConfig : Config Temps → Config Temps → Type 0 where
-    Same : (a b : Frame Temps) (us ws : List (Frame Temps)) (w : World) → SameFrame a b → Waiting us ws → SameConfig (record { here = a; callers = us; world = w }) (record { here = b; callers = ws; world = w })
+    Same : (a b : Frame Temps) (us ws : List (Frame Temps)) (w : World) → SameFrame a b → SameCallers us ws → SameConfig (record { here = a; callers = us; world = w }) (record { here = b; callers = ws; world = w })
 
   pub data SameNext : Next Temps → Next Temps → Type 0 where
     BothGo : (k l : Config Temps) → SameConfig k l → SameNext (Goes k) (Goes l)
@@ -74,7 +74,7 @@ module _ (rooms : Rooms) (fs gs : List TemporaryCode) (same : (n : ℕ) → Same
   status_same at to w None = BothEnd (Undefined w at) (Undefined w to) (to, refl)
   status_same at to w (Some status) = BothEnd (Done w status) (Done w status) refl
 
-  return_same : (at to : ℕ) (vs : List Content) (w : World) (us ws : List (Frame Temps)) → Waiting us ws → SameNext (return_to Content Temps rooms first_code at vs w us) (return_to Content Temps rooms other_code to vs w ws)
+  return_same : (at to : ℕ) (vs : List Content) (w : World) (us ws : List (Frame Temps)) → SameCallers us ws → SameNext (return_to Content Temps rooms first_code at vs w us) (return_to Content Temps rooms other_code to vs w ws)
   return_same at to vs w _ _ NoCaller = status_same at to w (result_status vs)
   return_same at to vs w _ _ (Caller {us = us} {ws = ws} n own rs f g b p c q i is there valid before after here site stands waiting) =
       subst (λ o. SameNext (resume Content Temps rooms first_code (frame n own rs b p) us w vs o) (resume Content Temps rooms other_code (frame n own rs c q) ws w vs (site_in_function c q (slice_get gs n)))) (sym here)
@@ -86,7 +86,7 @@ module _ (rooms : Rooms) (fs gs : List TemporaryCode) (same : (n : ℕ) → Same
   stop_same (Traps code) at to w = BothEnd (Trap w code) (Trap w code) refl
   stop_same HasNoMeaning at to w = BothEnd (Undefined w at) (Undefined w to) (to, refl)
 
-  module _ (n own : ℕ) (rs : Temps) (f g : TemporaryCode) (b at c to : ℕ) (us ws : List (Frame Temps)) (w : World) (is : slice_get fs n ≡ Some f) (there : slice_get gs n ≡ Some g) (valid : Valid f.blocks) (before : AreWithin f.blocks) (after : AreWithin g.blocks) (waiting : Waiting us ws) where
+  module _ (n own : ℕ) (rs : Temps) (f g : TemporaryCode) (b at c to : ℕ) (us ws : List (Frame Temps)) (w : World) (is : slice_get fs n ≡ Some f) (there : slice_get gs n ≡ Some g) (valid : Valid f.blocks) (before : AreWithin f.blocks) (after : AreWithin g.blocks) (waiting : SameCallers us ws) where
     abbrev k : Config Temps
     k = config n own rs b at us w
 
@@ -128,8 +128,8 @@ module _ (rooms : Rooms) (fs gs : List TemporaryCode) (same : (n : ℕ) → Same
     -- a branch
     both_kept : (x y : TempInsn) (t u p q : ℕ) → calls_function x ≡ false → calls_function y ≡ false → SameNext (Goes (config n own rs t p us w)) (Goes (config n own rs u q ws w)) → SameNext (Goes (config n own (without (is_emptied x) rs) t p us w)) (Goes (config n own (without (is_emptied y) rs) u q ws w))
     both_kept x y t u p q calm still h =
-        subst (λ z. SameNext (Goes (config n own z t p us w)) (Goes (config n own (without (is_emptied y) rs) u q ws w))) (sym (kept x rs calm))
-        (subst (λ z. SameNext (Goes (config n own rs t p us w)) (Goes (config n own z u q ws w))) (sym (kept y rs still)) h)
+        subst (λ z. SameNext (Goes (config n own z t p us w)) (Goes (config n own (without (is_emptied y) rs) u q ws w))) (sym (kept_temps x rs calm))
+        (subst (λ z. SameNext (Goes (config n own rs t p us w)) (Goes (config n own z u q ws w))) (sym (kept_temps y rs still)) h)
 
     branch_same : (op : TempBranchOp) (s t u : ℕ) (test : Option Bool) → Stands f.blocks g.blocks b (suc at) c (suc to) → Stands f.blocks g.blocks t 0 u 0 → SameNext (act_on Content Temps rooms first_code k w.meter (insn_site f (Branch op s t)) (branches test w.outer)) (act_on Content Temps rooms other_code l w.meter (insn_site g (Branch op s u)) (branches test w.outer))
     branch_same op s t u None next goes = stop_same HasNoMeaning (first_code.number k.here.point) (other_code.number l.here.point) (whole_world w.outer w.meter)
@@ -149,7 +149,7 @@ module _ (rooms : Rooms) (fs gs : List TemporaryCode) (same : (n : ℕ) → Same
     runs : exec Content Temps rooms other_code steps l ≡ next
     alike : SameNext x next
 
-  module _ (n own : ℕ) (rs : Temps) (f g : TemporaryCode) (b at c to : ℕ) (us ws : List (Frame Temps)) (w : World) (is : slice_get fs n ≡ Some f) (there : slice_get gs n ≡ Some g) (valid : Valid f.blocks) (before : AreWithin f.blocks) (after : AreWithin g.blocks) (stands : Stands f.blocks g.blocks b at c to) (waiting : Waiting us ws) where
+  module _ (n own : ℕ) (rs : Temps) (f g : TemporaryCode) (b at c to : ℕ) (us ws : List (Frame Temps)) (w : World) (is : slice_get fs n ≡ Some f) (there : slice_get gs n ≡ Some g) (valid : Valid f.blocks) (before : AreWithin f.blocks) (after : AreWithin g.blocks) (stands : Stands f.blocks g.blocks b at c to) (waiting : SameCallers us ws) where
     -- the same instruction stands at both
     pair_step : (d place : ℕ) (i j : TempInsn) (rest ks : List TempInsn) → Pair i j → drop at (block_at f.blocks b) ≡ i ∷ rest → drop place (block_at g.blocks d) ≡ j ∷ ks → d < length g.blocks → Silent g.blocks c (drop to (block_at g.blocks c)) d (j ∷ ks) → Alike f.blocks g.blocks b (i ∷ rest) c (drop to (block_at g.blocks c)) → SameNext (step Content Temps rooms first_code (config n own rs b at us w)) (step Content Temps rooms other_code (config n own rs d place ws w))
     pair_step d place _ _ rest ks (SameInsn i none) here left inside silent alike =
@@ -225,7 +225,7 @@ module _ (rooms : Rooms) (fs gs : List TemporaryCode) (same : (n : ℕ) → Same
             (BothEnd (Undefined w (first_code.number k.here.point)) (Undefined w (other_code.number l.here.point)) (other_code.number l.here.point, refl));
       }
 
-  frame_step : (a b : Frame Temps) (us ws : List (Frame Temps)) (w : World) → SameFrame a b → Waiting us ws → After (step Content Temps rooms first_code (record { here = a; callers = us; world = w })) (record { here = b; callers = ws; world = w })
+  frame_step : (a b : Frame Temps) (us ws : List (Frame Temps)) (w : World) → SameFrame a b → SameCallers us ws → After (step Content Temps rooms first_code (record { here = a; callers = us; world = w })) (record { here = b; callers = ws; world = w })
   frame_step _ _ us ws w (Inside n own rs f g b at c to is there valid before after stands) waiting = rest_step n own rs f g b at c to us ws w is there valid before after stands waiting (drop at (block_at f.blocks b)) refl
   frame_step _ _ us ws w (Missing n own rs is there) waiting = missing_step n own rs us ws w is there
 

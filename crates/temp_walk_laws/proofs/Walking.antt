@@ -181,7 +181,7 @@ silent_down (ByJump {xs = xs} i t is rest) walk = silent_down rest (inv_jump wal
 silent_down (ByFall rest) walk = silent_down rest (inv_falls walk refl)
 
 -- the instruction that is done next
-pub record Found (g : List (List TempInsn)) (c : ℕ) (xs : List TempInsn) (x : TempInsn) : Type 0 where
+pub record NextInsn (g : List (List TempInsn)) (c : ℕ) (xs : List TempInsn) (x : TempInsn) : Type 0 where
   pub block : ℕ
   pub insn : TempInsn
   pub rest : List TempInsn
@@ -198,7 +198,7 @@ nil_of : (ts : List ℕ) → length ts ≡ 0 → ts ≡ []
 nil_of [] none = refl
 nil_of (t ∷ ts) none = absurd (omega arith)
 
-find : {g : List (List TempInsn)} {c : ℕ} {xs : List TempInsn} {ss : List (Step TempInsn)} → W g c xs ss → (s : Step TempInsn) (steps : List (Step TempInsn)) → ss ≡ s ∷ steps → Found g c xs (step_insn s)
+find : {g : List (List TempInsn)} {c : ℕ} {xs : List TempInsn} {ss : List (Step TempInsn)} → W g c xs ss → (s : Step TempInsn) (steps : List (Step TempInsn)) → ss ≡ s ∷ steps → NextInsn g c xs (step_insn s)
 find Stops s steps is = absurd (no_cons s steps is)
 find {c = c} (Goes {rest = rest} {steps = old} j none flows walk) s steps is = record { block = c; insn = j; rest = rest; silent = Here; same = ap step_insn (heads (Done (strip j)) s old steps is); loud = λ stop. absurd (flow_clash j j refl flows stop) }
 find {c = c} (Returns {rest = rest} j none stop) s steps is = record { block = c; insn = j; rest = rest; silent = Here; same = ap step_insn (heads (Done (strip j)) s [] steps is); loud = λ stops. nil_of (targets_of j) none }
@@ -216,13 +216,13 @@ abbrev pub Alike : (f g : List (List TempInsn)) → ℕ → List TempInsn → �
 Alike f g b xs c ys = (steps : List (Step TempInsn)) → W f b xs steps ↔ W g c ys steps
 
 module _ (f g : List (List TempInsn)) where
-  meets_by : (b c : ℕ) (i : TempInsn) (rest ys : List TempInsn) (flow : Bool) (ts : List ℕ) → flows_on_of i ≡ flow → targets_of i ≡ ts → Loud i → Alike f g b (i ∷ rest) c ys → Found g c ys (strip i)
+  meets_by : (b c : ℕ) (i : TempInsn) (rest ys : List TempInsn) (flow : Bool) (ts : List ℕ) → flows_on_of i ≡ flow → targets_of i ≡ ts → Loud i → Alike f g b (i ∷ rest) c ys → NextInsn g c ys (strip i)
   meets_by b c i rest ys true [] flows ts_is loud alike = find ((alike (Done (strip i) ∷ [])).0 (Goes i (ap length ts_is) flows Stops)) (Done (strip i)) [] refl
   meets_by b c i rest ys true (t ∷ ts) flows ts_is loud alike = find ((alike (NotTaken (strip i) ∷ [])).0 (Passes i (omega (arith, ap length ts_is)) flows Stops)) (NotTaken (strip i)) [] refl
   meets_by b c i rest ys false ts flows ts_is loud alike = find ((alike (Done (strip i) ∷ [])).0 (Returns i (ap length (loud flows)) flows)) (Done (strip i)) [] refl
 
   -- the other function comes to the same instruction
-  pub meets : (b c : ℕ) (i : TempInsn) (rest ys : List TempInsn) → Loud i → Alike f g b (i ∷ rest) c ys → Found g c ys (strip i)
+  pub meets : (b c : ℕ) (i : TempInsn) (rest ys : List TempInsn) → Loud i → Alike f g b (i ∷ rest) c ys → NextInsn g c ys (strip i)
   meets b c i rest ys loud alike = meets_by b c i rest ys (flows_on_of i) (targets_of i) refl refl loud alike
 
   pub after_same : (b c d : ℕ) (i : TempInsn) (rest ys ks : List TempInsn) → targets_of i ≡ [] → flows_on_of i ≡ true → Silent g c ys d (i ∷ ks) → Alike f g b (i ∷ rest) c ys → Alike f g b rest d ks

@@ -31,11 +31,11 @@ pub fn output(alloc: Global, call: &str, text: &str) -> Result<Vec<u8>> {
         &mut out,
         &mut err,
     );
-    if !err.taken().is_empty() {
-        let said = str::from_utf8(err.taken())?;
+    if !err.taken_bytes().is_empty() {
+        let said = str::from_utf8(err.taken_bytes())?;
         bail!("{call}: {said}");
     }
-    Ok(out.taken().to_vec(alloc)?)
+    Ok(out.taken_bytes().to_vec(alloc)?)
 }
 
 /// The same where what is put is a text.

@@ -11,7 +11,7 @@ use crate::compiled::{output, output_text};
 use crate::passes::{
     ALLOC, ASM, BESIDE, BLOCK, EDGE, GRAPH, LABEL, OPENING, SELECT, Section, TREE, VM,
 };
-use crate::words::{Line, lines_behind, listing, put_listing};
+use crate::words::{Line, lines_behind, listing_lines, put_listing};
 use anyhow::{Context, Result};
 use std::fs;
 
@@ -53,7 +53,7 @@ fn show_words(rt: &HostRuntime, text: &str) -> Result<Vec<Line>> {
     let alloc = rt.alloc();
     let asm = output_text(alloc, ASM.call, text)?;
     let image = output(alloc, BESIDE.call, text)?;
-    let lines = listing(alloc, asm.as_str(), image.as_slice())?;
+    let lines = listing_lines(alloc, asm.as_str(), image.as_slice())?;
     put_head(rt, &ASM)?;
     put_listing(rt, lines.as_slice())?;
     println!(rt; "```")?;

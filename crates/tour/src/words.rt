@@ -37,7 +37,7 @@ fn words_of(alloc: Global, image: &[u8]) -> Result<Vec<u32>> {
 }
 
 /// The lines of an assembly with their words, of which the image has as many.
-pub fn listing(alloc: Global, asm: &str, image: &[u8]) -> Result<Vec<Line>> {
+pub fn listing_lines(alloc: Global, asm: &str, image: &[u8]) -> Result<Vec<Line>> {
     let words = words_of(alloc, image)?;
     let mut number = 0usize;
     let mut lines = Vec::new(alloc);

@@ -7,16 +7,13 @@ ghost use Rattle.c_typed_tree.specs.View.{type_view};
 
 use crate::types::type_of;
 use anyhow::{Context, Result, bail};
-use c_declared_types::is_deep_at_most;
+use c_declared_types::{MOST_DEPTH, is_deep_at_most};
 use c_struct_layout::{Field, lay_out};
 use c_tree::Name;
 use c_type_rules::types::is_object;
 use c_typed_tree::layout::offset_of;
 use c_typed_tree::{CType, StructDef};
 use std::alloc::Global;
-
-/// How deep a type may be.
-const MOST_DEPTH: u64 = 256;
 
 /// Puts a member behind others, where its type is one that members may have.
 fn push_member(structs: &[StructDef], fields: &mut Vec<Field>, name: Name, ty: CType) -> Result<()>

@@ -9,10 +9,13 @@ ghost use Rattle.unit_counts.specs.Counts as spec;
 use c_typed_tree::{TypedFn, TypedUnit};
 use node_counts::unit_nodes;
 
+/// The most statements, expressions and locals of a unit.
+const MOST_NODES: u64 = 1 << 40;
+
 fn has_few_locals(function: &TypedFn) -> bool
     ensures { result ≡ spec.has_few_locals function.now }
 {
-    function.locals.len() < 1 << 32
+    function.locals.len() <= u32::MAX as usize
 }
 
 fn have_few_locals(functions: &[TypedFn]) -> bool
@@ -33,10 +36,10 @@ fn has_few_parts(unit: &TypedUnit) -> bool
     ensures globals { OnTrue result (length unit.now.globals < 2 ^ 32) }
     ensures more { OnFalse result (spec.CanBeCounted unit.now → ⊥) }
 {
-    if unit.structs.len() >= 1 << 32 || unit.functions.len() >= 1 << 32 {
+    if unit.structs.len() > u32::MAX as usize || unit.functions.len() > u32::MAX as usize {
         return false;
     }
-    unit.globals.len() < 1 << 32
+    unit.globals.len() <= u32::MAX as usize
 }
 
 /// Whether there are at most 2^40 statements, expressions and locals.
@@ -44,12 +47,12 @@ fn has_few_nodes(unit: &TypedUnit) -> bool
     ensures few { OnTrue result (unit_nodes unit.now ≤ 2 ^ 40) }
     ensures more { OnFalse result (spec.CanBeCounted unit.now → ⊥) }
 {
-    unit_nodes(unit) <= 1 << 40
+    unit_nodes(unit) <= MOST_NODES
 }
 
 /// Whether a unit can be counted: there are fewer than 2^32 structs, functions and objects of static storage, and
 /// locals of each function, and at most 2^40 statements, expressions and locals.
-#[tactic(auto, using(crate::proofs::Counts::counted))]
+#[tactic(auto, using(crate::proofs::Counts::counted_parts))]
 pub fn can_be_counted(unit: &TypedUnit) -> bool
     ensures yes { OnTrue result (spec.CanBeCounted unit.now) }
     ensures no { OnFalse result (spec.CanBeCounted unit.now → ⊥) }

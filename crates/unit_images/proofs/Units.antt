@@ -7,7 +7,7 @@ use Rattle.alpha_isa.specs.Behave.{behave_a, output_of, IsStack}
 use Rattle.mem_model.specs.World.{World, Rooms}
 use Rattle.mem_model.specs.Ending.{Ending, Done, Trap, Undefined, More, EndsAs, ending_output, ending_peak, IsDefined}
 use Rattle.machine_model.specs.Laws.{IsPrefix}
-use Rattle.flat_memory.specs.Bytes.{AreBytes}
+use Rattle.mem_model.specs.Bytes.{AreBytes}
 use Rattle.selection_laws.specs.Laws as selection
 use Rattle.same_runs.specs.Programs.{ProgramsBehave, plans_of}
 use Rattle.same_runs.specs.Same.{IsSame, RunsAreSame}

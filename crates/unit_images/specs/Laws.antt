@@ -9,9 +9,9 @@ use Rattle.mem_model.specs.Ending.{ending_peak, IsDefined}
 use Rattle.suifvm_ir.specs.declared.program.VmProgram.{VmProgram}
 use Rattle.temp_ir.specs.declared.program.TempProgram.{TempProgram}
 use Rattle.alloc_model.specs.declared.allocation.Allocation.{Allocation}
-use Rattle.flat_memory.specs.Bytes.{AreBytes}
+use Rattle.mem_model.specs.Bytes.{AreBytes}
 use Rattle.selection_laws.specs.Laws.{SelectionKeeps}
-use Rattle.same_runs.specs.Programs.{IsAllocated, HasItemsOf, Placing, plans_of}
+use Rattle.same_runs.specs.Programs.{IsAllocated, HasItemsOf, ProgramPlacement, plans_of}
 use Rattle.same_runs.specs.Same.{IsSame}
 use Rattle.c_typed_tree.specs.declared.units.TypedUnit.{TypedUnit}
 use Rattle.c_typed_tree.specs.Lawful.{IsTypedUnit}
@@ -29,7 +29,7 @@ pub record IsMadeOf (u : TypedUnit) (rooms : Rooms) (image : Program) : Type 0 w
   pub allocated : IsAllocated selected allocations rooms
   pub assembly : Assembly
   pub whole : IsWhole assembly
-  pub placing : Placing
+  pub placing : ProgramPlacement
   pub items : HasItemsOf assembly selected (plans_of allocations) placing
   pub words : Words assembly image
   pub lawful : IsLawful image

@@ -4,6 +4,7 @@ use Rattle.std.specs.Prelude.{◌==◌, ◌&&◌, not, IsTrue, slice_get, option
 use Rattle.std.proofs.lemmas.List.{length-map}
 use Rattle.std.proofs.lemmas.List.Sums.{sum_by-cons}
 use Rattle.std.proofs.lemmas.Option.{slice_get-map}
+use Rattle.std.proofs.lemmas.List.Elements.{All-nil, All-cons, All-head, All-tail}
 use Rattle.suifvm_ir.specs.declared.types.VmType.{VmType}
 use Rattle.suifvm_ir.specs.declared.types.VmType.TheVariants as v
 use Rattle.suifvm_ir.specs.declared.insn.CompareOp.TheVariants.{Equal, NotEqual, Less, LessOrEqual}
@@ -13,35 +14,22 @@ use Rattle.suifvm_ir.specs.Insns.{reads_of, writes_of, targets_of, flows_on_of}
 use Rattle.suifvm_ir.specs.Functions.{AllInsns, GoesToBlocks, UsesRegisters, IsStraight, EndsLate, stops, block_stops, insn_stops, count_of, edge_count, last_of, front_of, successors_after, successors_of}
 use Rattle.suifvm_ir.specs.Cost.{insn_cost, cost}
 use Rattle.suifvm_ir.specs.Programs.{VmFunction, weight_of, function_size}
-use Rattle.value_tests.specs.declared.known.Known.{Known}
-use Rattle.value_tests.specs.declared.known.Known.TheVariants.{Nothing, Zero, Tests}
+use Rattle.value_tests.specs.declared.known.RegisterFact.{RegisterFact}
+use Rattle.value_tests.specs.declared.known.RegisterFact.TheVariants.{Nothing, Zero, Tests}
 use Rattle.value_tests.specs.Tests.{facts_after, tested_type, tested_register, tested_insn, tested_from, tested_block}
 use Rattle.value_tests.specs.model.Registers.{KnownIsBelow}
 use Rattle.value_tests.proofs.Lockstep.{known_from, tested_get}
 
 -- ---- lists
 
-pub all_nil : {A : Type 0} (P : A → Type 0) → All P []
-all_nil P k d lt = absurd (omega (arith, lt))
-
-pub all_more : {A : Type 0} (P : A → Type 0) (x : A) (xs : List A) → P x → All P xs → All P (x ∷ xs)
-all_more P x xs p h zero d lt = p
-all_more P x xs p h (suc k) d lt = h k d (omega (arith, lt))
-
-pub all_first : {A : Type 0} (P : A → Type 0) (x : A) (xs : List A) → All P (x ∷ xs) → P x
-all_first P x xs h = h 0 x (omega arith)
-
-pub all_rest : {A : Type 0} (P : A → Type 0) (x : A) (xs : List A) → All P (x ∷ xs) → All P xs
-all_rest P x xs h = λ k d lt. h (suc k) d (omega (arith, lt))
-
 -- what holds of each element after a change that keeps it
 pub all_mapped : {A B : Type 0} (f : A → B) (P : A → Type 0) (Q : B → Type 0) → ((x : A) → P x → Q (f x)) → (xs : List A) → All P xs → All Q (map f xs)
-all_mapped f P Q kept [] h = all_nil Q
-all_mapped f P Q kept (x ∷ xs) h = all_more Q (f x) (map f xs) (kept x (all_first P x xs h)) (all_mapped f P Q kept xs (all_rest P x xs h))
+all_mapped f P Q kept [] h = All-nil Q
+all_mapped f P Q kept (x ∷ xs) h = All-cons Q (f x) (map f xs) (kept x (All-head P x xs h)) (all_mapped f P Q kept xs (All-tail P x xs h))
 
 -- ---- one instruction
 
-flows_same : (k : Known) (i : VmInsn) → flows_on_of (tested_insn k i) ≡ flows_on_of i
+flows_same : (k : RegisterFact) (i : VmInsn) → flows_on_of (tested_insn k i) ≡ flows_on_of i
 flows_same k (x.Branch op ty a block) = refl
 flows_same k (x.LoadConstant ty d word) = refl
 flows_same k (x.LoadAddress d place plus) = refl
@@ -61,7 +49,7 @@ flows_same k x.Nop = refl
 
 -- all that does not look at a branch beyond its block stays
 module _ {A : Type 0} (m : VmInsn → A) (branches : (op : _) (ty : _) (a b block : ℕ) (to : VmType) → m (x.Branch op to b block) ≡ m (x.Branch op ty a block)) where
-  pub same : (k : Known) (i : VmInsn) → m (tested_insn k i) ≡ m i
+  pub same : (k : RegisterFact) (i : VmInsn) → m (tested_insn k i) ≡ m i
   same k (x.Branch op ty a block) = branches op ty a (tested_register k ty a) block (tested_type k ty a)
   same k (x.LoadConstant ty d word) = refl
   same k (x.LoadAddress d place plus) = refl
@@ -79,21 +67,21 @@ module _ {A : Type 0} (m : VmInsn → A) (branches : (op : _) (ty : _) (a b bloc
   same k x.Mark = refl
   same k x.Nop = refl
 
-pub targets_same : (k : Known) (i : VmInsn) → targets_of (tested_insn k i) ≡ targets_of i
+pub targets_same : (k : RegisterFact) (i : VmInsn) → targets_of (tested_insn k i) ≡ targets_of i
 targets_same = same targets_of (λ op ty a b block to. refl)
 
-pub writes_same : (k : Known) (i : VmInsn) → writes_of (tested_insn k i) ≡ writes_of i
+pub writes_same : (k : RegisterFact) (i : VmInsn) → writes_of (tested_insn k i) ≡ writes_of i
 writes_same = same writes_of (λ op ty a b block to. refl)
 
-weight_same : (k : Known) (i : VmInsn) → weight_of (tested_insn k i) ≡ weight_of i
+weight_same : (k : RegisterFact) (i : VmInsn) → weight_of (tested_insn k i) ≡ weight_of i
 weight_same = same weight_of (λ op ty a b block to. refl)
 
-cost_same : (k : Known) (i : VmInsn) → insn_cost (tested_insn k i) ≡ insn_cost i
+cost_same : (k : RegisterFact) (i : VmInsn) → insn_cost (tested_insn k i) ≡ insn_cost i
 cost_same = same insn_cost (λ op ty a b block to. refl)
 
 -- ---- registers
 
-pub register_below : (temps : ℕ) (k : Known) (ty : VmType) (register : ℕ) → KnownIsBelow temps k → register < temps → tested_register k ty register < temps
+pub register_below : (temps : ℕ) (k : RegisterFact) (ty : VmType) (register : ℕ) → KnownIsBelow temps k → register < temps → tested_register k ty register < temps
 register_below temps Nothing ty register h lt = lt
 register_below temps (Zero z) ty register h lt = lt
 register_below temps (Tests t d a) v.S32 register h lt = by_truth (register == d)
@@ -107,7 +95,7 @@ register_below temps (Tests t d a) v.U64 register h lt = lt
 register_below temps (Tests t d a) v.P64 register h lt = lt
 
 -- what is known behind an instruction that uses these registers
-pub after_below : (temps : ℕ) (k : Known) (i : VmInsn) → UsesRegisters reads_of writes_of temps i → KnownIsBelow temps (facts_after k i)
+pub after_below : (temps : ℕ) (k : RegisterFact) (i : VmInsn) → UsesRegisters reads_of writes_of temps i → KnownIsBelow temps (facts_after k i)
 after_below temps k (x.LoadConstant ty d word) h = by_zero (word == 0)
   where
     by_zero : (b : Bool) → KnownIsBelow temps (if b then Zero d else Nothing)
@@ -139,8 +127,8 @@ after_below temps k x.Mark h = tt
 after_below temps k x.Nop h = tt
 
 -- an instruction as it is seen reads registers that are there
-reads_below : (temps : ℕ) (k : Known) (i : VmInsn) → KnownIsBelow temps k → All (λ register. register < temps) (reads_of i) → All (λ register. register < temps) (reads_of (tested_insn k i))
-reads_below temps k (x.Branch op ty a block) known h = all_more (λ register. register < temps) (tested_register k ty a) [] (register_below temps k ty a known (h 0 a (omega arith))) (all_nil (λ register. register < temps))
+reads_below : (temps : ℕ) (k : RegisterFact) (i : VmInsn) → KnownIsBelow temps k → All (λ register. register < temps) (reads_of i) → All (λ register. register < temps) (reads_of (tested_insn k i))
+reads_below temps k (x.Branch op ty a block) known h = All-cons (λ register. register < temps) (tested_register k ty a) [] (register_below temps k ty a known (h 0 a (omega arith))) (All-nil (λ register. register < temps))
 reads_below temps k (x.LoadConstant ty d word) known h = h
 reads_below temps k (x.LoadAddress d place plus) known h = h
 reads_below temps k (x.Load ty d p plus) known h = h
@@ -157,32 +145,32 @@ reads_below temps k (x.Return value) known h = h
 reads_below temps k x.Mark known h = h
 reads_below temps k x.Nop known h = h
 
-pub uses_below : (temps : ℕ) (k : Known) (insns : List VmInsn) → KnownIsBelow temps k → All (UsesRegisters reads_of writes_of temps) insns → All (UsesRegisters reads_of writes_of temps) (tested_from k insns)
-uses_below temps k [] known h = all_nil (UsesRegisters reads_of writes_of temps)
+pub uses_below : (temps : ℕ) (k : RegisterFact) (insns : List VmInsn) → KnownIsBelow temps k → All (UsesRegisters reads_of writes_of temps) insns → All (UsesRegisters reads_of writes_of temps) (tested_from k insns)
+uses_below temps k [] known h = All-nil (UsesRegisters reads_of writes_of temps)
 uses_below temps k (i ∷ insns) known h =
-    let here = all_first (UsesRegisters reads_of writes_of temps) i insns h in
-    all_more (UsesRegisters reads_of writes_of temps) (tested_insn k i) (tested_from (facts_after k i) insns)
+    let here = All-head (UsesRegisters reads_of writes_of temps) i insns h in
+    All-cons (UsesRegisters reads_of writes_of temps) (tested_insn k i) (tested_from (facts_after k i) insns)
     (reads_below temps k i known here.0, subst (All (λ register. register < temps)) (sym (writes_same k i)) here.1)
-    (uses_below temps (facts_after k i) insns (after_below temps k i here) (all_rest (UsesRegisters reads_of writes_of temps) i insns h))
+    (uses_below temps (facts_after k i) insns (after_below temps k i here) (All-tail (UsesRegisters reads_of writes_of temps) i insns h))
 
 -- ---- the instructions of a block
 
-pub length_same : (k : Known) (insns : List VmInsn) → length (tested_from k insns) ≡ length insns
+pub length_same : (k : RegisterFact) (insns : List VmInsn) → length (tested_from k insns) ≡ length insns
 length_same k [] = refl
 length_same k (i ∷ insns) = ap suc (length_same (facts_after k i) insns)
 
 -- what holds of each instruction as it is seen
-pub all_seen : (P Q : VmInsn → Type 0) → ((k : Known) (i : VmInsn) → P i → Q (tested_insn k i)) → (k : Known) (insns : List VmInsn) → All P insns → All Q (tested_from k insns)
-all_seen P Q kept k [] h = all_nil Q
+pub all_seen : (P Q : VmInsn → Type 0) → ((k : RegisterFact) (i : VmInsn) → P i → Q (tested_insn k i)) → (k : RegisterFact) (insns : List VmInsn) → All P insns → All Q (tested_from k insns)
+all_seen P Q kept k [] h = All-nil Q
 all_seen P Q kept k (i ∷ insns) h =
-    all_more Q (tested_insn k i) (tested_from (facts_after k i) insns) (kept k i (all_first P i insns h)) (all_seen P Q kept (facts_after k i) insns (all_rest P i insns h))
+    All-cons Q (tested_insn k i) (tested_from (facts_after k i) insns) (kept k i (All-head P i insns h)) (all_seen P Q kept (facts_after k i) insns (All-tail P i insns h))
 
-pub sum_same : (m : VmInsn → ℕ) → ((k : Known) (i : VmInsn) → m (tested_insn k i) ≡ m i) → (k : Known) (insns : List VmInsn) → sum_by m (tested_from k insns) ≡ sum_by m insns
+pub sum_same : (m : VmInsn → ℕ) → ((k : RegisterFact) (i : VmInsn) → m (tested_insn k i) ≡ m i) → (k : RegisterFact) (insns : List VmInsn) → sum_by m (tested_from k insns) ≡ sum_by m insns
 sum_same m kept k [] = refl
 sum_same m kept k (i ∷ insns) =
     omega (arith, kept k i, sum_same m kept (facts_after k i) insns, sum_by-cons m (tested_insn k i) (tested_from (facts_after k i) insns), sum_by-cons m i insns)
 
-take_same : (n : ℕ) (k : Known) (insns : List VmInsn) → take n (tested_from k insns) ≡ tested_from k (take n insns)
+take_same : (n : ℕ) (k : RegisterFact) (insns : List VmInsn) → take n (tested_from k insns) ≡ tested_from k (take n insns)
 take_same zero k [] = refl
 take_same zero k (i ∷ insns) = refl
 take_same (suc n) k [] = refl
@@ -194,7 +182,7 @@ front_same insns = ap (λ n. take (n - 1) (tested_block insns)) (length_same Not
 last_same : (insns : List VmInsn) → last_of (tested_block insns) ≡ option_map (tested_insn (known_from Nothing insns (length insns - 1))) (last_of insns)
 last_same insns = ap (λ n. slice_get (tested_block insns) (n - 1)) (length_same Nothing insns) ∙ tested_get Nothing insns (length insns - 1)
 
-straight_kept : (k : Known) (i : VmInsn) → IsStraight targets_of flows_on_of i → IsStraight targets_of flows_on_of (tested_insn k i)
+straight_kept : (k : RegisterFact) (i : VmInsn) → IsStraight targets_of flows_on_of i → IsStraight targets_of flows_on_of (tested_insn k i)
 straight_kept k i h = (ap length (targets_same k i) ∙ h.0, flows_same k i ∙ h.1)
 
 pub late_kept : (insns : List VmInsn) → EndsLate targets_of flows_on_of insns → EndsLate targets_of flows_on_of (tested_block insns)
@@ -202,7 +190,7 @@ late_kept insns h = subst (All (IsStraight targets_of flows_on_of)) (sym (front_
 
 -- ---- the blocks of a function
 
-blocks_same : (m : VmInsn → ℕ) → ((k : Known) (i : VmInsn) → m (tested_insn k i) ≡ m i) → (blocks : List (List VmInsn)) → sum_by (λ block. sum_by m block) (map tested_block blocks) ≡ sum_by (λ block. sum_by m block) blocks
+blocks_same : (m : VmInsn → ℕ) → ((k : RegisterFact) (i : VmInsn) → m (tested_insn k i) ≡ m i) → (blocks : List (List VmInsn)) → sum_by (λ block. sum_by m block) (map tested_block blocks) ≡ sum_by (λ block. sum_by m block) blocks
 blocks_same m kept [] = refl
 blocks_same m kept (block ∷ blocks) =
     omega (arith, sum_same m kept Nothing block, blocks_same m kept blocks, sum_by-cons (λ b. sum_by m b) (tested_block block) (map tested_block blocks), sum_by-cons (λ b. sum_by m b) block blocks)
@@ -215,7 +203,7 @@ count_same (block ∷ blocks) =
 pub blocks_length : (blocks : List (List VmInsn)) → length (map tested_block blocks) ≡ length blocks
 blocks_length blocks = length-map blocks tested_block
 
-edges_after : (k : Known) (o : Option VmInsn) → length (successors_after targets_of flows_on_of 0 (option_map (tested_insn k) o)) ≡ length (successors_after targets_of flows_on_of 0 o)
+edges_after : (k : RegisterFact) (o : Option VmInsn) → length (successors_after targets_of flows_on_of 0 (option_map (tested_insn k) o)) ≡ length (successors_after targets_of flows_on_of 0 o)
 edges_after k None = refl
 edges_after k (Some i) = same (λ j. length (successors_after targets_of flows_on_of 0 (Some j))) (λ op ty a b block to. refl) k i
 
@@ -232,7 +220,7 @@ edges_same (block ∷ blocks) =
       sum_by-cons (λ (b : List VmInsn). length (successors_of targets_of flows_on_of 0 b)) block blocks,
     )
 
-insn_stops_same : (k : Known) (o : Option VmInsn) → insn_stops flows_on_of (option_map (tested_insn k) o) ≡ insn_stops flows_on_of o
+insn_stops_same : (k : RegisterFact) (o : Option VmInsn) → insn_stops flows_on_of (option_map (tested_insn k) o) ≡ insn_stops flows_on_of o
 insn_stops_same k None = refl
 insn_stops_same k (Some i) = ap (λ b. if b then false else true) (flows_same k i)
 
@@ -245,7 +233,7 @@ stops_same blocks =
     ap (λ n. block_stops flows_on_of (slice_get (map tested_block blocks) (n - 1))) (blocks_length blocks)
     ∙ ap (block_stops flows_on_of) (slice_get-map tested_block blocks (length blocks - 1)) ∙ block_stops_same (last_of blocks)
 
-pub insns_kept : (P Q : VmInsn → Type 0) → ((k : Known) (i : VmInsn) → P i → Q (tested_insn k i)) → (blocks : List (List VmInsn)) → AllInsns P blocks → AllInsns Q (map tested_block blocks)
+pub insns_kept : (P Q : VmInsn → Type 0) → ((k : RegisterFact) (i : VmInsn) → P i → Q (tested_insn k i)) → (blocks : List (List VmInsn)) → AllInsns P blocks → AllInsns Q (map tested_block blocks)
 insns_kept P Q kept blocks h = all_mapped tested_block (All P) (All Q) (all_seen P Q kept Nothing) blocks h
 
 pub goes_kept : (blocks : List (List VmInsn)) → AllInsns (GoesToBlocks targets_of (length blocks)) blocks → AllInsns (GoesToBlocks targets_of (length (map tested_block blocks))) (map tested_block blocks)

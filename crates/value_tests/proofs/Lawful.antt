@@ -13,8 +13,8 @@ use Rattle.suifvm_ir.specs.declared.insn.VmInsn.TheVariants as x
 use Rattle.suifvm_ir.specs.declared.function.MemoryLocal.{MemoryLocal}
 use Rattle.suifvm_ir.specs.Insns.{targets_of}
 use Rattle.suifvm_ir.specs.Programs.{VmFunction, function_takes, callee_takes, names_what_is_there, first_is_mark, begins_with_mark, goes_back_to_marks, is_main, main_count, IsLawfulFunction}
-use Rattle.value_tests.specs.declared.known.Known.{Known}
-use Rattle.value_tests.specs.declared.known.Known.TheVariants.{Nothing}
+use Rattle.value_tests.specs.declared.known.RegisterFact.{RegisterFact}
+use Rattle.value_tests.specs.declared.known.RegisterFact.TheVariants.{Nothing}
 use Rattle.vm_meaning.specs.Behave.{code_of}
 use Rattle.value_tests.specs.Tests.{tested_insn, tested_block, tested_code}
 use Rattle.value_tests.proofs.Functions.{targets_same, same, insns_kept, all_seen, all_mapped, tested_function, blocks_length}
@@ -42,7 +42,7 @@ module _ (blocks : List (List VmInsn)) (block : ℕ) where
       ap (λ b. b && list_all (λ target. nat_lt block target || begins_with_mark (slice_get (map tested_block blocks) target)) ts) (target_same t)
       ∙ ap (λ b. (nat_lt block t || begins_with_mark (slice_get blocks t)) && b) (targets_all ts)
 
-  marks_same : (k : Known) (i : VmInsn) → goes_back_to_marks (map tested_block blocks) block (tested_insn k i) ≡ goes_back_to_marks blocks block i
+  marks_same : (k : RegisterFact) (i : VmInsn) → goes_back_to_marks (map tested_block blocks) block (tested_insn k i) ≡ goes_back_to_marks blocks block i
   marks_same k i =
       ap (list_all (λ target. nat_lt block target || begins_with_mark (slice_get (map tested_block blocks) target))) (targets_same k i) ∙ targets_all (targets_of i)
 
@@ -83,7 +83,7 @@ module _ (fs : List VmFunction) where
     functions_same objects x.Mark = refl
     functions_same objects x.Nop = refl
 
-    names_same : (objects : List MemoryLocal) (k : Known) (i : VmInsn) → names_what_is_there gs globals objects (tested_insn k i) ≡ names_what_is_there fs globals objects i
+    names_same : (objects : List MemoryLocal) (k : RegisterFact) (i : VmInsn) → names_what_is_there gs globals objects (tested_insn k i) ≡ names_what_is_there fs globals objects i
     names_same objects k i = same (names_what_is_there gs globals objects) (λ op ty a b block to. refl) k i ∙ functions_same objects i
 
     pub lawful : (f : VmFunction) → IsLawfulFunction fs globals f → IsLawfulFunction gs globals (tested_function f)

@@ -1,7 +1,7 @@
 -- Runs where branches test the values.
 use Rattle.std.proofs.Common.{◌≡◌, ℕ, zero, suc, List, [], ◌∷◌, length, map, Bool, true, false, Option, Some, None, refl, sym, ap, ◌∙◌, subst}
 use Rattle.std.specs.Prelude.{◌==◌, ◌&&◌, not, slice_get, option_map, if◌then◌else◌}
-use Rattle.std.proofs.lemmas.Bool.{eqb-true, eq-eqb, not-true}
+use Rattle.std.proofs.lemmas.Bool.{eqb-true, eq-eqb, not-true, and_parts}
 use Rattle.std.proofs.lemmas.Option.{slice_get-map}
 use Rattle.mem_model.specs.declared.value.Value.{Value}
 use Rattle.mem_model.specs.declared.value.Value.TheVariants.{Word, Address, Unset}
@@ -28,24 +28,24 @@ use Rattle.vm_meaning.specs.declared.answer.Answer.TheVariants.{Gives, TrapsWith
 use Rattle.vm_meaning.specs.Operations.{is_value_of, compare_answer, test_answer, value_holds, when_value}
 use Rattle.vm_meaning.specs.Effect.{does, takes_turn, writes, branches}
 use Rattle.vm_meaning.specs.Behave.{Registers, FunctionCode, insn_site, next_site, registers_of, vm_run, site_or_next, site_in_block, site_in_function, sizes_in, set_register, set_registers, result_status, first_or_unset, vm_code}
-use Rattle.value_tests.specs.declared.known.Known.{Known}
-use Rattle.value_tests.specs.declared.known.Known.TheVariants.{Nothing, Zero, Tests}
+use Rattle.value_tests.specs.declared.known.RegisterFact.{RegisterFact}
+use Rattle.value_tests.specs.declared.known.RegisterFact.TheVariants.{Nothing, Zero, Tests}
 use Rattle.value_tests.specs.Tests.{facts_after, tested_insn, tested_from, tested_block, tested_code, HasMeaning, TestsKeepRuns}
 
 -- ---- what is known at a place of a block
 
-pub known_from : Known → List VmInsn → ℕ → Known
+pub known_from : RegisterFact → List VmInsn → ℕ → RegisterFact
 known_from k insns zero = k
 known_from k [] (suc n) = Nothing
 known_from k (i ∷ insns) (suc n) = known_from (facts_after k i) insns n
 
-pub tested_get : (k : Known) (insns : List VmInsn) (at : ℕ) → slice_get (tested_from k insns) at ≡ option_map (tested_insn (known_from k insns at)) (slice_get insns at)
+pub tested_get : (k : RegisterFact) (insns : List VmInsn) (at : ℕ) → slice_get (tested_from k insns) at ≡ option_map (tested_insn (known_from k insns at)) (slice_get insns at)
 unfolding known_from
 tested_get k [] at = refl
 tested_get k (i ∷ insns) zero = refl
 tested_get k (i ∷ insns) (suc at) = tested_get (facts_after k i) insns at
 
-known_next : (k : Known) (insns : List VmInsn) (at : ℕ) (i : VmInsn) → slice_get insns at ≡ Some i → known_from k insns (suc at) ≡ facts_after (known_from k insns at) i
+known_next : (k : RegisterFact) (insns : List VmInsn) (at : ℕ) (i : VmInsn) → slice_get insns at ≡ Some i → known_from k insns (suc at) ≡ facts_after (known_from k insns at) i
 unfolding known_from
 known_next k [] at i e = absurd (cc)
 known_next k (j ∷ insns) zero i e = let same : j ≡ i = cc in ap (facts_after k) same
@@ -53,7 +53,7 @@ known_next k (j ∷ insns) (suc at) i e = known_next (facts_after k j) insns at 
 
 -- ---- what it says of registers
 
-Holds : Known → Registers → Memory → Type 0
+Holds : RegisterFact → Registers → Memory → Type 0
 Holds Nothing r m = Unit {0}
 Holds (Zero z) r m = r z ≡ Word 0
 Holds (Tests ty d a) r m = value_holds m v.S32 (r d) ≡ value_holds m ty (r a)
@@ -106,7 +106,7 @@ record IsSame (i j : VmInsn) : Type 0 where
 same_insn : (i : VmInsn) → IsSame i i
 same_insn i = record { writes = refl; targets = refl; turn = refl }
 
-seen_is : (k : Known) (i : VmInsn) → IsSame i (tested_insn k i)
+seen_is : (k : RegisterFact) (i : VmInsn) → IsSame i (tested_insn k i)
 seen_is k (x.Branch op ty source block) = record { writes = refl; targets = refl; turn = refl }
 seen_is k (x.LoadConstant ty2 d2 word) = same_insn (x.LoadConstant ty2 d2 word)
 seen_is k (x.LoadAddress d2 place plus) = same_insn (x.LoadAddress d2 place plus)
@@ -135,7 +135,7 @@ module _ (own : ℕ) (r : Registers) (o : Outer) where
   same_test op ty d a source block h false e = refl
 
   -- it does the same
-  seen_acts : (k : Known) (i : VmInsn) → Holds k r o.memory → acts (tested_insn k i) ≡ acts i
+  seen_acts : (k : RegisterFact) (i : VmInsn) → Holds k r o.memory → acts (tested_insn k i) ≡ acts i
   unfolding Holds
   seen_acts Nothing (x.Branch op ty source block) h = refl
   seen_acts (Zero z) (x.Branch op ty source block) h = refl
@@ -173,10 +173,6 @@ beside d a u r e = ap (λ b. if b then u else r a) (other (a == d) refl)
     other true is = let clash : true ≡ false = sym (eq-eqb d a (sym (eqb-true a d is))) ∙ e in let never : ⊥ = cc in absurd never
     other false is = is
 
-both : (a b : Bool) → (a && b) ≡ true → (a ≡ true) × (b ≡ true)
-both true b g = (refl, g)
-both false b g = absurd (cc)
-
 module _ (own : ℕ) (r : Registers) (w : Outer) where
   -- an answer that is written is the value
   written : (answer : Answer) (us : List Value) (o : Outer) → writes answer w ≡ Writes us o → (u : Value) × (answer ≡ Gives u) × (us ≡ u ∷ []) × (o ≡ w)
@@ -206,7 +202,7 @@ module _ (own : ℕ) (r : Registers) (w : Outer) where
       by_test : (c : Bool) → (b == z && not (d == a)) ≡ c → Holds (if c then Tests ty d a else Nothing) (set_registers (d ∷ []) us r) o.memory
       by_test false is = tt
       by_test true is =
-          let parts = both (b == z) (not (d == a)) is in
+          let parts = and_parts (b == z) (not (d == a)) is in
           let apart : (d == a) ≡ false = not-true (d == a) parts.1 in
           let b_is : r b ≡ Word 0 = ap r (eqb-true b z parts.0) ∙ zero_is in
           let got = written (compare_answer w.memory NotEqual ty (r a) (r b)) us o e in
@@ -219,7 +215,7 @@ module _ (own : ℕ) (r : Registers) (w : Outer) where
           ∙ sym (ap (value_holds o.memory ty) (beside d a (first_or_unset us) r apart))
 
   -- what is known behind what wrote
-  holds_after : (k : Known) (i : VmInsn) (us : List Value) (o : Outer) → Holds k r w.memory → does i own (map r (reads_of i)) w ≡ Writes us o → Holds (facts_after k i) (set_registers (writes_of i) us r) o.memory
+  holds_after : (k : RegisterFact) (i : VmInsn) (us : List Value) (o : Outer) → Holds k r w.memory → does i own (map r (reads_of i)) w ≡ Writes us o → Holds (facts_after k i) (set_registers (writes_of i) us r) o.memory
   unfolding Holds
   holds_after k (x.LoadConstant ty d word) us o h e = constant_known ty d word us o e
   holds_after (Zero z) (x.Compare NotEqual ty d a b) us o h e = compare_known z ty d a b us o h e
@@ -249,7 +245,7 @@ never_calls (Gives u) w o g us e = cc
 never_calls (TrapsWith code) w o g us e = cc
 never_calls Fails w o g us e = cc
 
-calls_known : (own : ℕ) (r : Registers) (w o : Outer) (k : Known) (i : VmInsn) (g : ℕ) (us : List Value) → does i own (map r (reads_of i)) w ≡ Calls g us o → facts_after k i ≡ Nothing
+calls_known : (own : ℕ) (r : Registers) (w o : Outer) (k : RegisterFact) (i : VmInsn) (g : ℕ) (us : List Value) → does i own (map r (reads_of i)) w ≡ Calls g us o → facts_after k i ≡ Nothing
 calls_known own r w o k (x.LoadConstant ty d word) g us e = absurd (never_calls (when_value ty (Word word)) w o g us e)
 calls_known own r w o Nothing (x.Compare op ty d a b) g us e = refl
 calls_known own r w o (Tests ty2 d2 a2) (x.Compare op ty d a b) g us e = refl
@@ -281,7 +277,7 @@ never_undefined : (w : World) (at : ℕ) (e : Ending) → over_of (Undefined w a
 unfolding over_of
 never_undefined w at e is meaning = let same : Undefined w at ≡ e = cc in subst HasMeaning (sym same) meaning
 
-known_in : Option (List VmInsn) → ℕ → Known
+known_in : Option (List VmInsn) → ℕ → RegisterFact
 known_in None at = Nothing
 known_in (Some insns) at = known_from Nothing insns at
 
@@ -293,7 +289,7 @@ module _ (rooms : Rooms) (fs : List FunctionCode) where
   abbrev gs : List FunctionCode
   gs = map tested_code fs
 
-  known_at : Point → Known
+  known_at : Point → RegisterFact
   known_at p = known_in (blocks_of (slice_get fs p.function) p.block) p.at
 
   -- nothing is known at the start of a block
@@ -310,7 +306,7 @@ module _ (rooms : Rooms) (fs : List FunctionCode) where
     pub holds : Holds (known_at k.here.point) k.here.store k.world.outer.memory
     pub waits : WaitAtCalls k.callers
 
-  nothing_holds : (k : Known) (r : Registers) (m : Memory) → k ≡ Nothing → Holds k r m
+  nothing_holds : (k : RegisterFact) (r : Registers) (m : Memory) → k ≡ Nothing → Holds k r m
   unfolding Holds
   nothing_holds k r m e = subst (λ j. Holds j r m) (sym e) tt
 

@@ -8,7 +8,7 @@ use suifvm_ir::types::VmType;
 
 /// What the instruction before a place says of registers.
 #[derive(Clone, Copy, Debug, PartialEq, Eq)]
-pub enum Known {
+pub enum RegisterFact {
     Nothing,
     /// The register is zero.
     Zero(u32),
@@ -16,16 +16,16 @@ pub enum Known {
     Tests { ty: VmType, truth: u32, value: u32 },
 }
 
-impl Known {
+impl RegisterFact {
     /// The register that a branch on a register of a type may test in its place: the value of which it is the truth, or
     /// else itself.
     pub fn register(self, ty: VmType, source: u32) -> u32
         ensures { result ≡ tests.tested_register self ty source }
     {
         match self {
-            Known::Nothing => source,
-            Known::Zero(_) => source,
-            Known::Tests {
+            RegisterFact::Nothing => source,
+            RegisterFact::Zero(_) => source,
+            RegisterFact::Tests {
                 ty: _,
                 truth,
                 value,
@@ -40,7 +40,7 @@ impl Known {
     }
 
     /// What is known behind an instruction.
-    pub fn after(self, insn: &VmInsn) -> Known
+    pub fn after(self, insn: &VmInsn) -> RegisterFact
         ensures { result ≡ tests.facts_after self insn.now }
     {
         match insn {
@@ -56,20 +56,20 @@ impl Known {
                 left,
                 right,
             } => self.after_comparison(*op, *ty, *destination, *left, *right),
-            VmInsn::LoadAddress { .. } => Known::Nothing,
-            VmInsn::Load { .. } => Known::Nothing,
-            VmInsn::Store { .. } => Known::Nothing,
-            VmInsn::Copy { .. } => Known::Nothing,
-            VmInsn::Unary { .. } => Known::Nothing,
-            VmInsn::Binary { .. } => Known::Nothing,
-            VmInsn::Shift { .. } => Known::Nothing,
-            VmInsn::Convert { .. } => Known::Nothing,
-            VmInsn::Branch { .. } => Known::Nothing,
-            VmInsn::Jump { .. } => Known::Nothing,
-            VmInsn::Call { .. } => Known::Nothing,
-            VmInsn::Return { .. } => Known::Nothing,
-            VmInsn::Mark => Known::Nothing,
-            VmInsn::Nop => Known::Nothing,
+            VmInsn::LoadAddress { .. } => RegisterFact::Nothing,
+            VmInsn::Load { .. } => RegisterFact::Nothing,
+            VmInsn::Store { .. } => RegisterFact::Nothing,
+            VmInsn::Copy { .. } => RegisterFact::Nothing,
+            VmInsn::Unary { .. } => RegisterFact::Nothing,
+            VmInsn::Binary { .. } => RegisterFact::Nothing,
+            VmInsn::Shift { .. } => RegisterFact::Nothing,
+            VmInsn::Convert { .. } => RegisterFact::Nothing,
+            VmInsn::Branch { .. } => RegisterFact::Nothing,
+            VmInsn::Jump { .. } => RegisterFact::Nothing,
+            VmInsn::Call { .. } => RegisterFact::Nothing,
+            VmInsn::Return { .. } => RegisterFact::Nothing,
+            VmInsn::Mark => RegisterFact::Nothing,
+            VmInsn::Nop => RegisterFact::Nothing,
         }
     }
 
@@ -81,18 +81,18 @@ impl Known {
         destination: u32,
         left: u32,
         right: u32,
-    ) -> Known
+    ) -> RegisterFact
         ensures { result ≡ tests.after_comparison self op ty destination left right }
     {
         match self {
-            Known::Nothing => Known::Nothing,
-            Known::Zero(zero) => match op {
-                CompareOp::Equal => Known::Nothing,
+            RegisterFact::Nothing => RegisterFact::Nothing,
+            RegisterFact::Zero(zero) => match op {
+                CompareOp::Equal => RegisterFact::Nothing,
                 CompareOp::NotEqual => after_test(zero, ty, destination, left, right),
-                CompareOp::Less => Known::Nothing,
-                CompareOp::LessOrEqual => Known::Nothing,
+                CompareOp::Less => RegisterFact::Nothing,
+                CompareOp::LessOrEqual => RegisterFact::Nothing,
             },
-            Known::Tests { .. } => Known::Nothing,
+            RegisterFact::Tests { .. } => RegisterFact::Nothing,
         }
     }
 }
@@ -105,27 +105,27 @@ fn value_of(truth: u32, value: u32, register: u32) -> u32
 }
 
 /// What is known behind a constant.
-fn after_constant(destination: u32, word: u64) -> Known
+fn after_constant(destination: u32, word: u64) -> RegisterFact
     ensures { result ≡ tests.after_constant destination word }
 {
     if word == 0 {
-        Known::Zero(destination)
+        RegisterFact::Zero(destination)
     } else {
-        Known::Nothing
+        RegisterFact::Nothing
     }
 }
 
 /// What is known behind a test for inequality, where a register is zero.
-fn after_test(zero: u32, ty: VmType, destination: u32, left: u32, right: u32) -> Known
+fn after_test(zero: u32, ty: VmType, destination: u32, left: u32, right: u32) -> RegisterFact
     ensures { result ≡ tests.after_test zero ty destination left right }
 {
     if right != zero {
-        return Known::Nothing;
+        return RegisterFact::Nothing;
     }
     if destination == left {
-        return Known::Nothing;
+        return RegisterFact::Nothing;
     }
-    Known::Tests {
+    RegisterFact::Tests {
         ty,
         truth: destination,
         value: left,

@@ -8,4 +8,4 @@
 pub mod known;
 pub mod laws;
 
-pub use known::Known;
+pub use known::RegisterFact;

@@ -73,7 +73,7 @@ pub fn program_of(functions: Seq<Func<VmInsn>>, globals: Seq<DataObject>) -> Opt
     ensures functions { IfSome result (λ program. program.functions ≡ functions) }
     ensures globals { IfSome result (λ program. program.globals ≡ globals) }
 {
-    if functions.len() >= 1 << 32 || !has_one_main(functions.as_slice()) {
+    if functions.len() > u32::MAX as usize || !has_one_main(functions.as_slice()) {
         return None;
     }
     if !are_lawful_objects(globals.as_slice()) {

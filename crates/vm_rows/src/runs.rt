@@ -99,9 +99,9 @@ pub fn answer(alloc: Global, given: &str) -> Result<Vec<u8>> {
     let mut out = MemSink::new(alloc, ROOM, outside.failing_puts)?;
     let ending = run_vm(alloc, &program, &mut input, &mut out, outside.turns);
     let mut shown = format!(in alloc; "{ending:?}\n")?.into_bytes();
-    if !out.taken().is_empty() {
+    if !out.taken_bytes().is_empty() {
         shown.extend_from_slice(b"out ")?;
-        shown.extend_from_slice(out.taken())?;
+        shown.extend_from_slice(out.taken_bytes())?;
         shown.push(b'\n')?;
     }
     if is_ended(&ending) {
@@ -109,7 +109,7 @@ pub fn answer(alloc: Global, given: &str) -> Result<Vec<u8>> {
             input: outside.input.as_slice(),
             turns: outside.turns,
             ending,
-            output: out.taken(),
+            output: out.taken_bytes(),
         };
         shown.extend_from_slice(differences(alloc, &program, &run)?.as_slice())?;
     }

@@ -1,6 +1,6 @@
 -- The lowest temporary from a number on that is held.
 use Rattle.std.specs.Prelude.{ℕ, nat_lt, Option, Some, None, if◌then◌else◌}
-use Rattle.alloc_plain.specs.declared.holders.Held.{Held}
+use Rattle.alloc_plain.specs.declared.holders.HeldTemporaries.{HeldTemporaries}
 
 abbrev pub lower : Option ℕ → (t : ℕ) → Option ℕ
 lower None t = Some t
@@ -11,8 +11,8 @@ abbrev pub sooner : (from : ℕ) → (best holder : Option ℕ) → Option ℕ
 sooner from best None = best
 sooner from best (Some t) = if nat_lt t from then best else lower best t
 
-abbrev pub soonest : (from : ℕ) → (best : Option ℕ) → Held → Option ℕ
+abbrev pub soonest : (from : ℕ) → (best : Option ℕ) → HeldTemporaries → Option ℕ
 soonest from best h = sooner from (sooner from (sooner from best h.first) h.second) h.third
 
-abbrev pub next_held : (from : ℕ) → (before behind : Held) → Option ℕ
+abbrev pub next_held : (from : ℕ) → (before behind : HeldTemporaries) → Option ℕ
 next_held from before behind = soonest from (soonest from None before) behind

@@ -19,11 +19,11 @@ missing_in [] = 0
 missing_in (true ∷ set) = missing_in set
 missing_in (false ∷ set) = suc (missing_in set)
 
-abbrev pub missing : List (List Bool) → ℕ
-missing sets = sum_by missing_in sets
+abbrev pub missing_count : List (List Bool) → ℕ
+missing_count sets = sum_by missing_in sets
 
 abbrev pub GrowsWhere : (old new : List (List Bool)) → Bool → Type 0
-GrowsWhere old new grew = MatchBool grew (missing new < missing old) (new ≡ old)
+GrowsWhere old new grew = MatchBool grew (missing_count new < missing_count old) (new ≡ old)
 
 -- what a step does to the sets of one block, and to no others
 pub record IsStep (nexts : List ℕ) (stops : List Bool) (bound block : ℕ) (outs ins outs_new ins_new : List (List Bool))

@@ -6,8 +6,8 @@ pub record Search : Type 0 where
   pub marks : List Bool
   pub found : List ℕ
 
-abbrev pub searching : List Bool → List ℕ → Search
-searching marks found = record { marks = marks; found = found }
+abbrev pub search_of : List Bool → List ℕ → Search
+search_of marks found = record { marks = marks; found = found }
 
 -- how many are marked
 abbrev pub marked_count : List Bool → ℕ
@@ -22,7 +22,7 @@ is_unmarked (Some true) = false
 is_unmarked (Some false) = true
 
 abbrev pub marked_too : Search → ℕ → Search
-marked_too s block = searching (slice_set s.marks block true) (s.found ++ block ∷ [])
+marked_too s block = search_of (slice_set s.marks block true) (s.found ++ block ∷ [])
 
 -- a block is found, if it is there and was not found before
 abbrev pub visit : Search → ℕ → Search

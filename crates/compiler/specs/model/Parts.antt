@@ -15,8 +15,8 @@ use Rattle.compiler.specs.declared.built.AssemblyParts.{AssemblyParts}
 use Rattle.compiler.specs.declared.built.Built.{Built}
 use Rattle.compiler.specs.declared.built.CodeParts.{CodeParts}
 use Rattle.compiler.specs.declared.built.Parts.{Parts}
-use Rattle.compiler.specs.declared.built.Wanted.{Wanted}
-use Rattle.compiler.specs.declared.built.Wanted.TheVariants.{Everything}
+use Rattle.compiler.specs.declared.built.WantedParts.{WantedParts}
+use Rattle.compiler.specs.declared.built.WantedParts.TheVariants.{Everything}
 use Rattle.compiler.specs.Made.{Made, AllocatesBy}
 use Rattle.compiler.specs.model.Stages.{IsCodeWithin, IsAssemblyOf}
 
@@ -29,7 +29,7 @@ pub record UnitHasText (tree : TranslationUnit) (u : TypedUnit) : Type 0 where
 
 -- there is code of a unit over virtual registers from which this code over temporaries is made; the unit and that code
 -- are kept if everything is wanted
-pub record AreCodePartsOf (u : LawfulUnit) (wanted : Wanted) (p : CodeParts) : Type 0 where
+pub record AreCodePartsOf (u : LawfulUnit) (wanted : WantedParts) (p : CodeParts) : Type 0 where
   pub vm : VmProgram
   pub code : IsCodeWithin u.unit vm p.temps
   pub unit : wanted ≡ Everything → p.typed ≡ Some u
@@ -45,7 +45,7 @@ pub record HasAllocations (temps : TempProgram) (allocator : Allocator) (asm : A
   pub assembly : IsAssemblyOf temps allocations asm
 
 -- the same, where the program and the allocations are kept if everything is wanted
-pub record AreAssemblyPartsOf (temps : TempProgram) (allocator : Allocator) (wanted : Wanted) (p : AssemblyParts) :
+pub record AreAssemblyPartsOf (temps : TempProgram) (allocator : Allocator) (wanted : WantedParts) (p : AssemblyParts) :
     Type 0 where
   pub allocations : Vec Allocation
   pub are : AreAllocationsOf temps.functions allocations.items
@@ -74,7 +74,7 @@ pub record PartsAreWhole (p : Parts) : Type 0 where
   pub are : p ≡ parts_of_built built
 
 -- this is left of what was made of a text by an allocator: its image, and all else if everything is wanted
-pub record ArePartsOf (text : List ℕ) (allocator : Allocator) (wanted : Wanted) (p : Parts) : Type 0 where
+pub record ArePartsOf (text : List ℕ) (allocator : Allocator) (wanted : WantedParts) (p : Parts) : Type 0 where
   pub built : Built
   pub made : Made text allocator built
   pub image : p.image ≡ built.image

@@ -26,7 +26,7 @@ use Rattle.plain_programs.specs.Allocations.{AreAllocationsOf}
 use Rattle.program_rooms.specs.AllocationLaws.{HasFrame}
 use Rattle.program_rooms.specs.Assemblies.{whole_assembly}
 use Rattle.program_rooms.specs.Layouts.{end_label, FitsProgram, FunctionsAreLaidOut}
-use Rattle.program_rooms.specs.Programs.{IsAllocated, HasItemsOf, Placing, plans_of}
+use Rattle.program_rooms.specs.Programs.{IsAllocated, HasItemsOf, ProgramPlacement, plans_of}
 use Rattle.compile_options.specs.declared.Allocator.{Allocator}
 use Rattle.same_behaviour.specs.Same.{Same}
 use Rattle.front_end.specs.Units.{IsUnitWithin}
@@ -93,7 +93,7 @@ pub record IsAssemblyOfUnit (u : TypedUnit) (vm : VmProgram) (temps : TempProgra
   pub selection : SelectionKeeps vm temps
   pub tidy : All IsTidy temps.functions
   pub allocated : IsAllocated temps allocations (rooms_of u)
-  pub placing : Placing
+  pub placing : ProgramPlacement
   pub items : HasItemsOf asm temps (plans_of allocations) placing
   pub few_words : HasFewWords asm
 

@@ -8,7 +8,7 @@ use Rattle.machine_model.specs.Machine.{Config, Next, act_on}
 use Rattle.suifvm_ir.specs.declared.insn.VmInsn.{VmInsn}
 use Rattle.vm_meaning.specs.Behave.{Registers, insn_site, vm_code}
 use Rattle.suifvm_machine.specs.declared.machine.Machine.{Machine}
-use Rattle.suifvm_machine.specs.Config.{Hidden, config_of, world_in, program_of}
+use Rattle.suifvm_machine.specs.Config.{HiddenState, config_of, world_in, program_of}
 
 -- the ending with a status, where there is one
 abbrev pub ends_with : (at : ℕ) → World → (status : Option ℕ) → Ending
@@ -26,6 +26,6 @@ at_block block k = record k {
 }
 
 -- what an instruction does where the machine stands, by what is done with its values
-abbrev pub act_there : Rooms → Machine → Hidden → VmInsn → Act Value → Next Registers
+abbrev pub act_there : Rooms → Machine → HiddenState → VmInsn → Act Value → Next Registers
 act_there rooms m h i act =
     act_on Value Registers rooms (vm_code (program_of m)) (config_of m h) (world_in m h).meter (insn_site i) act

@@ -7,7 +7,7 @@ use Rattle.suifvm_ir.specs.declared.insn.VmInsn.TheVariants.{Mark}
 use Rattle.suifvm_ir.specs.Programs.{goes_back_to_marks}
 use Rattle.vm_meaning.specs.Behave.{FunctionCode, Registers, blocks_in}
 use Rattle.suifvm_machine.specs.declared.machine.Machine.{Machine}
-use Rattle.suifvm_machine.specs.Config.{Hidden, config_of, program_of}
+use Rattle.suifvm_machine.specs.Config.{HiddenState, config_of, program_of}
 
 -- the places of blocks: each instruction, and the end of each block
 abbrev pub places : List (List VmInsn) → ℕ
@@ -52,7 +52,7 @@ steps_left fs k =
     + suc (most_places fs) * (k.world.meter.turns + unless_mark (insn_at fs k.here.point))
 
 -- the same of a machine
-abbrev pub nothing_hidden : Hidden
+abbrev pub nothing_hidden : HiddenState
 nothing_hidden = record { input = []; takings = 0; output = []; room = 0; peak = 0 }
 
 abbrev pub machine_left : Machine → ℕ

@@ -10,7 +10,7 @@ use Rattle.suifvm_machine.specs.declared.machine.Machine.{Machine}
 use Rattle.suifvm_machine.specs.declared.machine.Stop.{Stop}
 use Rattle.suifvm_machine.specs.declared.machine.Stop.TheVariants as stop
 use Rattle.suifvm_machine.specs.declared.tables.ProgramTable.{ProgramTable}
-use Rattle.suifvm_machine.specs.Config.{Hidden, config_of}
+use Rattle.suifvm_machine.specs.Config.{HiddenState, config_of}
 use Rattle.suifvm_machine.specs.Tables.{program_code}
 use Rattle.suifvm_run.specs.Run.{Steps}
 use Rattle.bk_io.specs.Outside.{Traffic, count_plus}
@@ -23,7 +23,7 @@ run_from rooms p start steps = exec Value Registers rooms (vm_code (program_code
 -- a machine stands where so many steps lead, and the input and the output tell what these did
 pub record StandsAt (rooms : Rooms) (p : ProgramTable) (start : Config Registers) (told now : Traffic)
     (m : Machine) : Type 0 where
-  pub hidden : Hidden
+  pub hidden : HiddenState
   pub steps : ℕ
   pub reached : run_from rooms p start steps ≡ Goes (config_of m hidden)
   pub left : now.left ≡ Some hidden.input

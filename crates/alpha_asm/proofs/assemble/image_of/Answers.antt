@@ -1,7 +1,7 @@
 use Rattle.std.proofs.Common.{arith, append-nil, ◌≤◌, ◌+◌, ◌*◌, ap, ◌∙◌}
 use Rattle.alpha_isa.specs.Program.{Program, data_of, most_words, next_part, text_start}
 use Rattle.alpha_items.specs.Layout.{text_words}
-use Rattle.alpha_asm.proofs.Whole.{sound_items, count_of, plan_entry, assembled, words_few}
+use Rattle.alpha_asm.proofs.Whole.{sound_items, count_of, plan_entry, assembled_items, words_few}
 use Rattle.alpha_asm.proofs.assemble.image_of.Goals as goal
 
 pub plan_of-requires : goal.plan_of-requires
@@ -28,7 +28,7 @@ pub returns-clause-image : goal.returns-clause-image
 returns-clause-image c =
     let entry = plan_entry c.args.items.now c.in_ok-plan.plan.targets.of_items.items c.in_ok-plan.plan.targets.entry c.in_ok-plan.plan.layout.far.items
     c.in_ok-plan.plan.layout.places.items c.in_ok-plan.ensures in
-    assembled (record { items = c.args.items.now; bytes = c.args.bytes.now; fixes = c.args.fixes.now }) c.in_ok-plan.plan.layout.far.items
+    assembled_items (record { items = c.args.items.now; bytes = c.args.bytes.now; fixes = c.args.fixes.now }) c.in_ok-plan.plan.layout.far.items
     c.data_start-start.result c.cut_zeros.result c.in_ok-plan.ensures.least
     (c.data_start-start.ensures.start ∙ ap (λ n. next_part (text_start + 4 * n)) c.count_of-count.ensures)
     (c.cut_zeros.ensures.cut.holds.words ∙ ap (λ (p : Program). p.words) c.new-image.ensures.image ∙ c.in_ok-words.ensures.words)

@@ -2,7 +2,7 @@ use Rattle.std.proofs.Common.{arith, ◌≡◌, ◌+◌, ◌/◌, length, ap}
 use Rattle.alpha_items.specs.Layout.{sizes}
 use Rattle.alpha_items.proofs.Far.{length-sizes}
 use Rattle.alpha_asm.specs.model.Sums.{front}
-use Rattle.alpha_asm.proofs.Trees.{counted}
+use Rattle.alpha_asm.proofs.Trees.{counted_sums}
 use Rattle.alpha_asm.proofs.sums.words_between.Goals as goal
 
 pub loop-range-preserved : goal.loop-range-preserved
@@ -20,6 +20,6 @@ returns c items far h e order inside =
     let last : length c.args.sums.now / 2 + c.min-end.result ≡ length items + c.args.end
     = omega (arith, h.room, long, order, inside, c.min-end.ensures) in
     let walked = c.loop-range.invariant.words (sizes items far) h in
-    counted items far c.args.sums.now c.args.start c.args.end c.loop-range.range.left c.loop-range.range.right c.loop-range.range.words h e order inside
+    counted_sums items far c.args.sums.now c.args.start c.args.end c.loop-range.range.left c.loop-range.range.right c.loop-range.range.words h e order inside
     c.loop-range.invariant.order
     (omega (arith, walked, ap (front c.args.sums.now) first, ap (front c.args.sums.now) last))

@@ -6,7 +6,7 @@ use Rattle.alpha_image.specs.declared.read.ImageFault.{ImageFault}
 use Rattle.alpha_image.specs.declared.read.ImageFault.TheVariants.{NoMemory}
 use Rattle.alpha_image.specs.ReadImage.{IsImageFault}
 use Rattle.alpha_image.specs.ImageFault.{length_fault, image_fault, first_place}
-use Rattle.alpha_image.proofs.ImageFaults.{found, was_read, image_fault-length}
+use Rattle.alpha_image.proofs.ImageFaults.{found_image_fault, was_read, image_fault-length}
 use Rattle.alpha_image.proofs.read.read_image.Goals as goal
 
 -- want of memory for bytes that have no place at which they stop being an image
@@ -31,7 +31,7 @@ returns-in-Ok-from_slice-clause-found c =
     c.in-Ok-from_slice.ensures.items ∙ take_all _ _ (simp length-drop (omega arith)) in
     let lawful : IsLawful p = subst IsLawful c.new.ensures.image c.new.ensures.lawful in
     subst (IsImage c.args.bytes.now) (sym c.new.ensures.image)
-    (found c.args.bytes.now p (λ k. omega (arith, c.type_inv.bytes k)) c.in-Ok.ensures.fault fields.3
+    (found_image_fault c.args.bytes.now p (λ k. omega (arith, c.type_inv.bytes k)) c.in-Ok.ensures.fault fields.3
     (was_read c.args.bytes.now c.in-Ok-read_numbers.words.items c.in-Ok-from_slice.bytes.items c.in-Ok.header.words c.in-Ok.header.bytes c.in-Ok.header.entry c.in-Ok.header.zeros c.in-Ok.header.text
     fields.0 fields.1 fields.2 fields.4 due c.in-Ok-read_numbers.ensures.numbers c.in-Ok-read_numbers.ensures.count rest) lawful)
 

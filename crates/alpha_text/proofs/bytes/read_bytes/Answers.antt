@@ -3,7 +3,7 @@ use Rattle.alpha_text.specs.Wrong.{Data, Row}
 use Rattle.alpha_text.specs.model.Judged.{HasRow}
 use Rattle.alpha_items.specs.declared.item.AsmItem.{AsmItem}
 use Rattle.alpha_text.specs.model.Reaches.{Reaches, IsFaultFrom}
-use Rattle.alpha_text.proofs.Joined.{raised, said_fault}
+use Rattle.alpha_text.proofs.Joined.{raised_fault, said_fault}
 use Rattle.alpha_text.proofs.Steps.{IsNextLine, reaches_step, fault_line, fault_end}
 use Rattle.alpha_text.proofs.Judged.{no_row, row_says, row_within}
 use Rattle.alpha_text.proofs.bytes.read_bytes.Goals as goal
@@ -12,7 +12,7 @@ pub returns-in_err-line-clause-fault : goal.returns-in_err-line-clause-fault
 returns-in_err-line-clause-fault c =
     let room : length c.rows.bytes.items < c.args.count = omega (arith, c.len.ensures, c.rows.bytes.ok.0, c.rows-test.true) in
     let none = c.in_err-line.ensures.none in
-    raised (λ e. (all : List (List ℕ)) (items : List AsmItem) → IsFaultFrom all (Data items c.args.count [] []) c.args.lines.now e) c.from_residual.result c.in_err-line.field-0.0
+    raised_fault (λ e. (all : List (List ℕ)) (items : List AsmItem) → IsFaultFrom all (Data items c.args.count [] []) c.args.lines.now e) c.from_residual.result c.in_err-line.field-0.0
     (λ all items. subst (IsFaultFrom all (Data items c.args.count [] []) c.args.lines.now) (sym none.0)
     (fault_end all (Data items c.args.count [] []) (Data items c.args.count c.rows.bytes.items []) c.args.lines.now c.rows.lines (c.rows.invariant.1 all items) none.1 (λ h. let full = h.0 in omega (arith, room, full)))) c.from_residual.ensures.1
 
@@ -23,7 +23,7 @@ returns-in_err-row-clause-fault c =
     let room : length bytes < c.args.count = omega (arith, c.len.ensures, c.rows.bytes.ok.0, c.rows-test.true) in
     let done : c.len-in-rows.result ≡ length bytes = omega (arith, c.len-in-rows.ensures, c.rows.bytes.ok.0) in
     let next : IsNextLine c.rows.lines line c.due_line.new.self = record { lines = c.in_ok-line.ensures.line.0; ended = c.in_ok-line.ensures.line.1; count = c.in_ok-line.ensures.line.2 } in
-    raised (λ e. (all : List (List ℕ)) (items : List AsmItem) → IsFaultFrom all (Data items c.args.count [] []) c.args.lines.now e) c.from_residual-in_err-row.result c.in_err-row.field-0.0
+    raised_fault (λ e. (all : List (List ℕ)) (items : List AsmItem) → IsFaultFrom all (Data items c.args.count [] []) c.args.lines.now e) c.from_residual-in_err-row.result c.in_err-row.field-0.0
     (λ all items. said_fault all (Data items c.args.count [] []) c.args.lines.now c.next_row-found.result c.count.result c.in_err-row.field-0.0 c.in_err-row.ensures.fault
     (λ is. (let none = rw is at c.next_row-found.ensures in
     let here = subst (λ (k : ℕ). (row : List ℕ) → HasRow line k c.args.count row → ⊥) done none in

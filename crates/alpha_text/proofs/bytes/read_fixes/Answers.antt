@@ -6,7 +6,7 @@ use Rattle.alpha_text.specs.model.Judged.{HasFix}
 use Rattle.alpha_items.specs.declared.item.AsmItem.{AsmItem}
 use Rattle.alpha_text.specs.declared.fault.TextFault.TheVariants.{Line}
 use Rattle.alpha_text.specs.model.Reaches.{Reaches, IsFaultFrom}
-use Rattle.alpha_text.proofs.Joined.{raised}
+use Rattle.alpha_text.proofs.Joined.{raised_fault}
 use Rattle.alpha_text.proofs.Lines.{ended_none}
 use Rattle.alpha_text.proofs.Steps.{IsNextLine, reaches_step, fault_line, fault_end, well_end}
 use Rattle.alpha_text.proofs.Judged.{no_place}
@@ -19,7 +19,7 @@ returns-in_err-fix-clause-fault c =
     let wrong = c.in_err-fix.ensures.none in
     let none = subst (λ (fs : List Fix). (fix : Fix) → HasFix line fs c.args.count fix → ⊥) c.as_slice.ensures.value wrong.1 in
     let next : IsNextLine c.loop-line.lines line c.next_line.new.self = record { lines = c.in-Some.ensures.line.0; ended = c.in-Some.ensures.line.1; count = c.in-Some.ensures.line.2 } in
-    raised (λ e. (all : List (List ℕ)) (items : List AsmItem) (bytes : List ℕ) → length bytes ≡ c.args.count → IsFaultFrom all (Data items c.args.count bytes []) c.args.lines.now e) c.from_residual.result c.in_err-fix.field-0.0
+    raised_fault (λ e. (all : List (List ℕ)) (items : List AsmItem) (bytes : List ℕ) → length bytes ≡ c.args.count → IsFaultFrom all (Data items c.args.count bytes []) c.args.lines.now e) c.from_residual.result c.in_err-fix.field-0.0
     (λ all items bytes full. subst (IsFaultFrom all (Data items c.args.count bytes []) c.args.lines.now) (sym wrong.0)
     (rw c.count.ensures (fault_line all (Data items c.args.count bytes []) (Data items c.args.count bytes fixes) c.args.lines.now c.loop-line.lines c.next_line.new.self line
     (c.loop-line.invariant all items bytes full) next (no_place all items c.args.count bytes fixes line full none)))) c.from_residual.ensures.1
@@ -42,7 +42,7 @@ returns-in_err-expect_end-clause-fault c =
     (let empty = ended_none c.loop-line.lines.0 c.in_default.ensures.line.0 e in
     rest.1 (ap (λ p. p.0) same ∙ empty)) in
     let number : c.in_err-expect_end.field-0.0 ≡ Line (c.loop-line.lines.1 + 1) = rest.0 ∙ ap (λ p. Line (p.1 + 1)) same in
-    raised (λ e. (all : List (List ℕ)) (items : List AsmItem) (bytes : List ℕ) → length bytes ≡ c.args.count → IsFaultFrom all (Data items c.args.count bytes []) c.args.lines.now e) c.from_residual-in_err-expect_end.result c.in_err-expect_end.field-0.0
+    raised_fault (λ e. (all : List (List ℕ)) (items : List AsmItem) (bytes : List ℕ) → length bytes ≡ c.args.count → IsFaultFrom all (Data items c.args.count bytes []) c.args.lines.now e) c.from_residual-in_err-expect_end.result c.in_err-expect_end.field-0.0
     (λ all items bytes full. subst (IsFaultFrom all (Data items c.args.count bytes []) c.args.lines.now) (sym number)
     (fault_end all (Data items c.args.count bytes []) (Data items c.args.count bytes fixes) c.args.lines.now c.loop-line.lines (c.loop-line.invariant all items bytes full) c.in_default.ensures.line.0 (λ h. missing h.1))) c.from_residual-in_err-expect_end.ensures.1
 

@@ -4,13 +4,13 @@ use Rattle.alpha_isa.specs.Program.{most_bytes}
 use Rattle.alpha_text.specs.declared.fault.TextFault.TheVariants as fault
 use Rattle.alpha_text.specs.Texts.{Texts}
 use Rattle.alpha_text.specs.Read.{IsTextFault}
-use Rattle.alpha_text.proofs.Joined.{raised, raised_only}
+use Rattle.alpha_text.proofs.Joined.{raised_fault, raised_only}
 use Rattle.alpha_text.proofs.Whole.{read_whole, read_text}
 use Rattle.alpha_text.proofs.Again.{read_again, fault_again}
 use Rattle.alpha_text.proofs.read.read_asm.Goals as goal
 
 pub returns-in_err-parts-clause-fault : goal.returns-in_err-parts-clause-fault
-returns-in_err-parts-clause-fault c = raised (IsTextFault c.args.text.now) c.from_residual.result c.in_err-parts.field-0.0 c.in_err-parts.ensures.fault c.from_residual.ensures.1
+returns-in_err-parts-clause-fault c = raised_fault (IsTextFault c.args.text.now) c.from_residual.result c.in_err-parts.field-0.0 c.in_err-parts.ensures.fault c.from_residual.ensures.1
 
 pub returns-in_err-parts-clause-only : goal.returns-in_err-parts-clause-only
 returns-in_err-parts-clause-only c asm whole has e =

@@ -1,12 +1,12 @@
 use Rattle.std.proofs.Common.{rules, arith, All}
 use Rattle.suifvm_ir.specs.Functions.{UsesRegisters}
 use Rattle.bitvector_flow.specs.Lives.{HasFewRegisters}
-use Rattle.bitvector_flow.proofs.Registers.{begun, sets_next, sets_all, at_item}
+use Rattle.bitvector_flow.proofs.Registers.{begun_sets, sets_next, sets_all, at_item}
 use Rattle.bitvector_flow.proofs.blocks.block_sets.Goals as goal
 
 pub loop-block-init : goal.loop-block-init
 loop-block-init g c =
-    begun g.I.Insn.reads g.I.Insn.writes c.args.registers c.new-reads.result.items c.new-writes.result.items (search rules) (search rules)
+    begun_sets g.I.Insn.reads g.I.Insn.writes c.args.registers c.new-reads.result.items c.new-writes.result.items (search rules) (search rules)
 
 pub push_block-requires-clause-inside : goal.push_block-requires-clause-inside
 push_block-requires-clause-inside g c =

@@ -1,6 +1,6 @@
 -- The sets have their bounds, and no more than what flows.
 use Rattle.std.proofs.Common.{◌≡◌, List, Bool, length}
-use Rattle.bitvector_flow.specs.model.Rounds.{missing, AreBelow, AreForced}
+use Rattle.bitvector_flow.specs.model.Rounds.{missing_count, AreBelow, AreForced}
 use Rattle.bitvector_flow.proofs.settling.settle_all.Given as goal
 
 abbrev pub invariant-loop : goal.invariant-loop
@@ -15,4 +15,4 @@ invariant-loop l = record {
 }
 
 abbrev pub decreases-loop : goal.decreases-loop
-decreases-loop l = missing l.outs
+decreases-loop l = missing_count l.outs

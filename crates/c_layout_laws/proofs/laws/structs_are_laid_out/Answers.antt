@@ -1,9 +1,9 @@
 -- By the depth of types, and by the members in order.
-use Rattle.c_layout_laws.proofs.Layouts.{aligned, struct_multiple, members_within}
+use Rattle.c_layout_laws.proofs.Layouts.{aligned_type, struct_multiple, members_within}
 use Rattle.c_layout_laws.proofs.laws.structs_are_laid_out.Goals as goal
 
 pub returns-clause-alignments : goal.returns-clause-alignments
-returns-clause-alignments c = aligned
+returns-clause-alignments c = aligned_type
 
 pub returns-clause-sizes : goal.returns-clause-sizes
 returns-clause-sizes c = struct_multiple

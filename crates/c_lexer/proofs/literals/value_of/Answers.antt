@@ -5,8 +5,8 @@ use Rattle.c_lexer.specs.Literals.{digit_step, value_in, byte}
 use Rattle.c_lexer.proofs.Values.{fold_more, value_starts, grows, too_large, small}
 use Rattle.c_lexer.proofs.literals.value_of.Goals as goal
 
-pub returns-then-value-gt255 : goal.returns-then-value-gt255
-returns-then-value-gt255 c =
+pub returns-then-value-gt-MOST_BYTE : goal.returns-then-value-gt-MOST_BYTE
+returns-then-value-gt-MOST_BYTE c =
     let xs = c.args.digits.now in
     let i = c.loop-b.b-index in
     let step = digit_step c.args.base c.loop-b.value (get_or xs i 0) in

@@ -1,5 +1,5 @@
 use Rattle.std.proofs.Common.{drop}
-use Rattle.c_initial_value_laws.specs.Cells.{AreBytes}
+use Rattle.mem_model.specs.Bytes.{AreBytes}
 use Rattle.c_text_bytes.proofs.texts.read_text.Given as goal
 
 abbrev pub invariant-loop-byte : goal.invariant-loop-byte

@@ -1,5 +1,5 @@
 use Rattle.std.proofs.Common.{take, All}
-use Rattle.c_initial_value_laws.specs.Cells.{AreBytes}
+use Rattle.mem_model.specs.Bytes.{AreBytes}
 use Rattle.c_text_bytes.proofs.texts.read_texts.Given as goal
 
 abbrev pub invariant-loop-text : goal.invariant-loop-text

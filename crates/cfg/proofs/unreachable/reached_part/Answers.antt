@@ -2,7 +2,7 @@ use Rattle.std.proofs.Common.{◌≡◌, ap, sym, ◌∙◌, arith, length}
 use Rattle.std.proofs.lemmas.List.FromFn.{length-map-range_with_len}
 use Rattle.cfg.specs.model.Marked.{number_in}
 use Rattle.cfg.proofs.Lists.{length-successors}
-use Rattle.cfg.proofs.Kept.{told, part}
+use Rattle.cfg.proofs.Kept.{told_part, part}
 use Rattle.cfg.proofs.unreachable.reached_part.Goals as goal
 
 pub reached_marks-requires : goal.reached_marks-requires
@@ -41,5 +41,5 @@ marked_blocks-requires-clause-within g c =
 
 pub returns : goal.returns
 returns g c =
-    let tells = told g.I.Insn.reads g.I.Insn.writes g.I.Insn.targets g.I.Insn.with_target g.I.Insn.jump_to g.I.Insn.flows_on g.I.Insn.traps g.met.I.Insn.lawful c.args.blocks c.as_slice.result.now c.as_slice-2.result.now c.in_ok-followers.followers c.in_ok-marks.marks.items c.as_slice-4.result.now c.as_slice.ensures c.in_ok-followers.ensures c.as_slice-2.ensures c.as_slice-4.ensures.value c.in_ok-marks.ensures.count c.in_ok-marks.ensures.only c.in_ok-marks.ensures.all in
+    let tells = told_part g.I.Insn.reads g.I.Insn.writes g.I.Insn.targets g.I.Insn.with_target g.I.Insn.jump_to g.I.Insn.flows_on g.I.Insn.traps g.met.I.Insn.lawful c.args.blocks c.as_slice.result.now c.as_slice-2.result.now c.in_ok-followers.followers c.in_ok-marks.marks.items c.as_slice-4.result.now c.as_slice.ensures c.in_ok-followers.ensures c.as_slice-2.ensures c.as_slice-4.ensures.value c.in_ok-marks.ensures.count c.in_ok-marks.ensures.only c.in_ok-marks.ensures.all in
     part g.I.Insn.reads g.I.Insn.writes g.I.Insn.targets g.I.Insn.with_target g.I.Insn.jump_to g.I.Insn.flows_on g.I.Insn.traps g.met.I.Insn.lawful c.args.blocks c.as_slice-4.result.now c.as_slice-3.result.now c.in_ok-numbers.numbers.items c.as_slice-5.result.now c.in_ok-part.part c.requires.targets c.requires.straight c.requires.stops tells (c.as_slice-3.ensures.value ∙ sym c.as_slice-4.ensures.value) c.in_ok-numbers.ensures c.as_slice-5.ensures.value c.in_ok-part.ensures

@@ -1,7 +1,7 @@
 use Rattle.std.proofs.Common.{arith, ap, sym, ◌∙◌, length}
 use Rattle.cfg_edges.specs.model.Split.{numbers_from}
 use Rattle.cfg_edges.proofs.Splits.{numbers_length, numbers_small}
-use Rattle.cfg_edges.proofs.SplitEdges.{made, marks_length}
+use Rattle.cfg_edges.proofs.SplitEdges.{made_blocks, marks_length}
 use Rattle.cfg_edges.proofs.split.split_part.Goals as goal
 
 pub numbers_of-requires : goal.numbers_of-requires
@@ -38,7 +38,7 @@ put_all-requires-clause-small g c =
 
 pub returns : goal.returns
 returns g c =
-    made g.I.Insn.reads g.I.Insn.writes g.I.Insn.targets g.I.Insn.with_target g.I.Insn.jump_to g.I.Insn.flows_on g.I.Insn.traps g.met.I.Insn.lawful c.args.blocks c.requires.targets c.requires.straight c.requires.stops
+    made_blocks g.I.Insn.reads g.I.Insn.writes g.I.Insn.targets g.I.Insn.with_target g.I.Insn.jump_to g.I.Insn.flows_on g.I.Insn.traps g.met.I.Insn.lawful c.args.blocks c.requires.targets c.requires.straight c.requires.stops
     c.args.graph.now.succ c.args.graph.now.pred c.in_ok-splits.splits.items c.as_slice-2.result.now c.in_ok-numbers.numbers.items c.as_slice-3.result.now c.in_ok-part.part
     c.requires.succ c.requires.pred c.in_ok-splits.ensures c.as_slice-2.ensures.value
     (c.in_ok-numbers.ensures ∙ ap (numbers_from 0) (c.as_slice.ensures.value ∙ sym c.as_slice-2.ensures.value)) c.as_slice-3.ensures.value c.in_ok-part.ensures

@@ -1,6 +1,6 @@
 use Rattle.std.proofs.Common.{subst}
 use Rattle.front_end.specs.Units.{IsUnitWithin}
-use Rattle.compiler.specs.declared.built.Wanted.TheVariants.{Image}
+use Rattle.compiler.specs.declared.built.WantedParts.TheVariants.{Image}
 use Rattle.compiler.proofs.Parts.{image_made}
 use Rattle.compiler.proofs.compile.compile_image.Goals as goal
 

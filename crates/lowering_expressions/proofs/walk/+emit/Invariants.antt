@@ -1,7 +1,7 @@
 -- The code so far is that of the end of the list.
 use Rattle.std.proofs.Common.{◌≡◌, ◌+◌, ◌≤◌, drop, length}
 use Rattle.c_typed_tree.specs.model.View.{exprs_view}
-use Rattle.lowering_expressions.specs.Scopes.{exprs_code, commas_code}
+use Rattle.lowering_expressions.specs.model.Scopes.{exprs_code, commas_code}
 use Rattle.lowering_expressions.proofs.walk.+emit.Given as goal
 
 abbrev pub invariant-exprs-loop-i : goal.invariant-exprs-loop-i

@@ -1,6 +1,6 @@
 -- The code so far is that of the parameters from one on.
 use Rattle.std.proofs.Common.{◌≡◌, ◌≤◌, take, drop}
-use Rattle.lowering_functions.specs.Scopes.{parameters_code}
+use Rattle.lowering_functions.specs.model.Scopes.{parameters_code}
 use Rattle.lowering_functions.proofs.lower.parameters.Given as goal
 
 abbrev pub invariant-loop-k : goal.invariant-loop-k

@@ -2,7 +2,8 @@
 use Rattle.std.proofs.Common.{◌≡◌, ◌≤◌, drop, length, map, reverse}
 use Rattle.c_typed_tree.specs.model.View.{stmts_view}
 use Rattle.c_typed_tree.specs.model.Lists.{sections_view}
-use Rattle.lowering_statements.specs.Scopes.{target_view, stmts_code, sections_code, switch_targets}
+use Rattle.lowering_statements.specs.Scopes.{target_view}
+use Rattle.lowering_statements.specs.model.Scopes.{stmts_code, sections_code, switch_targets}
 use Rattle.lowering_statements.proofs.walk.+emit.Given as goal
 
 abbrev pub invariant-stmts-loop-i : goal.invariant-stmts-loop-i

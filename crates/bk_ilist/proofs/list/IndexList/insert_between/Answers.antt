@@ -1,7 +1,7 @@
 use Rattle.std.proofs.Common.{◌∙◌, arith}
 use Rattle.bk_ilist.proofs.Chains.{chain_read, pairs_from-chain}
 use Rattle.bk_ilist.proofs.Views.{pairs_same, spare_same, gap_prev, gap_next}
-use Rattle.bk_ilist.proofs.Writes.{inserted}
+use Rattle.bk_ilist.proofs.Writes.{inserted_node}
 use Rattle.bk_ilist.proofs.list.IndexList.insert_between.Goals as goal
 
 pub to-requires : goal.to-requires
@@ -30,12 +30,12 @@ pub invariant_of-self : goal.invariant_of-self
 invariant_of-self g c =
     let has = c.requires.place in
     let same = c.self.inside.nodes.ok in
-    let done = inserted _ _ _ _ _ _ _ _ _ _ _ _ _ _ has.before has.after _ _ c.self.invariant.0 (pairs_same _ _ c.self.view_is ∙ has.split) has.prev_is has.next_is (omega arith) (rw (c.to.ensures, c.to-2.ensures) at c.push_reserved.ensures.items) c.push_reserved.new.self.ok.0 c.deref_mut.ensures.value c.link_forward.auto.nodes c.link_forward.ensures.nodes c.deref_mut-2.ensures.value c.link_back.auto.nodes c.link_back.ensures.nodes c.link_forward.ensures.first c.link_back.ensures.last in
+    let done = inserted_node _ _ _ _ _ _ _ _ _ _ _ _ _ _ has.before has.after _ _ c.self.invariant.0 (pairs_same _ _ c.self.view_is ∙ has.split) has.prev_is has.next_is (omega arith) (rw (c.to.ensures, c.to-2.ensures) at c.push_reserved.ensures.items) c.push_reserved.new.self.ok.0 c.deref_mut.ensures.value c.link_forward.auto.nodes c.link_forward.ensures.nodes c.deref_mut-2.ensures.value c.link_back.auto.nodes c.link_back.ensures.nodes c.link_forward.ensures.first c.link_back.ensures.last in
     let spare = spare_same _ _ c.self.view_is in
     rw done.is (chain_read _ _ _ _ done.chain, omega (arith, done.grown, c.push_reserved.ensures.capacity), omega (arith, done.grown))
 
 pub returns-clause-pairs : goal.returns-clause-pairs
 returns-clause-pairs g c before after split prev_is next_is =
     let same = c.self.inside.nodes.ok in
-    let done = inserted _ _ _ _ _ _ _ _ _ _ _ _ _ _ before after _ _ c.self.invariant.0 (pairs_same _ _ c.self.view_is ∙ split) prev_is next_is (omega arith) (rw (c.to.ensures, c.to-2.ensures) at c.push_reserved.ensures.items) c.push_reserved.new.self.ok.0 c.deref_mut.ensures.value c.link_forward.auto.nodes c.link_forward.ensures.nodes c.deref_mut-2.ensures.value c.link_back.auto.nodes c.link_back.ensures.nodes c.link_forward.ensures.first c.link_back.ensures.last in
+    let done = inserted_node _ _ _ _ _ _ _ _ _ _ _ _ _ _ before after _ _ c.self.invariant.0 (pairs_same _ _ c.self.view_is ∙ split) prev_is next_is (omega arith) (rw (c.to.ensures, c.to-2.ensures) at c.push_reserved.ensures.items) c.push_reserved.new.self.ok.0 c.deref_mut.ensures.value c.link_forward.auto.nodes c.link_forward.ensures.nodes c.deref_mut-2.ensures.value c.link_back.auto.nodes c.link_back.ensures.nodes c.link_forward.ensures.first c.link_back.ensures.last in
     rw done.is (pairs_from-chain _ _ _ _ done.chain)

@@ -1,7 +1,7 @@
 use Rattle.std.proofs.Common.{◌∙◌, arith}
 use Rattle.bk_ilist.proofs.Chains.{chain_read, pairs_from-chain}
 use Rattle.bk_ilist.proofs.Views.{pairs_same, within, has_item, item_read, prev_read, next_read, prev_within, next_within}
-use Rattle.bk_ilist.proofs.Writes.{unlinked}
+use Rattle.bk_ilist.proofs.Writes.{unlinked_node}
 use Rattle.bk_ilist.proofs.list.IndexList.unlink.Goals as goal
 
 pub index-requires : goal.index-requires
@@ -38,7 +38,7 @@ invariant_of-self g c =
     let view = pairs_same _ _ c.self.view_is in
     let prev = c.id-prev.ensures.value ∙ prev_read _ _ _ _ has.before has.after c.args.id has.item _ c.self.invariant.0 view has.split c.index.ensures in
     let next = c.id-next.ensures.value ∙ next_read _ _ _ _ has.before has.after c.args.id has.item _ c.self.invariant.0 view has.split c.index-2.ensures in
-    let done = unlinked _ _ _ _ _ _ _ _ _ _ _ _ _ _ _ has.before has.after c.args.id has.item c.self.invariant.0 (view ∙ has.split) prev next c.self.inside.nodes.ok.0 c.deref_mut.ensures.value c.swap_item-item.auto.nodes c.swap_item-item.ensures.nodes c.deref_mut-2.ensures.value c.link_forward.auto.nodes c.link_forward.ensures.nodes c.deref_mut-3.ensures.value c.link_back.auto.nodes c.link_back.ensures.nodes c.link_forward.ensures.first c.link_back.ensures.last in
+    let done = unlinked_node _ _ _ _ _ _ _ _ _ _ _ _ _ _ _ has.before has.after c.args.id has.item c.self.invariant.0 (view ∙ has.split) prev next c.self.inside.nodes.ok.0 c.deref_mut.ensures.value c.swap_item-item.auto.nodes c.swap_item-item.ensures.nodes c.deref_mut-2.ensures.value c.link_forward.auto.nodes c.link_forward.ensures.nodes c.deref_mut-3.ensures.value c.link_back.auto.nodes c.link_back.ensures.nodes c.link_forward.ensures.first c.link_back.ensures.last in
     rw done.is (chain_read _ _ _ _ done.chain, omega (arith, done.same), omega (arith, done.same))
 
 pub returns-clause-value : goal.returns-clause-value
@@ -50,5 +50,5 @@ returns-clause-pairs g c before after item split =
     let view = pairs_same _ _ c.self.view_is in
     let prev = c.id-prev.ensures.value ∙ prev_read _ _ _ _ before after c.args.id item _ c.self.invariant.0 view split c.index.ensures in
     let next = c.id-next.ensures.value ∙ next_read _ _ _ _ before after c.args.id item _ c.self.invariant.0 view split c.index-2.ensures in
-    let done = unlinked _ _ _ _ _ _ _ _ _ _ _ _ _ _ _ before after c.args.id item c.self.invariant.0 (view ∙ split) prev next c.self.inside.nodes.ok.0 c.deref_mut.ensures.value c.swap_item-item.auto.nodes c.swap_item-item.ensures.nodes c.deref_mut-2.ensures.value c.link_forward.auto.nodes c.link_forward.ensures.nodes c.deref_mut-3.ensures.value c.link_back.auto.nodes c.link_back.ensures.nodes c.link_forward.ensures.first c.link_back.ensures.last in
+    let done = unlinked_node _ _ _ _ _ _ _ _ _ _ _ _ _ _ _ before after c.args.id item c.self.invariant.0 (view ∙ split) prev next c.self.inside.nodes.ok.0 c.deref_mut.ensures.value c.swap_item-item.auto.nodes c.swap_item-item.ensures.nodes c.deref_mut-2.ensures.value c.link_forward.auto.nodes c.link_forward.ensures.nodes c.deref_mut-3.ensures.value c.link_back.auto.nodes c.link_back.ensures.nodes c.link_forward.ensures.first c.link_back.ensures.last in
     rw done.is (pairs_from-chain _ _ _ _ done.chain)

@@ -4,7 +4,7 @@ use Rattle.std.specs.Prelude.{slice_get}
 use Rattle.mem_model.specs.Memory.{begin_objects}
 use Rattle.vm_meaning.specs.Behave.{registers_of}
 use Rattle.vm_operations.specs.Tidy.{MemoryIsTidy}
-use Rattle.suifvm_machine.proofs.Entries.{entered, no_function, no_block}
+use Rattle.suifvm_machine.proofs.Entries.{entered_call, no_function, no_block}
 use Rattle.suifvm_machine.proofs.machine.Machine.enter.Goals as goal
 
 pub returns-in_default : goal.returns-in_default
@@ -28,4 +28,4 @@ returns-in-Ok c i =
     let memory : c.begin_call.new.memory ≡ begin_objects c.args.self.now.memory (map (λ o. o.size) c.in-Some.table.now.objects.now) = search rules in
     let stack : c.begin_call.new.stack.items ≡ c.args.self.now.stack.items ++ map (registers_of (drop c.args.self.now.here.base c.args.self.now.stack.items)) c.args.arguments.now = search rules in
     let callers : c.begin_call.new.callers.items ≡ c.args.self.now.callers.items ++ c.args.self.now.here ∷ [] = search rules in
-    entered c.args.self.now _ c.args.function _ i c.requires.sound c.requires.within refl refl base table row refl few tidy memory stack callers
+    entered_call c.args.self.now _ c.args.function _ i c.requires.sound c.requires.within refl refl base table row refl few tidy memory stack callers
