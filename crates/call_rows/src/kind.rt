@@ -1,14 +1,17 @@
 //! The kinds of rows, each with its file.
 
-use crate::{calls, outcomes};
 use anyhow::Result;
+use memory_calls::call::{answer, answer_for_text};
+use msc_calls::Msc;
 use row_sheets::Table;
 use std::alloc::Global;
+
+/// The call that the texts of `programs.rows` are given to, on a stack that holds the room of each `main` there.
+const RUN: &str = "msc run a.c --stack 65536";
 
 /// What the rows of a file are given to.
 #[derive(Clone, Copy, Debug)]
 pub enum Kind {
-    Outcomes,
     Programs,
     Calls,
     Vm,
@@ -17,8 +20,7 @@ pub enum Kind {
 }
 
 /// The kinds in the order in which they are checked.
-pub const KINDS: [Kind; 6] = [
-    Kind::Outcomes,
+pub const KINDS: [Kind; 5] = [
     Kind::Programs,
     Kind::Calls,
     Kind::Vm,
@@ -29,7 +31,6 @@ pub const KINDS: [Kind; 6] = [
 impl Table for Kind {
     fn file(&self) -> &'static str {
         match self {
-            Kind::Outcomes => "outcomes.rows",
             Kind::Programs => "programs.rows",
             Kind::Calls => "calls.rows",
             Kind::Vm => "vm.rows",
@@ -40,9 +41,8 @@ impl Table for Kind {
 
     fn answer(&mut self, alloc: Global, given: &str) -> Result<Vec<u8>> {
         match self {
-            Kind::Outcomes => outcomes::answer(alloc, given),
-            Kind::Programs => calls::run(alloc, given),
-            Kind::Calls | Kind::Vm | Kind::Commands | Kind::Runs => calls::answer(alloc, given),
+            Kind::Programs => answer_for_text(alloc, &Msc, RUN, "a.c", given),
+            Kind::Calls | Kind::Vm | Kind::Commands | Kind::Runs => answer(alloc, &Msc, given),
         }
     }
 }

@@ -1,12 +1,10 @@
-//! Checks the tables of the folder `data/`, of whole calls of the compiler and of their outcomes: each row says what
-//! a public function is given and what is due.
+//! Checks the tables of the folder `data/`, of whole calls of the compiler: each row says what a call is given and what
+//! is due.
 //!
 //! The form of the files is described in `docs/rows.md`, and that of each kind of row at the head of its file.
 #![tactic(auto)]
 
-mod calls;
 mod kind;
-mod outcomes;
 
 use crate::kind::KINDS;
 use anyhow::Result;

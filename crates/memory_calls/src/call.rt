@@ -1,16 +1,13 @@
-//! Whole calls of the compiler.
+//! Calls that are read from the lines of rows.
 
+use crate::compiler::{Compiler, Ending, Outside, output_of, words_of};
+use crate::part::push_part;
 use anyhow::{Context, Result, bail, ensure};
-use bk_io::memory::{MemFiles, MemSink, MemSource};
+use bk_io::memory::{MemFiles, MemSource};
 use bk_io::outside::Source;
-use msc_cli::outcome::{Outcome, exit_code};
-use msc_cli::top::msc_main;
 use row_sheets::escape::unescape;
 use row_sheets::number::numbers;
 use std::alloc::{AllocError, Global};
-
-/// How many bytes the output and the line for errors take.
-const ROOM: u64 = 1 << 20;
 
 /// What is due of the output.
 #[derive(Drop)]
@@ -89,36 +86,33 @@ impl Call {
         Ok(Vec::from_slice(alloc, bytes.as_slice())?)
     }
 
-    /// Adds a file with what a call writes over the files so far.
-    fn push_written(&mut self, alloc: Global, rest: &str) -> Result<()> {
-        let (name, line) = rest.split_once(' ').context("a file without its call")?;
-        let mut call = Call::new(alloc);
-        call.push_words(alloc, line)?;
+    /// The files so far once more.
+    fn copied_files(&self, alloc: Global) -> Result<Vec<(String, Vec<u8>)>, AllocError> {
+        let mut files = Vec::new(alloc);
         for file in self.files.iter() {
             let bytes = Vec::from_slice(alloc, file.1.as_slice())?;
-            call.files.push((file.0.as_str().to_string(alloc)?, bytes))?;
+            files.push((file.0.as_str().to_string(alloc)?, bytes))?;
         }
-        self.files
-            .push((name.to_string(alloc)?, call.output_of(alloc)?))?;
-        Ok(())
+        Ok(files)
     }
 
-    fn push_words(&mut self, alloc: Global, line: &str) -> Result<(), AllocError> {
-        for word in line.split(' ') {
-            self.words.push(word.to_string(alloc)?)?;
-        }
+    /// Adds a file with what a call writes over the files so far.
+    fn push_written<C: Compiler>(&mut self, alloc: Global, compiler: &C, rest: &str) -> Result<()> {
+        let (name, line) = rest.split_once(' ').context("a file without its call")?;
+        let bytes = output_of(alloc, compiler, line, self.copied_files(alloc)?)?;
+        self.files.push((name.to_string(alloc)?, bytes))?;
         Ok(())
     }
 
     /// Reads a line of a row.
-    fn take(&mut self, alloc: Global, line: &str) -> Result<()> {
+    fn take<C: Compiler>(&mut self, alloc: Global, compiler: &C, line: &str) -> Result<()> {
         if let Some(line) = line.strip_prefix("  ") {
             return self.push_line(alloc, line);
         }
         let (name, rest) = line.split_once(' ').unwrap_or((line, ""));
         match name {
             "file" => self.push_file(alloc, rest)?,
-            "written" => self.push_written(alloc, rest)?,
+            "written" => self.push_written(alloc, compiler, rest)?,
             "input" => self.input = unescape(alloc, rest)?,
             "failing-reads" => self.failing_reads = numbers(alloc, rest)?,
             "failing-inputs" => self.failing_inputs = numbers(alloc, rest)?,
@@ -126,15 +120,14 @@ impl Call {
             "failing-lines" => self.failing_lines = numbers(alloc, rest)?,
             "front-of" => self.due_output = DueOutput::FrontOf(unescape(alloc, rest)?),
             "same-as" => self.due_output = DueOutput::SameAs(self.bytes_of(alloc, rest)?),
-            "msc" => self.push_words(alloc, line)?,
+            "msc" => self.words = words_of(alloc, line)?,
             _ => bail!("no part of a call: {name:?}"),
         }
         Ok(())
     }
 
-    /// The outcome and the status, what the output and the line for errors took, and what is left of
-    /// the input.
-    fn answer(self, alloc: Global) -> Result<Vec<u8>> {
+    /// What the call comes to.
+    fn answer<C: Compiler>(self, alloc: Global, compiler: &C) -> Result<Vec<u8>> {
         let Call {
             words,
             files,
@@ -145,51 +138,32 @@ impl Call {
             failing_lines,
             due_output,
         } = self;
-        let mut files = MemFiles::new(files, failing_reads);
         let calls = input.len().saturating_add(failing_inputs.len());
-        let mut input = MemSource::new(input, failing_inputs);
-        let mut out = MemSink::new(alloc, ROOM, failing_puts)?;
-        let mut err = MemSink::new(alloc, ROOM, failing_lines)?;
-        let words = words.as_slice();
-        let outcome = msc_main(alloc, words, &mut files, &mut input, &mut out, &mut err);
-        let status = exit_code(&outcome);
-        let mut shown = format!(in alloc; "{outcome:?}, status {status}")?.into_bytes();
-        due_output.judge(out.taken_bytes(), &mut shown)?;
-        push_part(&mut shown, "err", err.taken_bytes())?;
-        push_part(
-            &mut shown,
-            "left",
-            rest(alloc, &mut input, calls)?.as_slice(),
-        )?;
-        shown.push(b'\n')?;
-        Ok(shown)
-    }
-
-    /// What a call writes to the output.
-    fn output_of(self, alloc: Global) -> Result<Vec<u8>> {
-        let Call { words, files, .. } = self;
-        let mut files = MemFiles::new(files, Vec::new(alloc));
-        let mut input = MemSource::new(Vec::new(alloc), Vec::new(alloc));
-        let mut out = MemSink::new(alloc, ROOM, Vec::new(alloc))?;
-        let mut err = MemSink::new(alloc, ROOM, Vec::new(alloc))?;
-        let words = words.as_slice();
-        match msc_main(alloc, words, &mut files, &mut input, &mut out, &mut err) {
-            Outcome::Built | Outcome::Printed => Ok(Vec::from_slice(alloc, out.taken_bytes())?),
-            outcome => bail!("nothing is written: {outcome:?}"),
-        }
+        let files = MemFiles::new(files, failing_reads);
+        let input = MemSource::new(input, failing_inputs);
+        let mut outside = Outside::new(alloc, files, input, failing_puts, failing_lines)?;
+        let ending = compiler.call(alloc, words.as_slice(), &mut outside)?;
+        show(alloc, &ending, &mut outside, &due_output, calls)
     }
 }
 
-/// Puts bytes in quotes behind their name, where there are any.
-pub fn push_part(shown: &mut Vec<u8>, name: &str, bytes: &[u8]) -> Result<(), AllocError> {
-    if bytes.is_empty() {
-        return Ok(());
-    }
-    shown.extend_from_slice(b", ")?;
-    shown.extend_from_slice(name.as_bytes())?;
-    shown.extend_from_slice(b" \"")?;
-    shown.extend_from_slice(bytes)?;
-    shown.extend_from_slice(b"\"")
+/// The outcome and the status of a call, what the output and the lines for errors took, and what is left of an input of
+/// so many calls. The output is shown, or tested.
+fn show(
+    alloc: Global,
+    ending: &Ending,
+    outside: &mut Outside,
+    due_output: &DueOutput,
+    calls: usize,
+) -> Result<Vec<u8>> {
+    let outcome = ending.outcome.as_str();
+    let mut shown = format!(in alloc; "{outcome}, status {}", ending.status)?.into_bytes();
+    due_output.judge(outside.out.taken_bytes(), &mut shown)?;
+    push_part(&mut shown, "err", outside.err.taken_bytes())?;
+    let left = rest(alloc, &mut outside.input, calls)?;
+    push_part(&mut shown, "left", left.as_slice())?;
+    shown.push(b'\n')?;
+    Ok(shown)
 }
 
 /// The bytes that come from a source by so many calls.
@@ -203,20 +177,27 @@ fn rest(alloc: Global, input: &mut MemSource, calls: usize) -> Result<Vec<u8>, A
     Ok(bytes)
 }
 
-/// What comes for the lines of a row.
-pub fn answer(alloc: Global, given: &str) -> Result<Vec<u8>> {
+/// What comes for the lines of a row, of which each says a part of the call: the outcome and the status, what the
+/// output and the lines for errors took, and what is left of the input.
+pub fn answer<C: Compiler>(alloc: Global, compiler: &C, given: &str) -> Result<Vec<u8>> {
     let mut call = Call::new(alloc);
     for line in given.lines() {
-        call.take(alloc, line)?;
+        call.take(alloc, compiler, line)?;
     }
-    call.answer(alloc)
+    call.answer(alloc, compiler)
 }
 
-/// What comes for `run` of a text, with no input, on a stack that holds the room of each `main` of the rows.
-pub fn run(alloc: Global, given: &str) -> Result<Vec<u8>> {
+/// What comes for a call with the words of a line over one file with this text, without input.
+pub fn answer_for_text<C: Compiler>(
+    alloc: Global,
+    compiler: &C,
+    line: &str,
+    name: &str,
+    text: &str,
+) -> Result<Vec<u8>> {
     let mut call = Call::new(alloc);
-    let file = ("a.c".to_string(alloc)?, unescape(alloc, given)?);
+    let file = (name.to_string(alloc)?, unescape(alloc, text)?);
     call.files.push(file)?;
-    call.push_words(alloc, "msc run a.c --stack 65536")?;
-    call.answer(alloc)
+    call.words = words_of(alloc, line)?;
+    call.answer(alloc, compiler)
 }

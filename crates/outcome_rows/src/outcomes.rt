@@ -1,10 +1,10 @@
 //! The lines and the statuses of outcomes.
 
-use crate::calls::push_part;
 use anyhow::{Result, bail};
 use bk_io::memory::MemSink;
 use c_type_faults::Kind;
-use msc_cli::outcome::{Outcome, SourceFault, Which, exit_code, put_line};
+use call_outcomes::outcome::{Outcome, SourceFault, Which, exit_code, put_line};
+use memory_calls::part::push_part;
 use row_sheets::number::number;
 use std::alloc::Global;
 

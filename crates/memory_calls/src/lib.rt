@@ -1,0 +1,10 @@
+//! Calls of a compiler over an outside in memory, for the programs that check or show whole calls.
+//!
+//! The compiler is a parameter, so that these programs are proved once, below it.
+#![tactic(auto)]
+
+pub mod call;
+pub mod compiler;
+pub mod part;
+
+pub use compiler::{Compiler, Ending, Outside, output_of, words_of};
