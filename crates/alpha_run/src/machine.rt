@@ -8,7 +8,7 @@ ghost use Rattle.alpha_isa.specs.Behave.{IsStack, start_state};
 
 use crate::ending::{Ending, Halt};
 use crate::memory::Memory;
-use crate::processor::{Processor, TEXT_START, Turn};
+use crate::processor::{Processor, StepResult, TEXT_START};
 use crate::registers::Registers;
 use alpha_isa::decode::decode;
 use alpha_isa::image::Image;
@@ -158,16 +158,16 @@ impl Machine {
             ≡ output_faults_after (unwrap_or result Ending.Budget) (O.faults out.old) }
     {
         match self.processor.step() {
-            Turn::Goes => {
+            StepResult::Goes => {
                 self.steps = self.steps.saturating_add(1);
                 None
             }
-            Turn::Over(halt) => {
+            StepResult::Over(halt) => {
                 self.steps = self.steps.saturating_add(halt.steps());
                 self.halt = Some(halt);
                 Some(halt.ending())
             }
-            Turn::Puts(byte) => {
+            StepResult::Puts(byte) => {
                 if out.put(byte).is_err() {
                     return Some(Ending::WriteFault);
                 }
@@ -176,7 +176,7 @@ impl Machine {
                 self.written = self.written.saturating_add(1);
                 None
             }
-            Turn::Takes => {
+            StepResult::Takes => {
                 let Ok(byte) = input.next() else {
                     return Some(Ending::InputFault);
                 };

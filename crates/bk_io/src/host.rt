@@ -9,7 +9,7 @@ ghost use Rattle.bk_io.specs.Shelf.{faults_after_read, Appends, HasCause};
 ghost use Rattle.bk_io.specs.Adapters.{GivesByte, Writes};
 ghost use Rattle.bk_io.specs.model.Steps.{WritesSome, AppendsRead, AppendsPart, AppendsNone};
 
-use crate::outside::{Failed, FileFault, Files, Got, Sink, Source};
+use crate::outside::{Failed, FileFault, Files, ReadExtent, Sink, Source};
 use std::alloc::{AllocError, Global};
 use std::io::{BufReader, Read, Write};
 use std::marker::Model;
@@ -231,7 +231,7 @@ fn read_up_to<R: Read>(
     chunk: &mut [u8],
     into: &mut Vec<u8>,
     limit: u64,
-) -> Result<Got, FileFault>
+) -> Result<ReadExtent, FileFault>
     requires { 0 < length chunk.old }
     ensures appends { AppendsRead result limit into.old.items into.new.items (R.remaining reader.old)
         (R.remaining reader.new) }
@@ -245,14 +245,14 @@ fn read_up_to<R: Read>(
             Err(fault) => return Err(fault),
         };
         if count == 0 {
-            return Ok(Got::Whole);
+            return Ok(ReadExtent::Whole);
         }
         left -= count as u64;
         if left == 0 {
             break;
         }
     }
-    Ok(Got::Cut)
+    Ok(ReadExtent::Cut)
 }
 
 /// Opens a file and appends its bytes until its end or the limit.
@@ -262,7 +262,7 @@ fn read_file<R: rt::Files>(
     chunk: &mut [u8],
     into: &mut Vec<u8>,
     limit: u64,
-) -> Result<Got, FileFault>
+) -> Result<ReadExtent, FileFault>
     requires { 0 < length chunk.old }
     ensures appends { Appends result limit into.old.items into.new.items }
     ensures memory { IfErr result HasCause }
@@ -279,7 +279,12 @@ impl<R: rt::Files + Drop> Files for HostFiles<R> {
 
     ghost told = { λ _. None };
 
-    fn read(&mut self, name: &str, into: &mut Vec<u8>, limit: u64) -> Result<Got, FileFault> {
+    fn read(
+        &mut self,
+        name: &str,
+        into: &mut Vec<u8>,
+        limit: u64,
+    ) -> Result<ReadExtent, FileFault> {
         let chunk = self.chunk.as_mut_slice();
         let answer = read_file(&self.runtime, name, chunk, into, limit);
         if answer == Err(FileFault::Failed) {

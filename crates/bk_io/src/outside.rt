@@ -49,7 +49,7 @@ impl From<AllocError> for FileFault {
 
 /// How much of a file was read.
 #[derive(Clone, Copy, Debug, PartialEq, Eq)]
-pub enum Got {
+pub enum ReadExtent {
     /// All of it: it has fewer bytes than the limit.
     Whole,
     /// As many bytes as the limit: it has at least so many.
@@ -110,7 +110,7 @@ pub trait Files {
 
     /// Appends the bytes of a file, at most `limit` of them. After a refusal `into` holds its old bytes
     /// and a front of the file. `NoMemory` comes where `into` could not grow.
-    fn read(&mut self, name: &str, into: &mut Vec<u8>, limit: u64) -> Result<Got, FileFault>
+    fn read(&mut self, name: &str, into: &mut Vec<u8>, limit: u64) -> Result<ReadExtent, FileFault>
         ensures appends { Appends result limit into.old.items into.new.items }
         ensures file { IfSome (told self.old)
             (λ shelf. AppendsFile result limit (file_of shelf name.now) into.old.items into.new.items) }

@@ -2,7 +2,7 @@
 
 use crate::host::{HostFiles, HostSink, HostSource};
 use crate::memory::{MemFiles, MemSink, MemSource};
-use crate::outside::{Failed, FileFault, Files, Got, Sink, Source};
+use crate::outside::{Failed, FileFault, Files, ReadExtent, Sink, Source};
 use std::fs;
 use std::fs::File;
 use std::io::{self, BufWriter, ErrorKind, Read, Write};
@@ -137,9 +137,9 @@ fn host_files_reads_up_to_the_limit(rt: HostRuntime) -> Result<(), Fail> {
     fs::write(&rt, "five.bytes", b"abcde")?;
     let mut files = HostFiles::new(rt.alloc(), rt.clone()?)?;
     let cases = [
-        ("five.bytes", 6, Ok(Got::Whole), 5),
-        ("five.bytes", 5, Ok(Got::Cut), 5),
-        ("five.bytes", 2, Ok(Got::Cut), 2),
+        ("five.bytes", 6, Ok(ReadExtent::Whole), 5),
+        ("five.bytes", 5, Ok(ReadExtent::Cut), 5),
+        ("five.bytes", 2, Ok(ReadExtent::Cut), 2),
         ("missing.bytes", 6, Err(FileFault::Failed), 0),
     ];
     for (name, limit, want, count) in cases {
@@ -178,10 +178,10 @@ fn forms_in_memory_fail_at_the_listed_calls(rt: HostRuntime) -> Result<(), Fail>
     let mut files = MemFiles::new(name_and_bytes, [1].to_vec(alloc)?);
     let mut into = Vec::new(alloc);
     let cases = [
-        ("a.c", Ok(Got::Whole)),
+        ("a.c", Ok(ReadExtent::Whole)),
         ("a.c", Err(FileFault::Failed)),
         ("b.c", Err(FileFault::Failed)),
-        ("a.c", Ok(Got::Whole)),
+        ("a.c", Ok(ReadExtent::Whole)),
     ];
     for (name, want) in cases {
         assert_eq!(rt; files.read(name, &mut into, 4), want, "{name}");

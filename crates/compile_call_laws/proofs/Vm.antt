@@ -2,8 +2,8 @@
 use Rattle.std.proofs.Common.{◌≡◌, ◌≢◌, ℕ, ◌<◌, List, All, inl, inr, Some, refl, sym, ap, ◌∙◌, subst}
 use Rattle.mem_model.specs.World.{Rooms}
 use Rattle.mem_model.specs.Ending.{Ending, Done, Trap, Undefined, More}
-use Rattle.vm_meaning.specs.Behave.{behave_vm}
-use Rattle.vm_meaning.specs.Laws.{OneVmEnding}
+use Rattle.suifvm_meaning.specs.Behave.{behave_vm}
+use Rattle.suifvm_meaning.specs.Laws.{OneVmEnding}
 use Rattle.bk_io.specs.Outside.{taken_with, Traffic}
 use Rattle.c_mean.specs.Behaviour as c
 use Rattle.c_mean.specs.Behaviour.{CBehaviour, output_of}
@@ -17,10 +17,10 @@ use Rattle.suifvm_run.specs.Run.{VmBehaves}
 use Rattle.lowering_theorem.specs.Laws.{IsCodeOf, BehavesAsUnit, BehavioursAreKept}
 use Rattle.call_outcomes.specs.declared.outcome.Outcome.{Outcome}
 use Rattle.call_outcomes.specs.declared.outcome.Outcome.TheVariants.{Ran, Trapped, Budget}
-use Rattle.compile_calls.specs.Compile.{IsBuilt}
+use Rattle.compile_calls.specs.Built.{IsBuilt}
 use Rattle.compile_calls.specs.Vm.{outcome_of_ending, RunsProgram}
 use Rattle.compile_call_laws.specs.Laws.{IsOutcomeOf, AnswersAs, TextsWithAUnitAreNotRefused, VmAnswersAsTheTextMeans}
-use Rattle.compile_call_laws.proofs.Units.{OneTree}
+use Rattle.compile_calls.proofs.Units.{OneTree}
 use Rattle.compile_call_laws.proofs.Builds.{of_text, same_unit}
 
 module _ (text : List ℕ) (turns : ℕ) (before after : Traffic) (b : CBehaviour) where

@@ -119,5 +119,5 @@ assembled_text text a answer old new low whole has is assembles no_file no_write
   ]
 ]
 
-pub assembled_by : (text : List ℕ) (a : Assembly) (p : Program) → length text ≤ 67108864 → IsWhole a → Texts text a → Words a p → IsAssembled text p
-assembled_by text a p low whole is image = record { low = low; assembly = a; whole = whole; spells = is; image = image }
+pub assembled_by : (text : List ℕ) (a : Assembly) (p : Program) → length text ≤ 67108864 → IsWhole a → HasText a → Texts text a → Words a p → IsAssembled text p
+assembled_by text a p low whole has is image = record { low = low; assembly = a; whole = whole; fields = has; spells = is; image = image }

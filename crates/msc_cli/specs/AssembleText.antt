@@ -3,20 +3,22 @@ use Rattle.std.specs.Prelude.{◌≡◌, ℕ, ◌<◌, ◌≤◌, List, length, 
 use Rattle.alpha_isa.specs.Program.{Program}
 use Rattle.alpha_items.specs.Assembly.{Assembly, IsWhole}
 use Rattle.alpha_items.specs.Words.{Words}
-use Rattle.alpha_text.specs.Texts.{Texts}
+use Rattle.alpha_text.specs.Texts.{Texts, HasText}
 use Rattle.alpha_text.specs.Wrong.{FirstWrong}
 use Rattle.call_outcomes.specs.declared.outcome.Outcome.{Outcome}
 use Rattle.call_outcomes.specs.declared.outcome.Outcome.TheVariants.{Limit, BadAsm}
 use Rattle.call_outcomes.specs.declared.outcome.Which.TheVariants.{Text}
 use Rattle.call_outcomes.specs.FromFile.{Does}
-use Rattle.image_calls.specs.WriteImage.{WritesImage}
+use Rattle.call_images.specs.WriteImage.{WritesImage}
 use Rattle.msc_cli.specs.Limits.{most_assembly, assembly_limit}
 
--- The text is within the limit and that of a whole assembly, and the image is the assembly's.
+-- The text is within the limit and that of a whole assembly whose labels, offsets and bytes are in their fields, and the
+-- image is the assembly's.
 pub record IsAssembled (source : List ℕ) (p : Program) : Type 0 where
   pub low : length source ≤ most_assembly
   pub assembly : Assembly
   pub whole : IsWhole assembly
+  pub fields : HasText assembly
   pub spells : Texts source assembly
   pub image : Words assembly p
 

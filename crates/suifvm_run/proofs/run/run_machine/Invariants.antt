@@ -2,7 +2,7 @@
 use Rattle.std.proofs.Common.{◌≡◌}
 use Rattle.machine_model.specs.Machine.{Config}
 use Rattle.mem_model.specs.World.{Rooms}
-use Rattle.vm_meaning.specs.Behave.{Registers}
+use Rattle.suifvm_meaning.specs.Behave.{Registers}
 use Rattle.bk_io.specs.Outside.{Traffic}
 use Rattle.suifvm_machine.specs.Config.{IsSound, program_of}
 use Rattle.suifvm_run.specs.model.Falls.{AreMarked, machine_left}

@@ -1,6 +1,6 @@
 -- A run that began, ended at once, or did not begin.
 use Rattle.std.proofs.Common.{◌≡◌, refl, sym, subst, rules}
-use Rattle.suifvm_machine.specs.declared.machine.NoStart.TheVariants as no_start
+use Rattle.suifvm_machine.specs.declared.machine.StartError.TheVariants as no_start
 use Rattle.suifvm_machine.specs.Begin.{start_at, HasNoStart}
 use Rattle.suifvm_run.specs.model.Progress.{run_from}
 use Rattle.suifvm_run.specs.model.Stops.{IsRun}

@@ -1,6 +1,6 @@
 -- The run of a program is the run of its tables, or did not begin.
 use Rattle.std.proofs.Common.{ap, ◌∙◌}
-use Rattle.data_object.specs.Start.{start_memory}
+use Rattle.mem_objects.specs.Start.{start_memory}
 use Rattle.suifvm_machine.specs.Tables.{program_code}
 use Rattle.suifvm_run.proofs.Ends.{table_marked}
 use Rattle.suifvm_run.proofs.Wholes.{whole, not_begun}

@@ -1,0 +1,8 @@
+#include <stdlib.h>
+
+#undef assert
+#ifdef NDEBUG
+#define assert(e) ((void)0)
+#else
+#define assert(e) ((e) ? (void)0 : abort())
+#endif

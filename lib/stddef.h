@@ -1,0 +1,10 @@
+#ifndef DESK_STDDEF_H
+#define DESK_STDDEF_H
+
+typedef unsigned long size_t;
+typedef long ptrdiff_t;
+typedef int wchar_t;
+
+#define NULL ((void *)0)
+
+#endif
