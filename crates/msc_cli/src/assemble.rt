@@ -23,7 +23,7 @@ use call_outcomes::outcome::{Outcome, Which};
 use std::alloc::Global;
 
 /// How many bytes of an assembly text are read: one more than it may have.
-const ASSEMBLY_LIMIT: u64 = 67_108_865;
+const ASSEMBLY_LIMIT: u64 = 268_435_457;
 
 /// The outcome where a text is not read as an assembly.
 fn outcome_of_text_fault(fault: TextFault) -> Outcome
