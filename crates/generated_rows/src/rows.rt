@@ -1,6 +1,5 @@
-//! Rows of generated texts: what is given is a seed and a size, `SEED SIZE`, and what comes the text, or its length and
+//! What comes for a row: what is given is a seed and a size, `SEED SIZE`, and what comes the text, or its length and
 //! checksum.
-#![tactic(auto)]
 
 use anyhow::{Context, Result};
 use std::alloc::Global;
