@@ -35,6 +35,16 @@ impl DueOutput {
     }
 }
 
+/// What fails in turn, each time in a call of its own.
+#[derive(Clone, Copy)]
+enum EachFailing {
+    Nothing,
+    /// Each put of the bytes that are due of the output.
+    Put,
+    /// Each call of the input, with the one that finds its end.
+    Input,
+}
+
 /// The words of a call and its outside.
 #[derive(Drop)]
 struct Call {
@@ -46,6 +56,7 @@ struct Call {
     failing_puts: Vec<u64>,
     failing_lines: Vec<u64>,
     due_output: DueOutput,
+    each_failing: EachFailing,
 }
 
 impl Call {
@@ -59,6 +70,7 @@ impl Call {
             failing_puts: Vec::new(alloc),
             failing_lines: Vec::new(alloc),
             due_output: DueOutput::Shown,
+            each_failing: EachFailing::Nothing,
         }
     }
 
@@ -119,6 +131,8 @@ impl Call {
             "failing-puts" => self.failing_puts = numbers(alloc, rest)?,
             "failing-lines" => self.failing_lines = numbers(alloc, rest)?,
             "front-of" => self.due_output = DueOutput::FrontOf(unescape(alloc, rest)?),
+            "each-put-fails" => self.each_failing = EachFailing::Put,
+            "each-input-fails" => self.each_failing = EachFailing::Input,
             "same-as" => self.due_output = DueOutput::SameAs(self.bytes_of(alloc, rest)?),
             "msc" => self.words = words_of(alloc, line)?,
             _ => bail!("no part of a call: {name:?}"),
@@ -126,8 +140,19 @@ impl Call {
         Ok(())
     }
 
-    /// What the call comes to.
-    fn answer<C: Compiler>(self, alloc: Global, compiler: &C) -> Result<Vec<u8>> {
+    /// The same words over the same files and input, of which no call fails yet.
+    fn once_more(&self, alloc: Global) -> Result<Call, AllocError> {
+        let mut call = Call::new(alloc);
+        for word in self.words.iter() {
+            call.words.push(word.as_str().to_string(alloc)?)?;
+        }
+        call.files = self.copied_files(alloc)?;
+        call.input = Vec::from_slice(alloc, self.input.as_slice())?;
+        Ok(call)
+    }
+
+    /// Makes the call.
+    fn make<C: Compiler>(self, alloc: Global, compiler: &C) -> Result<Made> {
         let Call {
             words,
             files,
@@ -137,32 +162,88 @@ impl Call {
             failing_puts,
             failing_lines,
             due_output,
+            each_failing: _,
         } = self;
         let calls = input.len().saturating_add(failing_inputs.len());
         let files = MemFiles::new(files, failing_reads);
         let input = MemSource::new(input, failing_inputs);
         let mut outside = Outside::new(alloc, files, input, failing_puts, failing_lines)?;
         let ending = compiler.call(alloc, words.as_slice(), &mut outside)?;
-        show(alloc, &ending, &mut outside, &due_output, calls)
+        let left = rest(alloc, &mut outside.input, calls)?;
+        let shown = show(alloc, &ending, &outside, &due_output)?;
+        Ok(Made { shown, left })
+    }
+
+    /// What all calls come to in which one put fails of the bytes that are due. The bytes before it are taken.
+    fn answer_each_put<C: Compiler>(&self, alloc: Global, compiler: &C) -> Result<Vec<u8>> {
+        let DueOutput::SameAs(due) = &self.due_output else {
+            bail!("no bytes whose puts fail");
+        };
+        let mut shown = Vec::new(alloc);
+        for at in 0..due.len() {
+            let mut call = self.once_more(alloc)?;
+            call.failing_puts.push(at as u64)?;
+            call.due_output = DueOutput::SameAs(Vec::from_slice(alloc, &due[..at])?);
+            let made = call.make(alloc, compiler)?;
+            ensure!(at == 0 || made.shown == shown, "another answer where put {at} fails");
+            shown = made.shown;
+        }
+        Ok(shown)
+    }
+
+    /// What all calls come to in which one call of the input fails. The bytes before it are taken from the input.
+    fn answer_each_input<C: Compiler>(&self, alloc: Global, compiler: &C) -> Result<Vec<u8>> {
+        let mut shown = Vec::new(alloc);
+        for left in 0..self.input.len().saturating_add(1) {
+            let at = self.input.len().saturating_sub(left);
+            let mut call = self.once_more(alloc)?;
+            call.failing_inputs.push(at as u64)?;
+            let made = call.make(alloc, compiler)?;
+            ensure!(left == 0 || made.shown == shown, "another answer where call {at} fails");
+            ensure!(made.left.len() == left, "other bytes are left where call {at} fails");
+            ensure!(self.input.ends_with(made.left.as_slice()), "no bytes of the input are left");
+            shown = made.shown;
+        }
+        Ok(shown)
+    }
+
+    /// What the call comes to.
+    fn answer<C: Compiler>(self, alloc: Global, compiler: &C) -> Result<Vec<u8>> {
+        let mut shown = match self.each_failing {
+            EachFailing::Put => self.answer_each_put(alloc, compiler)?,
+            EachFailing::Input => self.answer_each_input(alloc, compiler)?,
+            EachFailing::Nothing => {
+                let mut made = self.make(alloc, compiler)?;
+                push_part(&mut made.shown, "left", made.left.as_slice())?;
+                made.shown
+            }
+        };
+        shown.push(b'\n')?;
+        Ok(shown)
     }
 }
 
-/// The outcome and the status of a call, what the output and the lines for errors took, and what is left of an input of
-/// so many calls. The output is shown, or tested.
+/// What a call came to.
+#[derive(Drop)]
+struct Made {
+    /// What is shown of it, but for what is left of the input.
+    shown: Vec<u8>,
+    /// What is left of the input.
+    left: Vec<u8>,
+}
+
+/// The outcome and the status of a call, and what the output and the lines for errors took. The output is shown, or
+/// tested.
 fn show(
     alloc: Global,
     ending: &Ending,
-    outside: &mut Outside,
+    outside: &Outside,
     due_output: &DueOutput,
-    calls: usize,
 ) -> Result<Vec<u8>> {
     let outcome = ending.outcome.as_str();
     let mut shown = format!(in alloc; "{outcome}, status {}", ending.status)?.into_bytes();
     due_output.judge(outside.out.taken_bytes(), &mut shown)?;
     push_part(&mut shown, "err", outside.err.taken_bytes())?;
-    let left = rest(alloc, &mut outside.input, calls)?;
-    push_part(&mut shown, "left", left.as_slice())?;
-    shown.push(b'\n')?;
     Ok(shown)
 }
 
