@@ -107,16 +107,25 @@ IsOutcomeOf turns (c.Trap output code) answer = answer ≡ Trapped code
 IsOutcomeOf turns c.Undefined answer = ⊥
 IsOutcomeOf turns (c.More output) answer = answer ≡ Budget turns
 
--- what may be answered for a unit that behaves so within so many turns: the outcome of that, where the output took all
--- that the unit puts; or the file, the input or the output fails, or memory is short
+-- a front was put of what a behaviour puts
+abbrev pub PutsFrontOf : CBehaviour → (before after : Option (List ℕ)) → Type 0
+PutsFrontOf b before after = (put : List ℕ) × IsPrefix put (output_of b) × (after ≡ taken_with put before)
+
+-- What may be answered for a unit that behaves so within so many turns: the outcome of that, where the output took all
+-- that the unit puts; or a front of that was put, where the input or the output fails, or memory gets short; or the file
+-- is not read, or memory is short, and nothing is done.
 pub data AnswersAs (text : List ℕ) (turns : ℕ) (b : CBehaviour) (before after : Traffic) (answer : Outcome) :
     Type 0 where
   as_meant : IsOutcomeOf turns b answer → after.taken ≡ taken_with (output_of b) before.taken →
       AnswersAs text turns b before after answer
-  file_fault : answer ≡ FileFault → AnswersAs text turns b before after answer
-  input_fault : answer ≡ InputFault → AnswersAs text turns b before after answer
-  write_fault : answer ≡ WriteFault → AnswersAs text turns b before after answer
-  no_memory : answer ≡ NoMemory → IsShortFor text → AnswersAs text turns b before after answer
+  input_fault : answer ≡ InputFault → PutsFrontOf b before.taken after.taken →
+      AnswersAs text turns b before after answer
+  write_fault : answer ≡ WriteFault → PutsFrontOf b before.taken after.taken →
+      AnswersAs text turns b before after answer
+  short_later : answer ≡ NoMemory → MemoryIsShort → PutsFrontOf b before.taken after.taken →
+      AnswersAs text turns b before after answer
+  file_fault : answer ≡ FileFault → after ≡ before → AnswersAs text turns b before after answer
+  no_memory : answer ≡ NoMemory → after ≡ before → IsShortFor text → AnswersAs text turns b before after answer
 
 abbrev pub VmAnswersAsTheTextMeans : Type 0
 VmAnswersAsTheTextMeans =
