@@ -13,6 +13,7 @@ use crate::evaluation::{
     unary,
 };
 use c_typed_tree::{CType, TExpr};
+use c_typing_rules::types::{is_integer, is_pointer};
 
 fn is_nothing(operands: &[TExpr]) -> bool
     ensures { result ≡ spec.is_nothing (exprs_view operands.now) }
@@ -144,6 +145,47 @@ pub fn is_null_void(e: &TExpr) -> bool
         TExpr::Assign { .. } => false,
         TExpr::Conditional { .. } => false,
         TExpr::Convert { .. } => false,
+        TExpr::Index { .. } => false,
+        TExpr::Field { .. } => false,
+        TExpr::Arrow { .. } => false,
+        TExpr::Postfix { .. } => false,
+        TExpr::Comma { .. } => false,
+    }
+}
+
+/// Whether it is a null pointer as an initialiser may have it: the integer constant 0 that is cast or converted to a
+/// pointer type, maybe through several (C99 6.6p7). It takes no memory.
+#[tactic(auto, unfolding(c_typed_tree::specs::model::View::opens))]
+pub fn is_null_pointer(e: &TExpr) -> bool
+    ensures { result ≡ null.is_null_pointer (expr_view e.now) }
+{
+    match e {
+        TExpr::Cast { ty, operand } => {
+            if !is_pointer(ty) {
+                return false;
+            }
+            if is_integer(operand.ty()) {
+                return is_null_constant(operand);
+            }
+            is_null_pointer(operand)
+        }
+        TExpr::Convert { ty, operand } => {
+            if !is_pointer(ty) {
+                return false;
+            }
+            if is_integer(operand.ty()) {
+                return is_null_constant(operand);
+            }
+            is_null_pointer(operand)
+        }
+        TExpr::Number { .. } => false,
+        TExpr::Local { .. } => false,
+        TExpr::Global { .. } => false,
+        TExpr::Call { .. } => false,
+        TExpr::Unary { .. } => false,
+        TExpr::Binary { .. } => false,
+        TExpr::Assign { .. } => false,
+        TExpr::Conditional { .. } => false,
         TExpr::Index { .. } => false,
         TExpr::Field { .. } => false,
         TExpr::Arrow { .. } => false,

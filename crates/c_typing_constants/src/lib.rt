@@ -6,4 +6,6 @@ mod evaluate;
 mod evaluation;
 mod operators;
 
-pub use evaluate::{constant, is_null_constant, is_null_pointer_constant, is_null_void};
+pub use evaluate::{
+    constant, is_null_constant, is_null_pointer, is_null_pointer_constant, is_null_void,
+};

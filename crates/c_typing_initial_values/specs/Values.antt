@@ -1,12 +1,12 @@
--- The values that initialisers of objects of static storage may have (C99 6.6, 6.7.8): integer constants, null pointer
--- constants, and address constants.
+-- The values that initialisers of objects of static storage may have (C99 6.6, 6.7.8): integer constants, null pointers,
+-- and address constants.
 use Rattle.std.specs.Prelude.{ℕ, if◌then◌else◌, List, Option, Some, None, Ok}
 use Rattle.bk_arithmetic.specs.declared.integer_type.IntegerType.{IntegerType}
 use Rattle.c_typed_tree.specs.declared.types.StructDef.{StructDef}
 use Rattle.c_typed_tree.specs.Expressions.{Expr}
 use Rattle.c_typed_tree.specs.View.{expr_view}
 use Rattle.c_typed_tree.specs.Constants.{constant}
-use Rattle.c_typing_constants.specs.Null.{is_null_void}
+use Rattle.c_typing_constants.specs.Null.{is_null_pointer}
 use Rattle.c_typing_constants.specs.declared.c_constant_rules.addresses.Address.{Address}
 use Rattle.c_typing_constants.specs.c_constant_rules.Addresses.{address_constant}
 use Rattle.c_typing_faults.specs.declared.faults.Kind.TheVariants.{NotConstant}
@@ -25,7 +25,7 @@ address_value None = None
 address_value (Some a) = Some (v.Address a)
 
 abbrev pub pointer_value : List StructDef → Expr → Option InitialValue
-pointer_value ds x = if is_null_void x then Some v.Null else address_value (address_constant ds x)
+pointer_value ds x = if is_null_pointer x then Some v.Null else address_value (address_constant ds x)
 
 -- by the integer type that an expression has, if it has one
 abbrev pub value_by : List StructDef → Option IntegerType → Expr → Option InitialValue

@@ -9,7 +9,7 @@ use bk_arithmetic::integer_type::IntegerType;
 use c_typed_tree::layout::integer_of;
 use c_typed_tree::{StructDef, TExpr};
 use c_typing_constants::c_constant_rules::addresses::{Address, address_constant};
-use c_typing_constants::{constant, is_null_void};
+use c_typing_constants::{constant, is_null_pointer};
 use c_typing_faults::Kind;
 use c_typing_rules::{Refusal, TypedExpression, refuse};
 
@@ -28,7 +28,7 @@ pub enum InitialValue {
 fn pointer_value(structs: &[StructDef], tree: &TExpr) -> Option<InitialValue>
     ensures { result ≡ spec.pointer_value structs.now (expr_view tree.now) }
 {
-    if is_null_void(tree) {
+    if is_null_pointer(tree) {
         return Some(InitialValue::Null);
     }
     match address_constant(structs, tree) {
@@ -49,8 +49,8 @@ fn value_by(structs: &[StructDef], of: Option<IntegerType>, tree: &TExpr) -> Opt
     }
 }
 
-/// The value of an expression, of which an array is a pointer already: an integer constant, a null pointer constant, or
-/// an address constant (C99 6.6). What is none has the fault NotConstant.
+/// The value of an expression, of which an array is a pointer already: an integer constant, a null pointer, or an
+/// address constant (C99 6.6). What is none has the fault NotConstant.
 pub fn initial_value(structs: &[StructDef], a: &TypedExpression) -> Result<InitialValue, Refusal>
     ensures { RuleGives (spec.initial_value structs.now a.now) result }
 {

@@ -1,5 +1,6 @@
--- Address constants (C99 6.6): the address of an object of static storage, the first element of such an array or of a
--- text, and one of these moved by integer constants, each step within the object or to its end.
+-- Address constants (C99 6.6p9): a pointer to an object of static storage or to a part of it, by `&`, `*`, `[]`, `.` and
+-- `->`, by the conversion of an array, by casts, and moved by integer constants, each step within the object or to its
+-- end.
 use Rattle.std.specs.Prelude.{ℕ, ◌+◌, ◌*◌, ◌-◌, ◌^◌, nat_le, Bool, true, false, not, if◌then◌else◌, List, Option, Some, None}
 use Rattle.std.specs.Bool.{beq}
 use Rattle.bk_arithmetic.specs.declared.integer_type.IntegerType.{IntegerType}
@@ -10,11 +11,11 @@ use Rattle.c_tree.specs.declared.expressions.UnaryOp.TheVariants as u
 use Rattle.c_tree.specs.declared.expressions.BinaryOp.{BinaryOp}
 use Rattle.c_tree.specs.declared.expressions.BinaryOp.TheVariants as b
 use Rattle.c_typed_tree.specs.declared.types.StructDef.{StructDef}
-use Rattle.c_typed_tree.specs.Types.{PlainType, Pointer}
-use Rattle.c_typed_tree.specs.Expressions.{Expr, Global, Unary, Binary, Convert, type_of}
-use Rattle.c_typed_tree.specs.Layout.{integer_of, size_of, is_object}
+use Rattle.c_typed_tree.specs.Types.{PlainType, Pointer, Struct}
+use Rattle.c_typed_tree.specs.Expressions.{Expr, Global, Unary, Binary, Cast, Convert, Index, Field, Arrow, type_of}
+use Rattle.c_typed_tree.specs.Layout.{integer_of, size_of, offset_of, is_object}
 use Rattle.c_typed_tree.specs.Constants.{constant}
-use Rattle.c_typed_tree.specs.Typing.{is_array, is_pointer}
+use Rattle.c_typed_tree.specs.Typing.{is_array, is_pointer, target_of}
 use Rattle.c_typing_constants.specs.declared.c_constant_rules.addresses.Address.{Address}
 
 -- ---- objects
@@ -23,17 +24,14 @@ abbrev pub start_address : List StructDef → PlainType → (number : ℕ) → O
 start_address ds ty number =
     if is_object ds ty then Some (record { global = number; size = size_of ds ty; plus = 0 }) else None
 
-abbrev pub object_start : List StructDef → Expr → Option Address
-object_start ds (Global ty number) = start_address ds ty number
-object_start ds _ = None
+-- what `&` of an lvalue leads to, and what `*` of a pointer names
+abbrev pub address_of_lvalue : UnaryOp → Option Address → Option Address
+address_of_lvalue u.Address a = a
+address_of_lvalue _ a = None
 
--- an array stands for a pointer to its first element
-abbrev pub named_array : List StructDef → Expr → Option Address
-named_array ds x = if is_array (type_of x) then object_start ds x else None
-
-abbrev pub address_of_operand : List StructDef → UnaryOp → Expr → Option Address
-address_of_operand ds u.Address x = object_start ds x
-address_of_operand ds _ x = None
+abbrev pub lvalue_of_pointer : UnaryOp → Option Address → Option Address
+lvalue_of_pointer u.Dereference a = a
+lvalue_of_pointer _ a = None
 
 -- ---- steps, by a number of elements
 
@@ -81,26 +79,41 @@ direction b.Add = Some false
 direction b.Subtract = Some true
 direction _ = None
 
--- ---- address constants
-
 abbrev pub moved_either : List StructDef → Option Bool → (left right : Expr) → (of_left of_right : Option Address) →
     Option Address
 moved_either ds None x y a c = None
 moved_either ds (Some back) x y a c =
     if is_pointer (type_of x) then moved_by ds a x back y else moved_by ds c y back x
 
-abbrev pub constant_place : List StructDef → Expr → Option Address
-constant_place ds (Unary ty op x) = address_of_operand ds op x
-constant_place ds (Convert ty x) = named_array ds x
-constant_place ds (Binary ty op x y) = moved_either ds (direction op) x y (constant_place ds x) (constant_place ds y)
-constant_place ds _ = None
+-- ---- members
 
--- the same, converted to another pointer type at last
-abbrev pub converted_place : List StructDef → (whole operand : Expr) → Option Address
-converted_place ds whole x = if is_pointer (type_of x) then constant_place ds x else constant_place ds whole
+abbrev pub address_behind : (bytes : ℕ) → Option Address → Option Address
+address_behind bytes None = None
+address_behind bytes (Some a) = address_after a bytes
 
-abbrev pub address_constant : List StructDef → Expr → Option Address
-address_constant ds (Convert ty x) = converted_place ds (Convert ty x) x
-address_constant ds (Unary ty op x) = constant_place ds (Unary ty op x)
-address_constant ds (Binary ty op x y) = constant_place ds (Binary ty op x y)
-address_constant ds _ = None
+-- a member of the struct that stands there
+abbrev pub member_place : List StructDef → PlainType → (member : ℕ) → Option Address → Option Address
+member_place ds (Struct number) member a = address_behind (offset_of ds number member) a
+member_place ds _ member a = None
+
+-- ---- address constants
+
+abbrev mutual
+  -- where a pointer leads to
+  pub address_constant : List StructDef → Expr → Option Address
+  address_constant ds (Unary ty op x) = address_of_lvalue op (constant_lvalue ds x)
+  address_constant ds (Convert ty x) = if is_array (type_of x) then constant_lvalue ds x else address_constant ds x
+  address_constant ds (Cast ty x) = if is_pointer ty then address_constant ds x else None
+  address_constant ds (Binary ty op x y) =
+      moved_either ds (direction op) x y (address_constant ds x) (address_constant ds y)
+  address_constant ds _ = None
+
+  -- what an lvalue names
+  pub constant_lvalue : List StructDef → Expr → Option Address
+  constant_lvalue ds (Global ty number) = start_address ds ty number
+  constant_lvalue ds (Unary ty op x) = lvalue_of_pointer op (address_constant ds x)
+  constant_lvalue ds (Index ty x y) =
+      moved_either ds (Some false) x y (address_constant ds x) (address_constant ds y)
+  constant_lvalue ds (Field ty x member) = member_place ds (type_of x) member (constant_lvalue ds x)
+  constant_lvalue ds (Arrow ty x member) = member_place ds (target_of (type_of x)) member (address_constant ds x)
+  constant_lvalue ds _ = None

@@ -1,4 +1,4 @@
-//! Address constants (C99 6.6): the address of an object of static storage, or a place within one.
+//! Address constants (C99 6.6p9): the address of an object of static storage, or a place within one.
 
 ghost use Rattle.std.specs.Prelude.{◌≡◌};
 ghost use Rattle.c_typed_tree.specs.View.{expr_view, type_view};
@@ -8,7 +8,7 @@ ghost use Rattle.c_typing_constants.specs.c_constant_rules.Addresses as spec;
 use crate::constant;
 use bk_arithmetic::integer_type::IntegerType;
 use c_tree::{BinaryOp, UnaryOp};
-use c_typed_tree::layout::{integer_of, size_of};
+use c_typed_tree::layout::{integer_of, offset_of, size_of};
 use c_typed_tree::{CType, StructDef, TExpr};
 use c_typing_rules::types::{is_object, is_pointer};
 
@@ -50,49 +50,31 @@ fn is_array(ty: &CType) -> bool
     }
 }
 
-/// The start of the object that an expression names.
-#[tactic(auto, unfolding(c_typed_tree::specs::model::View::opens))]
-fn object_start(structs: &[StructDef], e: &TExpr) -> Option<Address>
-    ensures { result ≡ spec.object_start structs.now (expr_view e.now) }
-{
-    match e {
-        TExpr::Global { ty, number } => start_of(structs, ty, *number),
-        TExpr::Number { .. } => None,
-        TExpr::Local { .. } => None,
-        TExpr::Call { .. } => None,
-        TExpr::Unary { .. } => None,
-        TExpr::Binary { .. } => None,
-        TExpr::Assign { .. } => None,
-        TExpr::Conditional { .. } => None,
-        TExpr::Cast { .. } => None,
-        TExpr::Convert { .. } => None,
-        TExpr::Index { .. } => None,
-        TExpr::Field { .. } => None,
-        TExpr::Arrow { .. } => None,
-        TExpr::Postfix { .. } => None,
-        TExpr::Comma { .. } => None,
-    }
-}
-
-/// The start of an array that an expression names.
-fn named_array(structs: &[StructDef], e: &TExpr) -> Option<Address>
-    ensures { result ≡ spec.named_array structs.now (expr_view e.now) }
-{
-    if is_array(e.ty()) {
-        return object_start(structs, e);
-    }
-    None
-}
-
-/// The operand of an operator in front, where it is `&`.
-fn address_of_operand(structs: &[StructDef], op: UnaryOp, e: &TExpr) -> Option<Address>
-    ensures { result ≡ spec.address_of_operand structs.now op (expr_view e.now) }
+/// What an operator leads to in front of an lvalue that stands there, where it is `&`.
+fn address_of_lvalue(op: UnaryOp, place: Option<Address>) -> Option<Address>
+    ensures { result ≡ spec.address_of_lvalue op place }
 {
     match op {
-        UnaryOp::Address => object_start(structs, e),
+        UnaryOp::Address => place,
         UnaryOp::Increment => None,
         UnaryOp::Decrement => None,
         UnaryOp::Dereference => None,
+        UnaryOp::Plus => None,
+        UnaryOp::Minus => None,
+        UnaryOp::Invert => None,
+        UnaryOp::Not => None,
+    }
+}
+
+/// What an operator names in front of a pointer that leads there, where it is `*`.
+fn lvalue_of_pointer(op: UnaryOp, place: Option<Address>) -> Option<Address>
+    ensures { result ≡ spec.lvalue_of_pointer op place }
+{
+    match op {
+        UnaryOp::Dereference => place,
+        UnaryOp::Increment => None,
+        UnaryOp::Decrement => None,
+        UnaryOp::Address => None,
         UnaryOp::Plus => None,
         UnaryOp::Minus => None,
         UnaryOp::Invert => None,
@@ -247,15 +229,70 @@ fn direction(op: BinaryOp) -> Option<bool>
     }
 }
 
-/// Where an expression of pointer type is an address constant, apart from a conversion around it: the place that it
-/// leads to.
+/// A member of a struct of a type that stands there.
 #[tactic(auto, unfolding(c_typed_tree::specs::model::View::opens))]
-fn place(structs: &[StructDef], e: &TExpr) -> Option<Address>
-    ensures { result ≡ spec.constant_place structs.now (expr_view e.now) }
+fn member_place(
+    structs: &[StructDef],
+    ty: &CType,
+    member: u32,
+    from: Option<Address>,
+) -> Option<Address>
+    ensures { result ≡ spec.member_place structs.now (type_view ty.now) member from }
+{
+    match ty {
+        CType::Struct(number) => match from {
+            None => None,
+            Some(from) => forward(from, u128::from(offset_of(structs, *number, member))),
+        },
+        CType::Void => None,
+        CType::Int { .. } => None,
+        CType::Pointer(_) => None,
+        CType::Array(_, _) => None,
+    }
+}
+
+/// A member of the struct that a pointer of a type leads to.
+#[tactic(auto, unfolding(c_typed_tree::specs::model::View::opens))]
+fn member_behind(
+    structs: &[StructDef],
+    ty: &CType,
+    member: u32,
+    from: Option<Address>,
+) -> Option<Address>
+    ensures { result ≡ spec.member_place structs.now (typing.target_of (type_view ty.now)) member from }
+{
+    match ty {
+        CType::Pointer(target) => member_place(structs, target, member, from),
+        CType::Void => None,
+        CType::Int { .. } => None,
+        CType::Array(_, _) => None,
+        CType::Struct(_) => None,
+    }
+}
+
+/// The address that an initialiser of an object of static storage gives: a pointer to such an object or to a part of it,
+/// each step within the object. `None` of what is no such constant.
+#[cycle(address_constant)]
+#[tactic(auto, unfolding(c_typed_tree::specs::model::View::opens))]
+pub fn address_constant(structs: &[StructDef], e: &TExpr) -> Option<Address>
+    ensures { result ≡ spec.address_constant structs.now (expr_view e.now) }
 {
     match e {
-        TExpr::Unary { op, operand, .. } => address_of_operand(structs, *op, operand),
-        TExpr::Convert { operand, .. } => named_array(structs, operand),
+        TExpr::Unary { op, operand, .. } => {
+            address_of_lvalue(*op, constant_lvalue(structs, operand))
+        }
+        TExpr::Convert { operand, .. } => {
+            if is_array(operand.ty()) {
+                return constant_lvalue(structs, operand);
+            }
+            address_constant(structs, operand)
+        }
+        TExpr::Cast { ty, operand } => {
+            if is_pointer(ty) {
+                return address_constant(structs, operand);
+            }
+            None
+        }
         TExpr::Binary {
             op,
             left,
@@ -265,9 +302,9 @@ fn place(structs: &[StructDef], e: &TExpr) -> Option<Address>
             None => None,
             Some(back) => {
                 if is_pointer(left.ty()) {
-                    return moved_by(structs, place(structs, left), left, back, right);
+                    return moved_by(structs, address_constant(structs, left), left, back, right);
                 }
-                moved_by(structs, place(structs, right), right, back, left)
+                moved_by(structs, address_constant(structs, right), right, back, left)
             }
         },
         TExpr::Number { .. } => None,
@@ -276,7 +313,6 @@ fn place(structs: &[StructDef], e: &TExpr) -> Option<Address>
         TExpr::Call { .. } => None,
         TExpr::Assign { .. } => None,
         TExpr::Conditional { .. } => None,
-        TExpr::Cast { .. } => None,
         TExpr::Index { .. } => None,
         TExpr::Field { .. } => None,
         TExpr::Arrow { .. } => None,
@@ -285,37 +321,57 @@ fn place(structs: &[StructDef], e: &TExpr) -> Option<Address>
     }
 }
 
-/// What is converted from one pointer type to another; else the expression itself.
-fn converted_place(structs: &[StructDef], whole: &TExpr, operand: &TExpr) -> Option<Address>
-    ensures { result ≡ spec.converted_place structs.now (expr_view whole.now) (expr_view operand.now) }
-{
-    if is_pointer(operand.ty()) {
-        return place(structs, operand);
-    }
-    place(structs, whole)
-}
-
-/// The address that an initialiser of an object of static storage gives: that of an object, of the first element of an
-/// array or text, or one such moved by integer constants, each step within the object. It may be converted to another
-/// pointer type at last. `None` of what is no such constant.
+/// The object of static storage, or the part of one, that an lvalue names.
+#[cycle(address_constant)]
 #[tactic(auto, unfolding(c_typed_tree::specs::model::View::opens))]
-pub fn address_constant(structs: &[StructDef], e: &TExpr) -> Option<Address>
-    ensures { result ≡ spec.address_constant structs.now (expr_view e.now) }
+fn constant_lvalue(structs: &[StructDef], e: &TExpr) -> Option<Address>
+    ensures { result ≡ spec.constant_lvalue structs.now (expr_view e.now) }
 {
     match e {
-        TExpr::Convert { operand, .. } => converted_place(structs, e, operand),
-        TExpr::Unary { .. } => place(structs, e),
-        TExpr::Binary { .. } => place(structs, e),
+        TExpr::Global { ty, number } => start_of(structs, ty, *number),
+        TExpr::Unary { op, operand, .. } => {
+            lvalue_of_pointer(*op, address_constant(structs, operand))
+        }
+        TExpr::Index { left, right, .. } => {
+            if is_pointer(left.ty()) {
+                return moved_by(structs, address_constant(structs, left), left, false, right);
+            }
+            moved_by(
+                structs,
+                address_constant(structs, right),
+                right,
+                false,
+                left,
+            )
+        }
+        TExpr::Field {
+            operand,
+            member,
+            ..
+        } => member_place(
+            structs,
+            operand.ty(),
+            *member,
+            constant_lvalue(structs, operand),
+        ),
+        TExpr::Arrow {
+            operand,
+            member,
+            ..
+        } => member_behind(
+            structs,
+            operand.ty(),
+            *member,
+            address_constant(structs, operand),
+        ),
         TExpr::Number { .. } => None,
         TExpr::Local { .. } => None,
-        TExpr::Global { .. } => None,
         TExpr::Call { .. } => None,
+        TExpr::Binary { .. } => None,
         TExpr::Assign { .. } => None,
         TExpr::Conditional { .. } => None,
         TExpr::Cast { .. } => None,
-        TExpr::Index { .. } => None,
-        TExpr::Field { .. } => None,
-        TExpr::Arrow { .. } => None,
+        TExpr::Convert { .. } => None,
         TExpr::Postfix { .. } => None,
         TExpr::Comma { .. } => None,
     }

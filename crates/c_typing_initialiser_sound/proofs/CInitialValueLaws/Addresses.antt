@@ -1,19 +1,19 @@
 -- Address constants of well typed expressions.
-use Rattle.std.proofs.Common.{◌≤◌, ℕ, ◌+◌, ◌*◌, ◌-◌, ◌==◌, nat_le, Bool, ◌&&◌, IsTrue, List, slice_get, Option, Some, None, IfOk, IfSome, sym, ◌∙◌, arith, leb-true}
+use Rattle.std.proofs.Common.{◌≤◌, ℕ, ◌+◌, ◌*◌, ◌-◌, ◌==◌, nat_le, Bool, false, ◌&&◌, IsTrue, List, slice_get, Option, Some, None, IfOk, IfSome, sym, ◌∙◌, arith, leb-true}
 use Rattle.std.proofs.lemmas.Bool.{eqb-true}
 use Rattle.bk_arithmetic.specs.declared.integer_type.IntegerType.{IntegerType}
 use Rattle.c_tree.specs.declared.expressions.UnaryOp.{UnaryOp}
 use Rattle.c_tree.specs.declared.expressions.UnaryOp.TheVariants as u
 use Rattle.c_typed_tree.specs.declared.types.StructDef.{StructDef}
-use Rattle.c_typed_tree.specs.Types.{PlainType}
+use Rattle.c_typed_tree.specs.Types.{PlainType, Void, Int, Pointer, Array, Struct}
 use Rattle.c_typed_tree.specs.Expressions.{Expr, Number, Local, Global, Call, Unary, Binary, Assign, Conditional, Cast, Convert, Index, Field, Arrow, Postfix, Comma, type_of}
 use Rattle.c_typed_tree.specs.View.{expr_view}
-use Rattle.c_typed_tree.specs.Layout.{is_object, size_of, integer_of}
+use Rattle.c_typed_tree.specs.Layout.{is_object, size_of, offset_of, integer_of}
 use Rattle.c_typed_tree.specs.Constants.{constant}
-use Rattle.c_typed_tree.specs.Typing.{Context, is_array, is_pointer, is_fit, has_global_type, has_rule, is_typed}
-use Rattle.c_typing_constants.specs.Null.{is_null_void}
+use Rattle.c_typed_tree.specs.Typing.{Context, is_array, is_pointer, target_of, is_fit, has_global_type, has_rule, is_typed}
+use Rattle.c_typing_constants.specs.Null.{is_null_pointer}
 use Rattle.c_typing_constants.specs.declared.c_constant_rules.addresses.Address.{Address}
-use Rattle.c_typing_constants.specs.c_constant_rules.Addresses.{object_start, named_array, address_of_operand, address_after, address_before, goes_back, magnitude, target_size, move_pointer, direction, moved_either, constant_place, address_constant}
+use Rattle.c_typing_constants.specs.c_constant_rules.Addresses.{start_address, address_of_lvalue, lvalue_of_pointer, address_after, address_before, goes_back, magnitude, target_size, move_pointer, direction, moved_either, member_place, address_constant, constant_lvalue}
 use Rattle.c_typing_rules.specs.declared.typed.TypedExpression.{TypedExpression}
 use Rattle.c_typing_rules.specs.Values.{integer}
 use Rattle.mem_objects.specs.declared.DataObject.{DataObject}
@@ -32,37 +32,30 @@ module _ (c : Context) (ds : List StructDef) (known : AreKnown ds c.structs) whe
   size_there None ty h k = no_true h
   size_there (Some o) ty h k = sym (eqb-true (size_of c.structs ty) o.size (back (is_object c.structs ty) (size_of c.structs ty == o.size) h)) ∙ known_size ds c.structs known ty k
 
-  object_there : (x : Expr) → IsTrue (is_typed c x) → IfSome (object_start ds x) Is
-  object_there (Global ty number) h =
+  start_there : (ty : PlainType) (number : ℕ) → IsTrue (is_typed c (Global ty number)) → IfSome (start_address ds ty number) Is
+  start_there ty number h =
       given_some Is (is_object ds ty) (Some (record { global = number; size = size_of ds ty; plus = 0 })) None
       (λ k. record { there = size_there (slice_get c.globals number) ty (back (is_fit c.structs ty) (has_rule c (Global ty number)) h) k; within = omega arith }) (λ k. tt)
-  object_there (Number ty n) h = tt
-  object_there (Local ty k) h = tt
-  object_there (Call ty callee xs) h = tt
-  object_there (Unary ty op x) h = tt
-  object_there (Binary ty op x y) h = tt
-  object_there (Assign ty op x y) h = tt
-  object_there (Conditional ty x y z) h = tt
-  object_there (Cast ty x) h = tt
-  object_there (Convert ty x) h = tt
-  object_there (Index ty x y) h = tt
-  object_there (Field ty x member) h = tt
-  object_there (Arrow ty x member) h = tt
-  object_there (Postfix ty op x) h = tt
-  object_there (Comma ty xs) h = tt
 
-  array_there : (x : Expr) → IsTrue (is_typed c x) → IfSome (named_array ds x) Is
-  array_there x h = given_some Is (is_array (type_of x)) (object_start ds x) None (λ k. object_there x h) (λ k. tt)
+  address_of_there : (op : UnaryOp) (a : Option Address) → IfSome a Is → IfSome (address_of_lvalue op a) Is
+  address_of_there u.Address a h = h
+  address_of_there u.Increment a h = tt
+  address_of_there u.Decrement a h = tt
+  address_of_there u.Dereference a h = tt
+  address_of_there u.Plus a h = tt
+  address_of_there u.Minus a h = tt
+  address_of_there u.Invert a h = tt
+  address_of_there u.Not a h = tt
 
-  operand_there : (op : UnaryOp) (x : Expr) → IsTrue (is_typed c x) → IfSome (address_of_operand ds op x) Is
-  operand_there u.Address x h = object_there x h
-  operand_there u.Increment x h = tt
-  operand_there u.Decrement x h = tt
-  operand_there u.Dereference x h = tt
-  operand_there u.Plus x h = tt
-  operand_there u.Minus x h = tt
-  operand_there u.Invert x h = tt
-  operand_there u.Not x h = tt
+  lvalue_of_there : (op : UnaryOp) (a : Option Address) → IfSome a Is → IfSome (lvalue_of_pointer op a) Is
+  lvalue_of_there u.Dereference a h = h
+  lvalue_of_there u.Increment a h = tt
+  lvalue_of_there u.Decrement a h = tt
+  lvalue_of_there u.Address a h = tt
+  lvalue_of_there u.Plus a h = tt
+  lvalue_of_there u.Minus a h = tt
+  lvalue_of_there u.Invert a h = tt
+  lvalue_of_there u.Not a h = tt
 
   -- ---- steps
 
@@ -90,44 +83,57 @@ module _ (c : Context) (ds : List StructDef) (known : AreKnown ds c.structs) whe
       given_some Is (is_pointer (type_of x)) (move_pointer a (target_size ds (type_of x)) turned (integer_of (type_of y)) (constant y)) (move_pointer b (target_size ds (type_of y)) turned (integer_of (type_of x)) (constant x))
       (λ k. moved_there a (target_size ds (type_of x)) turned (integer_of (type_of y)) (constant y) h) (λ k. moved_there b (target_size ds (type_of y)) turned (integer_of (type_of x)) (constant x) g)
 
+  member_there : (ty : PlainType) (member : ℕ) (a : Option Address) → IfSome a Is → IfSome (member_place ds ty member a) Is
+  member_there (Struct number) member None h = tt
+  member_there (Struct number) member (Some a) h = forward_there a (offset_of ds number member) h
+  member_there Void member a h = tt
+  member_there (Int n s) member a h = tt
+  member_there (Pointer t) member a h = tt
+  member_there (Array t n) member a h = tt
+
   -- ---- address constants
 
-  place_there : (x : Expr) → IsTrue (is_typed c x) → IfSome (constant_place ds x) Is
-  place_there (Unary ty op x) h = operand_there op x (back (is_fit c.structs ty && has_rule c (Unary ty op x)) (is_typed c x) h)
-  place_there (Convert ty x) h = array_there x (back (is_fit c.structs ty && has_rule c (Convert ty x)) (is_typed c x) h)
-  place_there (Binary ty op x y) h =
-      let own = is_fit c.structs ty && has_rule c (Binary ty op x y) in
-      either_there (direction op) x y (constant_place ds x) (constant_place ds y) (place_there x (back own (is_typed c x) (front (own && is_typed c x) (is_typed c y) h))) (place_there y (back (own && is_typed c x) (is_typed c y) h))
-  place_there (Global ty number) h = tt
-  place_there (Number ty n) h = tt
-  place_there (Local ty k) h = tt
-  place_there (Call ty callee xs) h = tt
-  place_there (Assign ty op x y) h = tt
-  place_there (Conditional ty x y z) h = tt
-  place_there (Cast ty x) h = tt
-  place_there (Index ty x y) h = tt
-  place_there (Field ty x member) h = tt
-  place_there (Arrow ty x member) h = tt
-  place_there (Postfix ty op x) h = tt
-  place_there (Comma ty xs) h = tt
+  mutual
+    constant_there : (x : Expr) → IsTrue (is_typed c x) → IfSome (address_constant ds x) Is
+    constant_there (Unary ty op x) h = address_of_there op (constant_lvalue ds x) (lvalue_there x (back (is_fit c.structs ty && has_rule c (Unary ty op x)) (is_typed c x) h))
+    constant_there (Convert ty x) h =
+        let whole : IsTrue (is_typed c x) = back (is_fit c.structs ty && has_rule c (Convert ty x)) (is_typed c x) h in
+        given_some Is (is_array (type_of x)) (constant_lvalue ds x) (address_constant ds x) (λ k. lvalue_there x whole) (λ k. constant_there x whole)
+    constant_there (Cast ty x) h =
+        given_some Is (is_pointer ty) (address_constant ds x) None (λ k. constant_there x (back (is_fit c.structs ty && has_rule c (Cast ty x)) (is_typed c x) h)) (λ k. tt)
+    constant_there (Binary ty op x y) h =
+        let own = is_fit c.structs ty && has_rule c (Binary ty op x y) in
+        either_there (direction op) x y (address_constant ds x) (address_constant ds y) (constant_there x (back own (is_typed c x) (front (own && is_typed c x) (is_typed c y) h))) (constant_there y (back (own && is_typed c x) (is_typed c y) h))
+    constant_there (Global ty number) h = tt
+    constant_there (Number ty n) h = tt
+    constant_there (Local ty k) h = tt
+    constant_there (Call ty callee xs) h = tt
+    constant_there (Assign ty op x y) h = tt
+    constant_there (Conditional ty x y z) h = tt
+    constant_there (Index ty x y) h = tt
+    constant_there (Field ty x member) h = tt
+    constant_there (Arrow ty x member) h = tt
+    constant_there (Postfix ty op x) h = tt
+    constant_there (Comma ty xs) h = tt
 
-  constant_there : (x : Expr) → IsTrue (is_typed c x) → IfSome (address_constant ds x) Is
-  constant_there (Convert ty x) h =
-      given_some Is (is_pointer (type_of x)) (constant_place ds x) (constant_place ds (Convert ty x)) (λ k. place_there x (back (is_fit c.structs ty && has_rule c (Convert ty x)) (is_typed c x) h)) (λ k. place_there (Convert ty x) h)
-  constant_there (Unary ty op x) h = place_there (Unary ty op x) h
-  constant_there (Binary ty op x y) h = place_there (Binary ty op x y) h
-  constant_there (Global ty number) h = tt
-  constant_there (Number ty n) h = tt
-  constant_there (Local ty k) h = tt
-  constant_there (Call ty callee xs) h = tt
-  constant_there (Assign ty op x y) h = tt
-  constant_there (Conditional ty x y z) h = tt
-  constant_there (Cast ty x) h = tt
-  constant_there (Index ty x y) h = tt
-  constant_there (Field ty x member) h = tt
-  constant_there (Arrow ty x member) h = tt
-  constant_there (Postfix ty op x) h = tt
-  constant_there (Comma ty xs) h = tt
+    lvalue_there : (x : Expr) → IsTrue (is_typed c x) → IfSome (constant_lvalue ds x) Is
+    lvalue_there (Global ty number) h = start_there ty number h
+    lvalue_there (Unary ty op x) h = lvalue_of_there op (address_constant ds x) (constant_there x (back (is_fit c.structs ty && has_rule c (Unary ty op x)) (is_typed c x) h))
+    lvalue_there (Index ty x y) h =
+        let own = is_fit c.structs ty && has_rule c (Index ty x y) in
+        either_there (Some false) x y (address_constant ds x) (address_constant ds y) (constant_there x (back own (is_typed c x) (front (own && is_typed c x) (is_typed c y) h))) (constant_there y (back (own && is_typed c x) (is_typed c y) h))
+    lvalue_there (Field ty x member) h = member_there (type_of x) member (constant_lvalue ds x) (lvalue_there x (back (is_fit c.structs ty && has_rule c (Field ty x member)) (is_typed c x) h))
+    lvalue_there (Arrow ty x member) h = member_there (target_of (type_of x)) member (address_constant ds x) (constant_there x (back (is_fit c.structs ty && has_rule c (Arrow ty x member)) (is_typed c x) h))
+    lvalue_there (Number ty n) h = tt
+    lvalue_there (Local ty k) h = tt
+    lvalue_there (Call ty callee xs) h = tt
+    lvalue_there (Binary ty op x y) h = tt
+    lvalue_there (Assign ty op x y) h = tt
+    lvalue_there (Conditional ty x y z) h = tt
+    lvalue_there (Cast ty x) h = tt
+    lvalue_there (Convert ty x) h = tt
+    lvalue_there (Postfix ty op x) h = tt
+    lvalue_there (Comma ty xs) h = tt
 
   -- ---- values
 
@@ -143,7 +149,7 @@ module _ (c : Context) (ds : List StructDef) (known : AreKnown ds c.structs) whe
   word_value_there t (Some w) = tt
 
   by_there : (t : Option IntegerType) (x : Expr) → IsTrue (is_typed c x) → IfSome (value_by ds t x) IsValue
-  by_there None x h = given_some IsValue (is_null_void x) _ (address_value (address_constant ds x)) (λ k. tt) (λ k. address_value_there (address_constant ds x) (constant_there x h))
+  by_there None x h = given_some IsValue (is_null_pointer x) _ (address_value (address_constant ds x)) (λ k. tt) (λ k. address_value_there (address_constant ds x) (constant_there x h))
   by_there (Some t) x h = word_value_there t (constant x)
 
   or_fault : (at : ℕ) (o : Option InitialValue) → IfSome o IsValue → IfOk (initial_or_fault at o) IsValue
