@@ -92,9 +92,9 @@ address_behind bytes None = None
 address_behind bytes (Some a) = address_after a bytes
 
 -- a member of the struct that stands there
-abbrev pub member_place : List StructDef → PlainType → (member : ℕ) → Option Address → Option Address
-member_place ds (Struct number) member a = address_behind (offset_of ds number member) a
-member_place ds _ member a = None
+abbrev pub constant_member : List StructDef → PlainType → (member : ℕ) → Option Address → Option Address
+constant_member ds (Struct number) member a = address_behind (offset_of ds number member) a
+constant_member ds _ member a = None
 
 -- ---- address constants
 
@@ -114,6 +114,6 @@ abbrev mutual
   constant_lvalue ds (Unary ty op x) = lvalue_of_pointer op (address_constant ds x)
   constant_lvalue ds (Index ty x y) =
       moved_either ds (Some false) x y (address_constant ds x) (address_constant ds y)
-  constant_lvalue ds (Field ty x member) = member_place ds (type_of x) member (constant_lvalue ds x)
-  constant_lvalue ds (Arrow ty x member) = member_place ds (target_of (type_of x)) member (address_constant ds x)
+  constant_lvalue ds (Field ty x member) = constant_member ds (type_of x) member (constant_lvalue ds x)
+  constant_lvalue ds (Arrow ty x member) = constant_member ds (target_of (type_of x)) member (address_constant ds x)
   constant_lvalue ds _ = None

@@ -231,13 +231,13 @@ fn direction(op: BinaryOp) -> Option<bool>
 
 /// A member of a struct of a type that stands there.
 #[tactic(auto, unfolding(c_typed_tree::specs::model::View::opens))]
-fn member_place(
+fn constant_member(
     structs: &[StructDef],
     ty: &CType,
     member: u32,
     from: Option<Address>,
 ) -> Option<Address>
-    ensures { result ≡ spec.member_place structs.now (type_view ty.now) member from }
+    ensures { result ≡ spec.constant_member structs.now (type_view ty.now) member from }
 {
     match ty {
         CType::Struct(number) => match from {
@@ -259,10 +259,10 @@ fn member_behind(
     member: u32,
     from: Option<Address>,
 ) -> Option<Address>
-    ensures { result ≡ spec.member_place structs.now (typing.target_of (type_view ty.now)) member from }
+    ensures { result ≡ spec.constant_member structs.now (typing.target_of (type_view ty.now)) member from }
 {
     match ty {
-        CType::Pointer(target) => member_place(structs, target, member, from),
+        CType::Pointer(target) => constant_member(structs, target, member, from),
         CType::Void => None,
         CType::Int { .. } => None,
         CType::Array(_, _) => None,
@@ -348,7 +348,7 @@ fn constant_lvalue(structs: &[StructDef], e: &TExpr) -> Option<Address>
             operand,
             member,
             ..
-        } => member_place(
+        } => constant_member(
             structs,
             operand.ty(),
             *member,

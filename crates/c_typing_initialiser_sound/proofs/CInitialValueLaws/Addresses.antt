@@ -13,7 +13,7 @@ use Rattle.c_typed_tree.specs.Constants.{constant}
 use Rattle.c_typed_tree.specs.Typing.{Context, is_array, is_pointer, target_of, is_fit, has_global_type, has_rule, is_typed}
 use Rattle.c_typing_constants.specs.Null.{is_null_pointer}
 use Rattle.c_typing_constants.specs.declared.c_constant_rules.addresses.Address.{Address}
-use Rattle.c_typing_constants.specs.c_constant_rules.Addresses.{start_address, address_of_lvalue, lvalue_of_pointer, address_after, address_before, goes_back, magnitude, target_size, move_pointer, direction, moved_either, member_place, address_constant, constant_lvalue}
+use Rattle.c_typing_constants.specs.c_constant_rules.Addresses.{start_address, address_of_lvalue, lvalue_of_pointer, address_after, address_before, goes_back, magnitude, target_size, move_pointer, direction, moved_either, constant_member, address_constant, constant_lvalue}
 use Rattle.c_typing_rules.specs.declared.typed.TypedExpression.{TypedExpression}
 use Rattle.c_typing_rules.specs.Values.{integer}
 use Rattle.mem_objects.specs.declared.DataObject.{DataObject}
@@ -83,7 +83,7 @@ module _ (c : Context) (ds : List StructDef) (known : AreKnown ds c.structs) whe
       given_some Is (is_pointer (type_of x)) (move_pointer a (target_size ds (type_of x)) turned (integer_of (type_of y)) (constant y)) (move_pointer b (target_size ds (type_of y)) turned (integer_of (type_of x)) (constant x))
       (λ k. moved_there a (target_size ds (type_of x)) turned (integer_of (type_of y)) (constant y) h) (λ k. moved_there b (target_size ds (type_of y)) turned (integer_of (type_of x)) (constant x) g)
 
-  member_there : (ty : PlainType) (member : ℕ) (a : Option Address) → IfSome a Is → IfSome (member_place ds ty member a) Is
+  member_there : (ty : PlainType) (member : ℕ) (a : Option Address) → IfSome a Is → IfSome (constant_member ds ty member a) Is
   member_there (Struct number) member None h = tt
   member_there (Struct number) member (Some a) h = forward_there a (offset_of ds number member) h
   member_there Void member a h = tt
