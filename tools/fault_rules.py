@@ -114,8 +114,9 @@ RULES = {
     "NotConstant": (
         "An integer constant is built of literals, enumeration constants, `sizeof`, casts to integers and the "
         "operators without effects, and it neither traps nor is undefined (6.6 p3, p6). At file scope an "
-        "initialiser may also be a null pointer constant or an address constant (6.6 p7, p9): the address of an "
-        "object of file scope, such an array or a text, plus or minus an integer constant, within the object.",
+        "initialiser may also be a null pointer or an address constant (6.6 p7, p9): a pointer to an object of file "
+        "scope, a text, or a part of these, by `&`, `*`, `[]`, `.`, `->`, casts and integer constants, each step "
+        "within the object.",
         [
             ("the length of an array is no integer constant", "the length", "6.6 p6, 6.7.5.2 p1",
              ["c_typing_constants::length_of"]),
