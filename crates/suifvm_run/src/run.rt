@@ -5,7 +5,7 @@ ghost use Rattle.machine_model.specs.Machine.{Config};
 ghost use Rattle.mem_model.specs.World.{Rooms};
 ghost use Rattle.suifvm_ir.specs.Programs as programs;
 ghost use Rattle.suifvm_run.specs.Run.{VmBehaves, input_faults_after, output_faults_after};
-ghost use Rattle.bk_io.specs.Outside.{Traffic};
+ghost use Rattle.bk_io.specs.Outside.{Traffic, traffic_of};
 ghost use Rattle.suifvm_machine.specs.Begin.{start_at};
 ghost use Rattle.suifvm_machine.specs.Config as config;
 ghost use Rattle.suifvm_run.specs.model.Falls.{AreMarked, machine_left};
@@ -18,7 +18,7 @@ ghost use Rattle.suifvm_operations.specs.Tidy.{MemoryIsTidy};
 
 use crate::ending::VmEnding;
 use crate::quick::quick_step;
-use bk_io::outside::{Sink, Source};
+use bk_io::outside::{Sink, Source, ask};
 use bk_memory::memory_is_short;
 use mem_model::memory::Mem;
 use mem_model::value::Value;
@@ -70,9 +70,9 @@ fn slow_step<I: Source, O: Sink>(
     ensures falls { IfNone result (machine_left machine.new < machine_left machine.old) }
     ensures run { (rooms : Rooms) (start : Config Registers) (told : Traffic) →
         progress.StandsAt rooms machine.old.program.now start told
-        (record { left = I.left input.old; made = I.made input.old; taken = O.taken out.old }) machine.old →
+        (traffic_of I.left I.made O.taken input.old out.old) machine.old →
         progress.TurnEnds rooms machine.old.program.now start turns told
-        (record { left = I.left input.new; made = I.made input.new; taken = O.taken out.new }) machine.new result }
+        (traffic_of I.left I.made O.taken input.new out.new) machine.new result }
     ensures input_count { I.faults input.new
         ≡ input_faults_after (unwrap_or result VmEnding.NoMemory) (I.faults input.old) }
     ensures output_count { O.faults out.new
@@ -85,7 +85,7 @@ fn slow_step<I: Source, O: Sink>(
             Ok(()) => None,
             Err(_) => Some(VmEnding::WriteFault),
         },
-        StepResult::Takes(destination) => match input.next() {
+        StepResult::Takes(destination) => match ask(input, out) {
             Err(_) => Some(VmEnding::InputFault),
             Ok(byte) => match machine.write(destination, Value::Word(word_of(byte))) {
                 Ok(()) => None,
@@ -115,9 +115,9 @@ fn step<I: Source, O: Sink>(
     ensures falls { IfNone result (machine_left machine.new < machine_left machine.old) }
     ensures run { (rooms : Rooms) (start : Config Registers) (told : Traffic) →
         progress.StandsAt rooms machine.old.program.now start told
-        (record { left = I.left input.old; made = I.made input.old; taken = O.taken out.old }) machine.old →
+        (traffic_of I.left I.made O.taken input.old out.old) machine.old →
         progress.TurnEnds rooms machine.old.program.now start turns told
-        (record { left = I.left input.new; made = I.made input.new; taken = O.taken out.new }) machine.new result }
+        (traffic_of I.left I.made O.taken input.new out.new) machine.new result }
     ensures input_count { I.faults input.new
         ≡ input_faults_after (unwrap_or result VmEnding.NoMemory) (I.faults input.old) }
     ensures output_count { O.faults out.new
@@ -141,9 +141,9 @@ pub(crate) fn run_machine<I: Source, O: Sink>(
     requires marked { AreMarked (config.program_of machine.old) }
     ensures run { (rooms : Rooms) (start : Config Registers) (told : Traffic) →
         progress.StandsAt rooms machine.old.program.now start told
-        (record { left = I.left input.old; made = I.made input.old; taken = O.taken out.old }) machine.old →
+        (traffic_of I.left I.made O.taken input.old out.old) machine.old →
         IsRun (progress.run_from rooms machine.old.program.now start) turns result told
-        (record { left = I.left input.new; made = I.made input.new; taken = O.taken out.new }) }
+        (traffic_of I.left I.made O.taken input.new out.new) }
     ensures input_count { I.faults input.new ≡ input_faults_after result (I.faults input.old) }
     ensures output_count { O.faults out.new ≡ output_faults_after result (O.faults out.old) }
 {
@@ -196,8 +196,8 @@ fn run_table<I: Source, O: Sink>(
     requires marked { AreMarked (program_code table.now) }
     ensures run { (rooms : Rooms) (bytes : List ℕ) → I.left input.old ≡ Some bytes →
         IsRun (progress.run_from rooms table.now (start_at rooms table.now main memory turns bytes)) turns result
-        (record { left = I.left input.old; made = I.made input.old; taken = O.taken out.old })
-        (record { left = I.left input.new; made = I.made input.new; taken = O.taken out.new }) }
+        (traffic_of I.left I.made O.taken input.old out.old)
+        (traffic_of I.left I.made O.taken input.new out.new) }
     ensures input_count { I.faults input.new ≡ input_faults_after result (I.faults input.old) }
     ensures output_count { O.faults out.new ≡ output_faults_after result (O.faults out.old) }
 {
@@ -226,8 +226,8 @@ pub fn run_vm<I: Source, O: Sink>(
 ) -> VmEnding
     ensures run { (rooms : Rooms) (bytes : List ℕ) → I.left input.old ≡ Some bytes →
         VmBehaves rooms program.now bytes turns result
-        (record { left = I.left input.old; made = I.made input.old; taken = O.taken out.old })
-        (record { left = I.left input.new; made = I.made input.new; taken = O.taken out.new }) }
+        (traffic_of I.left I.made O.taken input.old out.old)
+        (traffic_of I.left I.made O.taken input.new out.new) }
     ensures input_count { I.faults input.new ≡ input_faults_after result (I.faults input.old) }
     ensures output_count { O.faults out.new ≡ output_faults_after result (O.faults out.old) }
 {

@@ -20,18 +20,18 @@ returns-in-Ok-clause-run g c rooms start told at = put_done rooms start c.args.t
 pub returns-in-Err-clause-run : goal.returns-in-Err-clause-run
 returns-in-Err-clause-run g c rooms start told at = put_failed rooms start c.args.turns told c.args.machine.now c.step.new.self _ _ c.in-Puts.byte c.in-Puts.ensures at refl refl c.in-Err.ensures.taken
 
-pub returns-in-Err-next-clause-run : goal.returns-in-Err-next-clause-run
-returns-in-Err-next-clause-run g c rooms start told at = take_failed rooms start c.args.turns told c.args.machine.now c.step.new.self _ _ c.in-Takes.destination c.in-Takes.ensures at c.in-Err-next.ensures.left c.in-Err-next.ensures.made refl
+pub returns-in-Err-ask-clause-run : goal.returns-in-Err-ask-clause-run
+returns-in-Err-ask-clause-run g c rooms start told at = take_failed rooms start c.args.turns told c.args.machine.now c.step.new.self _ _ c.in-Takes.destination c.in-Takes.ensures at c.in-Err-ask.ensures.left c.in-Err-ask.ensures.made c.in-Err-ask.ensures.taken
 
 pub returns-in-Ok-write-clause-run : goal.returns-in-Ok-write-clause-run
 returns-in-Ok-write-clause-run g c rooms start told at =
-    take_done rooms start c.args.turns told c.args.machine.now c.step.new.self _ _ c.in-Takes.destination c.in-Ok-next.byte c.write.new.self c.in-Takes.ensures at
-    (λ bytes is. subst (λ o. IfSome o (λ (bytes : List ℕ). c.in-Ok-next.byte ≡ slice_get bytes 0)) is c.in-Ok-next.ensures.byte)
+    take_done rooms start c.args.turns told c.args.machine.now c.step.new.self _ _ c.in-Takes.destination c.in-Ok-ask.byte c.write.new.self c.in-Takes.ensures at
+    (λ bytes is. subst (λ o. IfSome o (λ (bytes : List ℕ). c.in-Ok-ask.byte ≡ slice_get bytes 0)) is c.in-Ok-ask.ensures.byte)
     (subst (λ n. Wrote c.step.new.self c.write.new.self (named_register c.in-Takes.destination) (Word n)) c.word_of.ensures c.in-Ok-write.ensures)
-    c.in-Ok-next.ensures.left c.in-Ok-next.ensures.made refl
+    c.in-Ok-ask.ensures.left c.in-Ok-ask.ensures.made c.in-Ok-ask.ensures.taken
 
 pub returns-in-Err-write-clause-run : goal.returns-in-Err-write-clause-run
-returns-in-Err-write-clause-run g c rooms start told at = take_no_memory rooms start c.args.turns told c.args.machine.now c.step.new.self _ _ c.in-Takes.destination c.memory_is_short.ensures c.in-Takes.ensures at c.in-Ok-next.ensures.left c.in-Ok-next.ensures.made refl
+returns-in-Err-write-clause-run g c rooms start told at = take_no_memory rooms start c.args.turns told c.args.machine.now c.step.new.self _ _ c.in-Takes.destination c.memory_is_short.ensures c.in-Takes.ensures at c.in-Ok-ask.ensures.left c.in-Ok-ask.ensures.made c.in-Ok-ask.ensures.taken
 
 pub returns-in-NoMemory-clause-run : goal.returns-in-NoMemory-clause-run
 returns-in-NoMemory-clause-run g c rooms start told at =
@@ -45,5 +45,5 @@ returns-in-Ok-clause-falls g c = puts_falls c.args.machine.now c.step.new.self c
 
 pub returns-in-Ok-write-clause-falls : goal.returns-in-Ok-write-clause-falls
 returns-in-Ok-write-clause-falls g c =
-    takes_falls c.args.machine.now c.step.new.self c.requires.marked c.in-Takes.destination c.in-Ok-next.byte c.write.new.self c.in-Takes.ensures
+    takes_falls c.args.machine.now c.step.new.self c.requires.marked c.in-Takes.destination c.in-Ok-ask.byte c.write.new.self c.in-Takes.ensures
     (subst (λ n. Wrote c.step.new.self c.write.new.self (named_register c.in-Takes.destination) (Word n)) c.word_of.ensures c.in-Ok-write.ensures)

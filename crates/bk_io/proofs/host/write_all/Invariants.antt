@@ -1,7 +1,7 @@
 -- the bytes so far were written, and each turn wrote at least one
 use Rattle.std.proofs.Common.{◌≤◌, length, take}
 use Rattle.std.specs.Io.KnownBytes.{Appends}
-use Rattle.bk_io.proofs.host.write_through.Given as goal
+use Rattle.bk_io.proofs.host.write_all.Given as goal
 
 abbrev pub invariant-loop-turn : goal.invariant-loop-turn
 invariant-loop-turn g l = record {
