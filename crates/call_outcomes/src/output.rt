@@ -54,6 +54,6 @@ pub fn finish_output<S: Sink>(sink: &mut S, done: Outcome) -> Outcome
 {
     match sink.finish() {
         Ok(()) => done,
-        Err(_) => Outcome::WriteFault,
+        Err(_failed) => Outcome::WriteFault,
     }
 }
