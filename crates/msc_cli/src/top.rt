@@ -25,7 +25,8 @@ const DEFAULT_OPTIONS: Options = Options {
 };
 
 /// Does what the words ask for, and writes the outcome's line to `err`. `words[0]` is the program's name. The file
-/// that is named is read once, and no other. A failed write to `err` changes no outcome.
+/// that is named is read once, and no other. A failed write to `err` changes no outcome. What `out` holds is let go
+/// before the line; where that fails, `finish` reports it.
 ///
 /// The commands are `build`, `run`, `vm`, `exec`, `migrate`, `assemble` and `print`, each with the options that
 /// [`read_words`] takes. Where nothing is asked for, the answer is [`Outcome::Usage`].
@@ -59,6 +60,7 @@ pub fn msc_main<F: Files, I: Source, O: Sink, E: Sink>(
         (E.faults err.new) }
 {
     let outcome = perform(alloc, words, files, input, out);
+    out.flush();
     put_line(err, &outcome);
     outcome
 }
