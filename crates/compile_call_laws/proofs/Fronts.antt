@@ -39,7 +39,7 @@ module _ (rooms : Rooms) (program : VmProgram) (input : List ℕ) (turns : ℕ) 
   front_of_ending keeps last e means goes =
       let over : run means.steps goes.config ≡ Over e = over_from goes.steps means.steps goes.config e goes.goes means.over in
       let grows : IsPrefix goes.config.world.outer.output (next_world (run means.steps goes.config)).outer.output =
-          output_grows Value Registers rooms code (keeps (map code_of program.functions)) means.steps goes.config in
+      output_grows Value Registers rooms code (keeps (map code_of program.functions)) means.steps goes.config in
       let whole : IsPrefix goes.config.world.outer.output (ending_output e) =
-          subst (λ x. IsPrefix goes.config.world.outer.output (next_world x).outer.output) over grows in
+      subst (λ x. IsPrefix goes.config.world.outer.output (next_world x).outer.output) over grows in
       subst (λ w. IsPrefix w.outer.output (ending_output e)) goes.world whole

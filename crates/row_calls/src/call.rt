@@ -185,7 +185,10 @@ impl Call {
             call.failing_puts.push(at as u64)?;
             call.due_output = DueOutput::SameAs(Vec::from_slice(alloc, &due[..at])?);
             let made = call.make(alloc, compiler)?;
-            ensure!(at == 0 || made.shown == shown, "another answer where put {at} fails");
+            ensure!(
+                at == 0 || made.shown == shown,
+                "another answer where put {at} fails"
+            );
             shown = made.shown;
         }
         Ok(shown)
@@ -199,9 +202,18 @@ impl Call {
             let mut call = self.once_more(alloc)?;
             call.failing_inputs.push(at as u64)?;
             let made = call.make(alloc, compiler)?;
-            ensure!(left == 0 || made.shown == shown, "another answer where call {at} fails");
-            ensure!(made.left.len() == left, "other bytes are left where call {at} fails");
-            ensure!(self.input.ends_with(made.left.as_slice()), "no bytes of the input are left");
+            ensure!(
+                left == 0 || made.shown == shown,
+                "another answer where call {at} fails"
+            );
+            ensure!(
+                made.left.len() == left,
+                "other bytes are left where call {at} fails"
+            );
+            ensure!(
+                self.input.ends_with(made.left.as_slice()),
+                "no bytes of the input are left"
+            );
             shown = made.shown;
         }
         Ok(shown)
