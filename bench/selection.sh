@@ -12,7 +12,7 @@ set -eu
 top=$(pwd)
 room=$(mktemp -d /tmp/selection_speed.XXXXXX)
 trap 'rm -rf "$room"' EXIT
-own='alpha_select anyhow c_tree data_object function_checks suifvm_ir temp_ir vm_checks'
+own='alpha_select anyhow bk_containers mem_objects pass_checks pass_core suifvm_checks suifvm_ir temp_ir'
 
 mkdir -p "$room/repo/crates/selection_speed/src"
 cp "$top/HANDLES" "$room/repo/"
@@ -44,18 +44,18 @@ cat > "$room/repo/crates/selection_speed/src/main.rt" <<'CODE'
 
 use alpha_select::select;
 use anyhow::{Context, Result, ensure};
-use c_tree::{Name, Seq};
-use function_checks::{Parts, function_of};
+use bk_containers::{Name, Seq};
+use pass_checks::{Parts, function_of};
+use pass_core::function::Func;
 use std::alloc::Global;
 use std::env;
 use std::time::Instant;
-use suifvm_ir::function::Func;
+use suifvm_checks::program::program_of;
+use suifvm_checks::size::is_small;
 use suifvm_ir::insn::{VmBinaryOp, VmBranchOp, VmCallee, VmInsn};
 use suifvm_ir::operands::ArgumentRegisters;
 use suifvm_ir::program::VmProgram;
 use suifvm_ir::types::{Alignment, VmType};
-use vm_checks::program::program_of;
-use vm_checks::size::is_small;
 
 /// The instruction of a kind.
 fn insn_of(kind: &str) -> Result<VmInsn> {

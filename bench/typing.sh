@@ -1,7 +1,7 @@
 #!/bin/sh
 # Measures how long a text takes to be read (`c_parser`) and to be judged (`c_types`), and how much memory.
 #
-# The texts are the units of bench/made_text.py. Each is given to the program `typed_rows` as a row, once with a stray
+# The texts are the units of bench/made_text.py. Each is given to the program `front_rows` as a row, once with a stray
 # bracket at its end, so that it is read and has no tree, and once as it is; the rest of the time is the typing, with the
 # weight and the data size.
 #
@@ -11,7 +11,7 @@ top=$(cd "$(dirname "$0")/.." && pwd)
 work=$(mktemp -d /tmp/typing_speed.XXXXXX)
 trap 'rm -rf "$work"' EXIT
 
-(cd "$top/crates/typed_rows" && rt run > "$work/log" 2>&1) || { cat "$work/log"; exit 1; }
+(cd "$top/crates/front_rows" && rt run > "$work/log" 2>&1) || { cat "$work/log"; exit 1; }
 
 # Runs the program on one row, a text with an end, and says what that took.
 measure() {
@@ -20,7 +20,7 @@ import sys
 text = open(sys.argv[1]).read().rstrip("\n") + sys.argv[2]
 open(sys.argv[3], "w").write(text.replace("\\", "\\\\") + " =>\n")
 PY
-    /usr/bin/time -f "$1: %e s, %M KiB" -o "$work/took" "$top/crates/typed_rows/out/typed_rows" "$work/measures.rows" \
+    /usr/bin/time -f "$1: %e s, %M KiB" -o "$work/took" "$top/crates/front_rows/out/front_rows" "$work/measures.rows" \
         > "$work/out" 2>&1 || true
     tail -n 1 "$work/took"
 }

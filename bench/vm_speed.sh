@@ -2,7 +2,7 @@
 # Measures the instructions in a second of the interpreter of programs over virtual registers (suifvm_run), on a loop of
 # 100 million instructions, beside a plain C interpreter of the same instructions with a switch, compiled with gcc -O2.
 # Run by hand at the top of the repository: sh bench/vm_speed.sh. It works on a copy in a folder of its own under /tmp,
-# where the crates are proved, and reads the program's text with the reader of the rows (vm_texts).
+# where the crates are proved, and reads the program's text with the reader of the rows (row_vm_texts).
 #
 # The loop has 5 instructions: a mark, a sum of two 64-bit words, a difference of two 32-bit ones that traps where it
 # overflows, a comparison and a branch. Then it runs 10 million calls, each with an object of its own, and prints the
@@ -13,7 +13,7 @@ top=$(pwd)
 room=$(mktemp -d /tmp/vm_speed.XXXXXX)
 trap 'rm -rf "$room"' EXIT
 rounds=20000000
-own='anyhow bk_io suifvm_run vm_texts'
+own='anyhow bk_io row_vm_texts suifvm_run'
 
 mkdir -p "$room/repo/crates"
 cp "$top/HANDLES" "$room/repo/"
@@ -46,10 +46,10 @@ cat > "$room/repo/crates/vm_speed/src/main.rt" <<'CODE'
 
 use anyhow::Result;
 use bk_io::empty::{EmptySource, NullSink};
+use row_vm_texts::reader::Reader;
 use std::time::Instant;
 use std::{env, fs};
 use suifvm_run::run_vm;
-use vm_texts::reader::Reader;
 
 fn main(rt: HostRuntime) -> Result<()> {
     let alloc = rt.alloc();

@@ -1,5 +1,5 @@
 #!/usr/bin/env python3
-"""Prints rows of words with the code that makes them, for crates/machine_rows/data/constants.rows.
+"""Prints rows of words with the code that makes them, for crates/back_rows/data/constants.rows.
 
 Each word is made by displacements of 16 bits, one of which may be moved up by 16 bits, and then perhaps by a shift, a
 cut to the low half, or a shift by 32 bits and the displacements of the low half. The shortest of these that makes the

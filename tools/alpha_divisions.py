@@ -1,5 +1,5 @@
 #!/usr/bin/env python3
-"""Prints rows of pairs at the edges with what the division routines answer, for crates/machine_rows/data/divisions.rows.
+"""Prints rows of pairs at the edges with what the division routines answer, for crates/back_rows/data/divisions.rows.
 
 The answers are computed from Python's integers: division of signed numbers rounds toward zero. The routines of 32
 bits are given the low bits of both words, sign-extended, and answer such words. Run at the top of the repository:

@@ -1,5 +1,5 @@
 #!/usr/bin/env python3
-"""Prints rows of single steps with operands at the edges, for crates/machine_rows/data/steps.rows.
+"""Prints rows of single steps with operands at the edges, for crates/back_rows/data/steps.rows.
 
 Each row is a word with the words of $2, $3, $4 and memory, then what the step leaves: where it goes on, $4
 and memory, or how the run ends there. The words come from GNU as, and the results from Python's integers by

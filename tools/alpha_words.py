@@ -1,5 +1,5 @@
 #!/usr/bin/env python3
-"""Prints words of instructions, as GNU binutils assembles them, for crates/machine_rows/data/encodings.rows.
+"""Prints words of instructions, as GNU binutils assembles them, for crates/back_rows/data/encodings.rows.
 
 Each row is a word in hexadecimal, an arrow, and the instruction as our Debug text has it. The words
 come from an assembler that is not ours, so that the table tests the encoding against another maker's.

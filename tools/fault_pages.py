@@ -22,10 +22,10 @@ from fault_rules import NOTED, RULES
 from trusted import BLOCK, TOP, Item, Repository, words_of
 
 FOLDER = TOP / "docs" / "faults"
-CODE = ("c_type_faults", "faults", "Kind")
-KIND = Item("c_type_faults", "code", "faults", "Kind")
-ORDER = ("c_type_faults", "Faults")
-ROOT = Item("c_units", "specs", "Units", "faults_of")
+CODE = ("c_typing_faults", "faults", "Kind")
+KIND = Item("c_typing_faults", "code", "faults", "Kind")
+ORDER = ("c_typing_faults", "Faults")
+ROOT = Item("c_typing_units", "specs", "Units", "faults_of")
 # types of the code by which a definition hands on what was asked, beside `Bool`, numbers and `Option`
 ANSWERS = {"PriorMeaning", "MemberMeaning", "InitialiserItems", "Jumps", "Labels"}
 

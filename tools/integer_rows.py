@@ -1,5 +1,5 @@
 #!/usr/bin/env python3
-"""Prints rows of operations on C's integers, for crates/value_rows/data/integers.rows.
+"""Prints rows of operations on C's integers, for crates/back_rows/data/integers.rows.
 
 The values come from a C compiler on this machine: a program is written that computes each operation in C, in the
 types that C gives to it, and prints the value. An operation that traps or has no meaning is told beforehand by

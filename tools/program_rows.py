@@ -1,5 +1,5 @@
 #!/usr/bin/env python3
-"""What gcc says of the C programs of crates/program_rows/data/programs.rows.
+"""What gcc says of the C programs of crates/front_rows/data/programs.rows.
 
 usage: tools/program_rows.py [--write] [FILE]
 
@@ -9,7 +9,7 @@ there. Rows that trap, are undefined or run out of turns are written by hand: gc
 """
 import os, subprocess, sys, tempfile
 
-ROWS = os.path.join(os.path.dirname(os.path.abspath(__file__)), '..', 'crates', 'program_rows', 'data', 'programs.rows')
+ROWS = os.path.join(os.path.dirname(os.path.abspath(__file__)), '..', 'crates', 'front_rows', 'data', 'programs.rows')
 DECLARED = 'int putchar(int);int getchar(void);void abort(void);void exit(int);\n'
 FLAGS = ['-std=c99', '-O0', '-w', '-fsanitize=undefined', '-fno-sanitize-recover=all']
 

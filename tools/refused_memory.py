@@ -6,7 +6,8 @@ A program over `alpha_text` and `alpha_asm`, made and proved in a folder of its 
 of each form, prints it and assembles it. A call that finds no memory says so and is made once more, so at its end the
 program has to say what it says with memory. It is run once for each of its allocations, of which that one is refused.
 
-Where `./msc` has built the compiler, each command is run on the files of `examples/` likewise: it has to end with
+Where `./msc` has built the compiler, each command is run on the files of `examples/` likewise, and `build` on a text
+with forty locals: it has to end with
 status 71, to say `msc: memory`, and to write nothing to the standard output.
 
 It needs the toolchain and a C compiler. The gate does not run it.
@@ -161,6 +162,15 @@ def check_library(folder, shim):
         print(f"{call}: {count} allocations")
 
 
+def forty_locals():
+    """A C text whose `main` has forty values that are live at once, over calls."""
+    names = [f"v{k}" for k in range(40)]
+    lines = ["int f(int x){return x+1;}", "int main(void){", *(f"int {name};" for name in names), "int i;"]
+    lines += [f"{name}={k};" for k, name in enumerate(names)]
+    lines += ["for(i=0;i<3;i++){", *(f"{name}=f({name});" for name in names), "}", f"return {'+'.join(names)};}}"]
+    return "\n".join(lines) + "\n"
+
+
 def check_compiler(folder, shim):
     program = f"{TOP}/crates/msc/out/msc"
     if not os.path.exists(program):
@@ -168,13 +178,16 @@ def check_compiler(folder, shim):
         return
     image = f"{folder}/hi.image"
     source, text = f"{TOP}/examples/hi.c", f"{TOP}/examples/hi.s"
+    locals_source = f"{folder}/forty_locals.c"
+    with open(locals_source, "w") as file:
+        file.write(forty_locals())
     with open(image, "wb") as file:
         file.write(run([program, "build", source], shim, 0)[1])
     calls = [["build", source], ["run", source], ["print", source, "--pass", "tree"], ["assemble", text],
-             ["exec", image], ["migrate", image]]
+             ["exec", image], ["migrate", image], ["build", locals_source]]
     for words in calls:
         answers = refused_in_turn([program, *words], shim, lambda a, _: a == (71, b"", b"msc: memory\n"))
-        print(f"msc {words[0]}: {len(answers)} allocations")
+        print(f"msc {words[0]} {os.path.basename(words[1])}: {len(answers)} allocations")
 
 
 def main():

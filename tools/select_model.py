@@ -2,7 +2,7 @@
 
 usage: tools/select_model.py < FILE
 
-FILE is `crates/vm_rows/data/selected.rows`. It is printed again with what the model says is due of each row, so that
+FILE is `crates/back_rows/data/selected.rows`. It is printed again with what the model says is due of each row, so that
 nothing has changed where the rows are right. The model is the table of `docs/selection.md`; constants are made as the
 model in `tools/alpha_constants.py` has them.
 """

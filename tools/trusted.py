@@ -403,10 +403,11 @@ class Repository:
             items = self.generated(crate, rest[1:], name)
         else:
             file = self.specs.get((crate, ".".join(rest)))
-            lib = self.specs.get((crate, "Lib"))
-            if file is None and lib and rest and rest[0] in lib.names:
-                # a module of a crate below that this one passes on
-                return self.at(".".join([lib.names[rest[0]][0], *rest[1:]]), name)
+            for cut in range(len(rest) - 1, -1, -1) if file is None else []:
+                above = self.specs.get((crate, ".".join(rest[:cut]) or "Lib"))
+                if above and rest[cut] in above.names:
+                    # a module of another place that this one passes on
+                    return self.at(".".join([above.names[rest[cut]][0], *rest[cut + 1 :]]), name)
             found = file.resolve(name) if file and name else None
             items = [Item(crate, "specs", file.module, found)] if found else []
             if not found and file and name in file.names and file.names[name][1]:

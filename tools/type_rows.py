@@ -1,13 +1,13 @@
 #!/usr/bin/env python3
-"""Writes the row files of the program `type_rows`: literals and layouts by a C compiler of this machine (gcc, for
+"""Writes the row files of `type_rows`: literals and layouts by a C compiler of this machine (gcc, for
 x86-64 in the LP64 model, as the language here), scopes by a model in Python.
 
-usage: tools/type_rows.py        (writes crates/type_rows/data/*.rows)
+usage: tools/type_rows.py        (writes crates/front_rows/data)
 """
 import os, random, subprocess, tempfile
 
 random.seed(19990701)
-DATA = os.path.join(os.path.dirname(os.path.abspath(__file__)), '..', 'crates', 'type_rows', 'data')
+DATA = os.path.join(os.path.dirname(os.path.abspath(__file__)), '..', 'crates', 'front_rows', 'data')
 NAMES = ['char', 'unsigned-char', 'short', 'unsigned-short', 'int', 'unsigned-int', 'long', 'unsigned-long']
 
 def run_c(text):

@@ -3,7 +3,7 @@
 
 Each line of the file is a text without faults, with the escapes of `docs/rows.md`, or the line of a row that gives one;
 what was due of it is left out, and lines that are empty or begin with `#` are handed through. What is printed are the
-rows of `crates/typed_rows/data`. What a text is comes from `typed_model.py`; its weight, its data size and its text are
+rows of `crates/front_rows/data`. What a text is comes from `typed_model.py`; its weight, its data size and its text are
 computed here from `docs/formats.md`.
 """
 import re

@@ -3,7 +3,7 @@
 every number of turns that tells. What is due of each is computed by the model in vm_model.py, but where it has no
 meaning: that is said here, by the number of the instruction.
 
-usage: tools/vm_edges.py >> crates/vm_rows/data/vm_runs.rows
+usage: tools/vm_edges.py >> crates/back_rows/data/vm_runs.rows
 """
 import random
 

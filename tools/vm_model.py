@@ -2,7 +2,7 @@
 
 usage: tools/vm_model.py < FILE
 
-FILE is one of rows of `crates/vm_rows/data/`. It is printed again with what the model says is due of each row, so that
+FILE is `crates/back_rows/data/vm_runs.rows`. It is printed again with what the model says is due of each row, so that
 nothing has changed where the rows are right. The model takes integers from Python, and memory as lists of bytes; a
 pointer is an object with an offset, and in memory eight parts of itself. It knows what the rows use: of pointers only
 sums, accesses and copies.

@@ -195,41 +195,41 @@ class Initialisers(ScopedTransformer):
             return number(int(self.kinds.value(value) != 0), value.coord)
         if not self.kinds.is_pointer(ty):
             return value if self.kinds.is_constant(value) else None
-        if self.kinds.value(value) == 0:
+        if self.is_null(value):
             return number(0, value.coord)
+        return value if self.is_address(value) else None
+
+    def is_null(self, value):
+        """Whether it is the integer constant 0, maybe cast to pointer types."""
         if isinstance(value, c.Cast) and self.kinds.is_pointer(value.to_type):
-            return self.cast_value(ty, value)
-        return self.address(value)
+            return self.is_null(value.expr)
+        return self.kinds.value(value) == 0
 
-    def cast_value(self, ty, value):
-        """A cast falls away where the conversion without it is the same."""
-        target = self.kinds.target(value.to_type)
-        is_void = self.kinds.is_words(target, ["void"]) or self.kinds.is_words(self.kinds.target(ty), ["void"])
-        if is_void or (is_text(value.expr) and self.kinds.is_words(target, ["char"])):
-            return self.static_value(ty, value.expr)
-        return None
-
-    def address(self, value):
-        """The address of an object of file scope, or of an element."""
+    def is_address(self, value):
+        """Whether it is a pointer to an object of static storage or to a part of one, of constants alone."""
         if is_text(value):
-            return value
-        if isinstance(value, c.ID):
-            ty = self.type_of(value)
-            return value if ty is not None and self.kinds.is_array(ty) else None
+            return True
+        if isinstance(value, c.Cast):
+            return self.kinds.is_pointer(value.to_type) and self.is_address(value.expr)
         if isinstance(value, c.UnaryOp) and value.op == "&":
-            return self.address_of(value, value.expr)
-        if isinstance(value, c.BinaryOp) and value.op in ("+", "-") and self.kinds.is_constant(value.right):
-            base = self.address(value.left)
-            return None if base is None else c.BinaryOp(value.op, base, value.right, value.coord)
-        return None
+            return self.is_static_place(value.expr)
+        if isinstance(value, c.BinaryOp) and value.op in ("+", "-"):
+            pointer, integer = value.left, value.right
+            if value.op == "+" and self.kinds.is_constant(pointer):
+                pointer, integer = integer, pointer
+            return self.kinds.is_constant(integer) and self.is_address(pointer)
+        ty = self.type_of(value)
+        return ty is not None and self.kinds.is_array(ty) and self.is_static_place(value)
 
-    def address_of(self, value, place):
-        if isinstance(place, c.ID):
-            return value
-        if isinstance(place, c.ArrayRef) and self.kinds.is_constant(place.subscript):
-            base = self.address(place.name)
-            return None if base is None else c.BinaryOp("+", base, place.subscript, value.coord)
-        return None
+    def is_static_place(self, place):
+        """Whether it is an object of static storage or a part of one."""
+        if isinstance(place, c.StructRef):
+            return self.is_static_place(place.name) if place.type == "." else self.is_address(place.name)
+        if isinstance(place, c.ArrayRef):
+            return self.kinds.is_constant(place.subscript) and self.is_address(place.name)
+        if isinstance(place, c.UnaryOp) and place.op == "*":
+            return self.is_address(place.expr)
+        return isinstance(place, c.ID)
 
     # ---- compound literals
 

@@ -4,7 +4,7 @@ use Rattle.std.specs.Prelude.{slice_index_or, flat_map}
 use Rattle.std.proofs.lemmas.List.{at_drop_more, at_drop_all}
 use Rattle.std.proofs.lemmas.List.Sums.{sum_by-drop_more}
 use Rattle.bk_ilist.specs.Listing.{items}
-use Rattle.suifvm_ir.specs.Functions.{count_of}
+use Rattle.pass_core.specs.Functions.{count_of}
 use Rattle.temp_ir.specs.declared.insn.TempInsn.{TempInsn}
 use Rattle.alloc_model.specs.declared.allocation.TempPlace.{TempPlace}
 use Rattle.alloc_model.specs.declared.allocation.Transfer.{Transfer}

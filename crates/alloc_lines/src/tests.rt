@@ -4,11 +4,11 @@ ghost use Rattle.std.specs.Prelude.{◌≡◌, [], ◌∷◌, IfOk};
 
 use crate::{alloc_text, journal_text};
 use alloc_model::allocation::{Allocation, EdgeCode, Event, Loc, TempPlace, Transfer};
-use c_tree::{Name, Seq};
+use bk_containers::{Name, Seq};
+use pass_core::block::Block;
+use pass_core::function::Func;
 use std::alloc::{AllocError, Global};
 use std::test::Fail;
-use suifvm_ir::block::Block;
-use suifvm_ir::function::Func;
 use temp_ir::insn::{FirstOperand, SecondOperand, TempInsn};
 use temp_ir::operation::{AddressOp, Operation};
 

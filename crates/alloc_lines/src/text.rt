@@ -2,16 +2,16 @@
 
 ghost use Rattle.std.specs.Prelude.{◌≡◌, ◌+◌, ◌<◌, ◌^◌, ◌++◌, [], IfOk, OnOk, length, slice_index_or};
 ghost use Rattle.bk_ilist.specs.Listing.{items};
-ghost use Rattle.suifvm_ir.specs.Functions.{count_of};
+ghost use Rattle.pass_core.specs.Functions.{count_of};
 ghost use Rattle.alloc_lines.specs.Text as text;
 
 use crate::lines::{put_edges, put_events, put_map, put_transfers};
 use crate::registers::with_registers;
 use alloc_model::allocation::{Allocation, TempPlace, Transfer};
+use bk_containers::Seq;
 use bk_ilist::IndexList;
-use c_tree::Seq;
+use pass_core::block::Block;
 use std::alloc::{AllocError, Global};
-use suifvm_ir::block::Block;
 use temp_ir::insn::TempInsn;
 use temp_ir::text_parts::{put, put_insn, put_number};
 

@@ -8,7 +8,7 @@ use Rattle.mem_model.specs.Ending.{Ending}
 use Rattle.machine_model.specs.Code.{Site, Point}
 use Rattle.machine_model.specs.Machine.{Next, Goes, Over, start_config}
 use Rattle.machine_model.proofs.Simulation.{SameSites, SameNext, KeepStep, runs, runs_end}
-use Rattle.suifvm_ir.specs.Functions.{insn_at, insn_in}
+use Rattle.pass_core.specs.Functions.{insn_at, insn_in}
 use Rattle.temp_ir.specs.declared.insn.TempInsn.{TempInsn}
 use Rattle.alloc_model.specs.Contents.{Content}
 use Rattle.alloc_model.specs.Stores.{without, put_all}

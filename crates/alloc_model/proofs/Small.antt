@@ -2,7 +2,7 @@
 use Rattle.std.proofs.Common.{◌≡◌, ◌≢◌, ℕ, zero, suc, ◌+◌, List, [], ◌∷◌, Some, None, true, false, refl, sym, ◌∙◌, inl, inr, subst, length, arith}
 use Rattle.std.specs.Prelude.{slice_get, All}
 use Rattle.std.proofs.lemmas.Option.{none-some, same_Some}
-use Rattle.suifvm_ir.specs.Functions.{insn_at}
+use Rattle.pass_core.specs.Functions.{insn_at}
 use Rattle.temp_ir.specs.declared.insn.TempInsn.{TempInsn}
 use Rattle.temp_ir.specs.Insns.{reads_of, writes_of, targets_of}
 use Rattle.temp_ir.specs.Fixed.{fixed_reads_of}

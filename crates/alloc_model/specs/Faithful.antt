@@ -3,7 +3,7 @@
 -- counts as a temporary of its own.
 use Rattle.std.specs.Prelude.{◌≡◌, ◌≢◌, ℕ, zero, suc, ◌+◌, ◌<◌, ◌⊎◌, nat_lt, Bool, true, false, List, [], ◌∷◌, ◌++◌, map, length, slice_get, slice_index_or, Contains, All, Option, Some, None, if◌then◌else◌}
 use Rattle.std.specs.List.{range_with_len}
-use Rattle.suifvm_ir.specs.Functions.{count_of, insn_at, successors_of}
+use Rattle.pass_core.specs.Functions.{count_of, insn_at, successors_of}
 use Rattle.temp_ir.specs.declared.insn.TempInsn.{TempInsn}
 use Rattle.temp_ir.specs.Insns.{reads_of, writes_of, targets_of, flows_on_of}
 use Rattle.temp_ir.specs.Fixed.{argument_registers, fixed_reads_of}

@@ -1,7 +1,7 @@
 -- The points at which a temporary is wanted, in linear order: instruction n reads at point 2n and writes at 2n + 1.
 use Rattle.std.specs.Prelude.{◌≡◌, ℕ, suc, ◌+◌, ◌*◌, ◌<◌, ◌≤◌, List, Contains, Some}
-use Rattle.suifvm_ir.specs.Functions.{insn_at}
-use Rattle.suifvm_ir.specs.Live.{Live}
+use Rattle.pass_core.specs.Functions.{insn_at}
+use Rattle.pass_core.specs.Live.{Live}
 use Rattle.temp_ir.specs.declared.insn.TempInsn.{TempInsn}
 use Rattle.temp_ir.specs.Insns.{reads_of, writes_of, targets_of, flows_on_of}
 use Rattle.alloc_model.specs.Places.{linear_number}

@@ -1,8 +1,8 @@
 -- Which slots a block relies on at its top: it leaves a temporary there, or loads it from there, without a store or a
 -- write of its own before. The blocks before it have to see to it that the slot has the value.
 use Rattle.std.specs.Prelude.{◌≡◌, ◌≢◌, ℕ, suc, ◌⊎◌, ◌==◌, true, List, [], ◌∷◌, find, slice_get, slice_index_or, Contains, Option, Some, None}
-use Rattle.suifvm_ir.specs.Functions.{insn_at, successors_of}
-use Rattle.suifvm_ir.specs.Live.{Live}
+use Rattle.pass_core.specs.Functions.{insn_at, successors_of}
+use Rattle.pass_core.specs.Live.{Live}
 use Rattle.temp_ir.specs.declared.insn.TempInsn.{TempInsn}
 use Rattle.temp_ir.specs.Insns.{reads_of, writes_of, targets_of, flows_on_of}
 use Rattle.alloc_model.specs.declared.allocation.Loc.{Loc}

@@ -6,9 +6,9 @@ use Rattle.mem_model.specs.World.{World, Rooms, meter_of}
 use Rattle.mem_model.specs.Ending.{Ending}
 use Rattle.machine_model.specs.Code.{Jumps, Site, Point, Code}
 use Rattle.machine_model.specs.Machine.{Next, Over, exec, start_config}
-use Rattle.data_object.specs.declared.DataObject.{DataObject}
-use Rattle.data_object.specs.Start.{start_memory}
-use Rattle.suifvm_ir.specs.Functions.{count_of, last_of}
+use Rattle.mem_objects.specs.declared.DataObject.{DataObject}
+use Rattle.mem_objects.specs.Start.{start_memory}
+use Rattle.pass_core.specs.Functions.{count_of, last_of}
 use Rattle.temp_ir.specs.declared.insn.TempInsn.{TempInsn}
 use Rattle.temp_ir.specs.declared.program.TempProgram.{TempProgram}
 use Rattle.temp_ir.specs.Insns.{targets_of, flows_on_of}

@@ -1,7 +1,7 @@
 //! Allocations: which register or slot each temporary stands in, and what moves it.
 
-use c_tree::Seq;
-use suifvm_ir::function::Func;
+use bk_containers::Seq;
+use pass_core::function::Func;
 use temp_ir::insn::TempInsn;
 
 /// Where a temporary stands.

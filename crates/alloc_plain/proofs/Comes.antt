@@ -6,8 +6,8 @@ use Rattle.temp_ir.specs.Insns.{reads_of, writes_of}
 use Rattle.alloc_model.specs.declared.allocation.Event.{Event}
 use Rattle.alloc_model.specs.declared.allocation.Event.TheVariants as event
 use Rattle.alloc_rules.specs.Journal.{assigned_unless}
-use Rattle.plain_lists.proofs.Registers.{few}
-use Rattle.plain_lists.proofs.Counts.{nothing, only_one, only_two, single}
+use Rattle.alloc_plain_lists.proofs.Registers.{few}
+use Rattle.alloc_plain_lists.proofs.Counts.{nothing, only_one, only_two, single}
 use Rattle.alloc_plain.specs.declared.holders.HeldTemporaries.{HeldTemporaries}
 use Rattle.alloc_plain.specs.model.Held.{register_in, comes, come}
 use Rattle.alloc_plain.specs.model.Visits.{assignment_events, write_events}

@@ -7,7 +7,7 @@ use Rattle.alloc_model.specs.Places.{Reg, Slot, place_eq}
 use Rattle.alloc_rules.specs.Visits.{comes_to, register_in_place}
 use Rattle.alloc_plain.specs.declared.holders.HeldTemporaries.{HeldTemporaries}
 use Rattle.alloc_plain.specs.model.Held.{is_in, register_by, place_in, home_in, without_temp, holder_behind, comes}
-use Rattle.plain_lists.proofs.Sets.{test_or_not}
+use Rattle.alloc_plain_lists.proofs.Sets.{test_or_not}
 
 -- no temporary has two registers
 pub record AtMostOne (a b c : Bool) : Type 0 where

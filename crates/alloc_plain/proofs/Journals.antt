@@ -7,7 +7,7 @@ use Rattle.std.proofs.lemmas.Option.{none-some, same_Some, slice_get_within, get
 use Rattle.std.proofs.lemmas.List.{length-map}
 use Rattle.std.proofs.lemmas.List.Sums.{sum_by-cons}
 use Rattle.std.proofs.Math.Path.{fun_ext}
-use Rattle.suifvm_ir.specs.Functions.{AllInsns, UsesRegisters, count_of, insn_at, insn_in}
+use Rattle.pass_core.specs.Functions.{AllInsns, UsesRegisters, count_of, insn_at, insn_in}
 use Rattle.temp_ir.specs.declared.insn.TempInsn.{TempInsn}
 use Rattle.temp_ir.specs.Insns.{reads_of, writes_of}
 use Rattle.alloc_model.specs.declared.allocation.TempPlace.{TempPlace}
@@ -21,14 +21,14 @@ use Rattle.alloc_model.specs.Lifetimes.IsPresent.{IsRead, IsLiveBefore, IsWritte
 use Rattle.alloc_rules.specs.Visits.{Wants, AreWants, homes_behind_moves, homes_left, registers_written, homes_before, homes_behind_insn, all_come_to, homes_at_top, with_top, register_in_place}
 use Rattle.alloc_rules.specs.Frugal.{is_covered}
 use Rattle.alloc_rules.specs.Journal.{eviction, eviction_at, evictions, event_of, assigned_by_move, visit_events, insn_events, events_from, blocks_events, journal_of}
-use Rattle.lifetime_ends.specs.Ends.{AreEnds}
+use Rattle.alloc_lifetime_ends.specs.Ends.{AreEnds}
 use Rattle.alloc_plain.specs.declared.holders.HeldTemporaries.{HeldTemporaries}
 use Rattle.alloc_plain.specs.model.Held.{register_in, home_in, nothing_held, held_left, held_behind, held_at_top, held_behind_all, Holds}
 use Rattle.alloc_plain.specs.model.Visits.{leaving_events, leaving_at, all_leaving, visit_in_slots, visits_in_slots, journal_in_slots}
-use Rattle.plain_lists.specs.Plain.{loads, plain_registers, stores_behind, transfers_from, plain_plan}
-use Rattle.plain_lists.proofs.Sets.{test_or_not}
-use Rattle.plain_lists.proofs.Registers.{or_first, or_second}
-use Rattle.plain_lists.proofs.Lists.{read_in_block, previous, previous_next, transfers_length, transfers_get, registers_get}
+use Rattle.alloc_plain_lists.specs.Plain.{loads, plain_registers, stores_behind, transfers_from, plain_plan}
+use Rattle.alloc_plain_lists.proofs.Sets.{test_or_not}
+use Rattle.alloc_plain_lists.proofs.Registers.{or_first, or_second}
+use Rattle.alloc_plain_lists.proofs.Lists.{read_in_block, previous, previous_next, transfers_length, transfers_get, registers_get}
 use Rattle.alloc_plain.proofs.Homes.{IsOnce, register_place}
 use Rattle.alloc_plain.proofs.Steps.{holds_more, nothing_holds, nothing_once, held_register, moves_come, left_home, left_once, left_holds, behind_home, behind_once, behind_holds, assigning_home, writing_home, top_home, top_once, top_holds}
 

@@ -5,12 +5,12 @@ use Rattle.std.proofs.lemmas.Bool.{eq-eqb}
 use Rattle.std.proofs.lemmas.Option.{get_or_from_slice_get}
 use Rattle.std.proofs.lemmas.List.Sums.{sum_by-take-le}
 use Rattle.bk_ilist.specs.Listing.{items}
-use Rattle.suifvm_ir.specs.Functions.{UsesRegisters, count_of}
+use Rattle.pass_core.specs.Functions.{UsesRegisters, count_of}
 use Rattle.temp_ir.specs.declared.insn.TempInsn.{TempInsn}
 use Rattle.temp_ir.specs.Insns.{reads_of, writes_of}
 use Rattle.alloc_model.specs.Lifetimes.{Blocks}
 use Rattle.alloc_model.specs.declared.allocation.Event.{Event}
-use Rattle.plain_lists.proofs.Lists.{there}
+use Rattle.alloc_plain_lists.proofs.Lists.{there}
 use Rattle.alloc_plain.specs.declared.holders.HeldTemporaries.{HeldTemporaries}
 use Rattle.alloc_plain.specs.model.Held.{is_in, held_left, held_behind, held_behind_all, held_at_top, Holds}
 use Rattle.alloc_plain.specs.model.Visits.{visit_in_slots, visits_in_slots, journal_in_slots}

@@ -1,7 +1,7 @@
 -- What was put down is the journal.
 use Rattle.std.proofs.Common.{◌≡◌, ℕ, List, [], ◌++◌, Bool, true, false, refl, sym, ap, ◌∙◌, subst, length, arith}
 use Rattle.std.specs.Prelude.{slice_index_or}
-use Rattle.suifvm_ir.specs.Functions.{AllInsns, UsesRegisters}
+use Rattle.pass_core.specs.Functions.{AllInsns, UsesRegisters}
 use Rattle.temp_ir.specs.declared.insn.TempInsn.{TempInsn}
 use Rattle.temp_ir.specs.Insns.{reads_of, writes_of, targets_of, flows_on_of}
 use Rattle.alloc_model.specs.declared.allocation.Event.{Event}
@@ -11,11 +11,11 @@ use Rattle.alloc_rules.specs.Visits.{AreWants}
 use Rattle.alloc_rules.specs.Journal.{IsJournal}
 use Rattle.bitvector_flow.specs.Flows.{has_at, AreBounded}
 use Rattle.bitvector_flow.specs.Lives.{AreLive, HasFewRegisters}
-use Rattle.lifetime_ends.specs.Wanted.{live_by, wants_of}
-use Rattle.lifetime_ends.specs.Ends.{AreEnds}
-use Rattle.lifetime_ends.proofs.Wants.{wants_exact}
-use Rattle.plain_lists.specs.Plain.{plain_plan}
-use Rattle.plain_lists.proofs.Registers.{few}
+use Rattle.alloc_lifetime_ends.specs.Wanted.{live_by, wants_of}
+use Rattle.alloc_lifetime_ends.specs.Ends.{AreEnds}
+use Rattle.alloc_lifetime_ends.proofs.Wants.{wants_exact}
+use Rattle.alloc_plain_lists.specs.Plain.{plain_plan}
+use Rattle.alloc_plain_lists.proofs.Registers.{few}
 use Rattle.alloc_plain.specs.model.Held.{nothing_held}
 use Rattle.alloc_plain.specs.model.Visits.{journal_in_slots}
 use Rattle.alloc_plain.proofs.Journals.{journal_is}

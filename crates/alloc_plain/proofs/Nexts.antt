@@ -6,7 +6,7 @@ use Rattle.std.proofs.lemmas.Bool.{cases_lt, lt-ltb, le-ltb, eqb-true, eq-eqb}
 use Rattle.std.proofs.lemmas.Option.{none-some, same_Some}
 use Rattle.alloc_model.specs.declared.allocation.Event.{Event}
 use Rattle.alloc_rules.specs.Journal.{eviction}
-use Rattle.plain_lists.proofs.Sets.{test_or_not}
+use Rattle.alloc_plain_lists.proofs.Sets.{test_or_not}
 use Rattle.alloc_plain.specs.declared.holders.HeldTemporaries.{HeldTemporaries}
 use Rattle.alloc_plain.specs.model.Held.{is_in, register_by, register_in, Holds}
 use Rattle.alloc_plain.specs.model.Next.{lower, sooner, soonest, next_held}

@@ -17,10 +17,10 @@ use Rattle.alloc_rules.specs.Journal.{assigned_unless}
 use Rattle.alloc_plain.specs.declared.holders.HeldTemporaries.{HeldTemporaries}
 use Rattle.alloc_plain.specs.model.Held.{is_in, register_by, register_in, place_in, home_in, holder_behind, comes, come, nothing_held, held_left, unless_live, held_at_top, Holds}
 use Rattle.alloc_plain.specs.model.Visits.{assignment_events, write_events}
-use Rattle.plain_lists.specs.Plain.{loads, stores, stores_behind, plain_registers, writes_in, first_in}
-use Rattle.plain_lists.proofs.Sets.{test_or_not}
-use Rattle.plain_lists.proofs.Registers.{few, written_high, IsHigh}
-use Rattle.plain_lists.proofs.Lists.{range_behind}
+use Rattle.alloc_plain_lists.specs.Plain.{loads, stores, stores_behind, plain_registers, writes_in, first_in}
+use Rattle.alloc_plain_lists.proofs.Sets.{test_or_not}
+use Rattle.alloc_plain_lists.proofs.Registers.{few, written_high, IsHigh}
+use Rattle.alloc_plain_lists.proofs.Lists.{range_behind}
 use Rattle.alloc_plain.proofs.Homes.{IsLow, IsOnce, register_place, behind_other, comes_home, comes_once}
 
 -- ---- what is held is of a kind

@@ -7,14 +7,14 @@ ghost use Rattle.alloc_model.specs.Places.{plan_of};
 ghost use Rattle.alloc_model.specs.Faithful.{Faithful};
 ghost use Rattle.alloc_rules.specs.Lean.{IsLean};
 ghost use Rattle.alloc_rules.specs.Journal.{IsJournal};
-ghost use Rattle.plain_lists.specs.Plain.{plain_plan};
+ghost use Rattle.alloc_plain_lists.specs.Plain.{plain_plan};
 
 use crate::journal::journal_of;
 use alloc_model::allocation::{Allocation, Event};
-use c_tree::Seq;
-use plain_lists::lists_of;
+use alloc_plain_lists::spill_everywhere;
+use bk_containers::Seq;
+use pass_core::function::Func;
 use std::alloc::{AllocError, Global};
-use suifvm_ir::function::Func;
 use temp_ir::insn::TempInsn;
 
 /// An allocation with a journal in place of its own.
@@ -62,7 +62,7 @@ pub fn plain(alloc: Global, f: &Func<TempInsn>) -> Result<Allocation, AllocError
     ensures journal { IfOk result (λ a. IsJournal (plan_of a) a.journal) }
 {
     let graph = cfg::build(alloc, f)?;
-    let lists = lists_of(alloc, f, &graph)?;
+    let lists = spill_everywhere(alloc, f, &graph)?;
     let journal = journal_of(alloc, f, &graph)?;
     Ok(with_journal(lists, journal))
 }

@@ -7,9 +7,9 @@ ghost use Rattle.alloc_plain.specs.model.Held.{register_in, come, held_at_top, H
 ghost use Rattle.alloc_plain.specs.model.Held as model;
 ghost use Rattle.alloc_plain.specs.model.Next as next;
 
+use alloc_plain_lists::read_count;
 use bk_bits::BitSet;
 use pass_core::Insn;
-use plain_lists::read_count;
 use temp_ir::insn::TempInsn;
 
 /// The temporaries whose places are registers 1, 2 and 3.

@@ -1,28 +1,28 @@
 //! The journal of the plainest allocation of a function.
 
 ghost use Rattle.std.specs.Prelude.{◌≡◌, ◌+◌, ◌++◌, ◌<◌, ◌^◌, None, All, length, IfOk, OnOk};
-ghost use Rattle.suifvm_ir.specs.Functions.{AllInsns, UsesRegisters, count_of};
+ghost use Rattle.pass_core.specs.Functions.{AllInsns, UsesRegisters, count_of};
 ghost use Rattle.cfg.specs.Edges.{successors_from};
 ghost use Rattle.temp_ir.specs.Insns.{reads_of, writes_of, targets_of, flows_on_of};
 ghost use Rattle.alloc_model.specs.Temporaries.{code_of};
 ghost use Rattle.alloc_rules.specs.Journal.{IsJournal};
 ghost use Rattle.bitvector_flow.specs.Flows.{AreBounded};
-ghost use Rattle.plain_lists.specs.Plain.{plain_plan};
+ghost use Rattle.alloc_plain_lists.specs.Plain.{plain_plan};
 ghost use Rattle.alloc_plain.specs.model.Held.{Holds, held_at_top, held_behind_all};
 ghost use Rattle.alloc_plain.specs.model.Held as model;
 ghost use Rattle.alloc_plain.specs.model.Visits.{visits_in_slots, journal_in_slots};
 
 use crate::holders::{HeldTemporaries, at_top, nothing_held};
 use crate::visits::put_visit;
+use alloc_lifetime_ends::last_points;
 use alloc_model::allocation::Event;
 use bitvector_flow::liveness;
 use bk_bits::BitSet;
-use c_tree::Seq;
+use bk_containers::Seq;
 use cfg::Graph;
-use lifetime_ends::last_points;
+use pass_core::block::Block;
+use pass_core::function::Func;
 use std::alloc::{AllocError, Global};
-use suifvm_ir::block::Block;
-use suifvm_ir::function::Func;
 use temp_ir::insn::TempInsn;
 
 /// What is held behind instructions, and the number of the one that follows.

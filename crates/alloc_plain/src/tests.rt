@@ -5,11 +5,11 @@ ghost use Rattle.temp_ir.specs.Fixed.{is_settled};
 
 use crate::plain;
 use alloc_model::allocation::Transfer;
-use c_tree::{Name, Seq};
+use bk_containers::{Name, Seq};
+use pass_core::block::Block;
+use pass_core::function::Func;
 use std::alloc::{AllocError, Global};
 use std::test::Fail;
-use suifvm_ir::block::Block;
-use suifvm_ir::function::Func;
 use temp_ir::insn::{FirstOperand, SecondOperand, TempInsn};
 use temp_ir::operation::{AddressOp, Operation};
 

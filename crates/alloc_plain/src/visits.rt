@@ -1,7 +1,7 @@
 //! The events of a visit.
 
 ghost use Rattle.std.specs.Prelude.{◌≡◌, ◌+◌, ◌++◌, ◌<◌, ◌^◌, [], ◌∷◌, map, flat_map, length, slice_index_or, nat_le, IfOk, OnOk};
-ghost use Rattle.suifvm_ir.specs.Functions.{UsesRegisters};
+ghost use Rattle.pass_core.specs.Functions.{UsesRegisters};
 ghost use Rattle.temp_ir.specs.Insns.{reads_of, writes_of};
 ghost use Rattle.alloc_model.specs.declared.allocation.Event.TheVariants as event;
 ghost use Rattle.alloc_rules.specs.Journal.{eviction, assigned_by_move, assigned_unless};
@@ -11,9 +11,9 @@ ghost use Rattle.alloc_plain.specs.model.Visits.{leaving_events, leaving_at, all
 
 use crate::holders::{HeldTemporaries, held_left, next_held, register_of, writes_come};
 use alloc_model::allocation::{Event, Transfer};
-use c_tree::Seq;
+use alloc_plain_lists::{read_count, transfers};
+use bk_containers::Seq;
 use pass_core::Insn;
-use plain_lists::{read_count, transfers};
 use std::alloc::{AllocError, Global};
 use temp_ir::insn::TempInsn;
 

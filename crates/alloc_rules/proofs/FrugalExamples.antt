@@ -2,8 +2,8 @@
 use Rattle.std.proofs.Common.{◌≡◌, ◌≢◌, ℕ, zero, suc, ◌+◌, ◌*◌, ◌<◌, List, [], ◌∷◌, ◌++◌, Bool, true, false, Some, refl, sym, ap, ◌∙◌, subst, arith}
 use Rattle.std.specs.Prelude.{Contains, slice_get, slice_index_or}
 use Rattle.std.proofs.lemmas.Option.{none-some, same_Some}
-use Rattle.suifvm_ir.specs.Functions.{insn_at, successors_of}
-use Rattle.suifvm_ir.specs.Live as live
+use Rattle.pass_core.specs.Functions.{insn_at, successors_of}
+use Rattle.pass_core.specs.Live as live
 use Rattle.temp_ir.specs.declared.insn.FixedRegister.TheVariants.{Value}
 use Rattle.temp_ir.specs.declared.insn.TempInsn.{TempInsn}
 use Rattle.temp_ir.specs.declared.insn.TempInsn.TheVariants.{ToFixed, Return}

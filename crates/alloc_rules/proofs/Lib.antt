@@ -5,3 +5,4 @@ mod WrongPlacements
 mod WrongReplays
 mod Journals
 mod RightPlacements
+pub mod Allocations

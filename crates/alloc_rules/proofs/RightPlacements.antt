@@ -2,8 +2,8 @@
 use Rattle.std.proofs.Common.{◌≡◌, ℕ, zero, suc, ◌+◌, List, [], ◌∷◌, Some, true, false, refl, sym, ◌∙◌, inl, inr, subst, length, arith}
 use Rattle.std.specs.Prelude.{slice_get, slice_index_or, All, Contains}
 use Rattle.std.proofs.lemmas.Option.{none-some, same_Some}
-use Rattle.suifvm_ir.specs.Functions.{insn_at}
-use Rattle.suifvm_ir.specs.Live.Live.{IsRead, Passes, Follows}
+use Rattle.pass_core.specs.Functions.{insn_at}
+use Rattle.pass_core.specs.Live.Live.{IsRead, Passes, Follows}
 use Rattle.temp_ir.specs.declared.operation.TempBranchOp.TheVariants.{Bne}
 use Rattle.temp_ir.specs.declared.insn.FixedRegister.TheVariants.{Value}
 use Rattle.temp_ir.specs.declared.insn.TempInsn.{TempInsn}

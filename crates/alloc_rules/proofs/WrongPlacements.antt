@@ -2,7 +2,7 @@
 use Rattle.std.proofs.Common.{◌≡◌, ◌≢◌, ℕ, zero, suc, ◌<◌, List, [], ◌∷◌, Bool, true, false, refl, sym, ap, ◌∙◌, inl, inr, arith}
 use Rattle.std.proofs.lemmas.Bool.{eq-eqb}
 use Rattle.std.specs.Prelude.{◌==◌, ◌⊎◌, ◌||◌, Contains}
-use Rattle.suifvm_ir.specs.Live.{IsRead, Follows}
+use Rattle.pass_core.specs.Live.{IsRead, Follows}
 use Rattle.temp_ir.specs.declared.insn.FixedRegister.TheVariants.{Value}
 use Rattle.temp_ir.specs.declared.insn.TempInsn.TheVariants.{ToFixed, Jump, Return}
 use Rattle.temp_ir.specs.Fixed.{has_number}

@@ -1,7 +1,7 @@
 -- Each of the further wrong placements lacks what its clause asks for.
 use Rattle.std.proofs.Common.{◌≡◌, ◌≢◌, ℕ, ◌<◌, List, [], ◌∷◌, refl, ap, inl, inr, arith}
 use Rattle.std.specs.Prelude.{◌⊎◌, slice_index_or}
-use Rattle.suifvm_ir.specs.Live.{IsRead}
+use Rattle.pass_core.specs.Live.{IsRead}
 use Rattle.temp_ir.specs.declared.operation.Operation.TheVariants.{Addq}
 use Rattle.temp_ir.specs.declared.insn.FirstOperand.TheVariants as s
 use Rattle.temp_ir.specs.declared.insn.SecondOperand.TheVariants as o

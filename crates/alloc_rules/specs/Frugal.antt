@@ -2,7 +2,7 @@
 -- (PLDI 1998): seven rules on the finished function.
 use Rattle.std.specs.Prelude.{◌≡◌, ◌≢◌, ℕ, zero, suc, ◌+◌, ◌*◌, ◌-◌, ◌<◌, ◌==◌, ◌⊎◌, ◌&&◌, Bool, true, false, List, [], ◌∷◌, ◌++◌, take, length, find, slice_get, slice_index_or, Contains, Option, Some, None, if◌then◌else◌}
 use Rattle.std.specs.List.{list_any, range_with_len}
-use Rattle.suifvm_ir.specs.Functions.{count_of, insn_at, successors_of}
+use Rattle.pass_core.specs.Functions.{count_of, insn_at, successors_of}
 use Rattle.temp_ir.specs.declared.insn.TempInsn.{TempInsn}
 use Rattle.temp_ir.specs.Insns.{writes_of, targets_of, flows_on_of}
 use Rattle.temp_ir.specs.Fixed.{has_number}

@@ -1,7 +1,7 @@
 -- When few transfers stand at each place, so that an allocation adds a bounded number of words to each instruction and
 -- edge of its function.
 use Rattle.std.specs.Prelude.{◌≡◌, ℕ, ◌≤◌, All, length, Some, if◌then◌else◌}
-use Rattle.suifvm_ir.specs.Functions.{insn_at}
+use Rattle.pass_core.specs.Functions.{insn_at}
 use Rattle.temp_ir.specs.declared.insn.TempInsn.{TempInsn}
 use Rattle.temp_ir.specs.Cost.{makes_call}
 use Rattle.alloc_model.specs.Places.{Plan, transfers_at}

@@ -6,4 +6,5 @@ pub mod WrongPlacements
 pub mod WrongReplays
 pub mod Scan
 pub mod Lean
+pub mod Allocations
 pub mod RightPlacements

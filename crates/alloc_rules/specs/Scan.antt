@@ -1,6 +1,6 @@
 -- What the lists and sets are that an allocator's passes hand on.
 use Rattle.std.specs.Prelude.{◌≡◌, ℕ, suc, ◌+◌, ◌*◌, ◌<◌, ◌↔◌, true, Bool, List, [], length, All, Contains, slice_index_or, slice_get, Some}
-use Rattle.suifvm_ir.specs.Functions.{insn_at}
+use Rattle.pass_core.specs.Functions.{insn_at}
 use Rattle.temp_ir.specs.declared.insn.TempInsn.{TempInsn}
 use Rattle.temp_ir.specs.Insns.{reads_of, writes_of}
 use Rattle.temp_ir.specs.Programs.{TempFn}

@@ -2,7 +2,7 @@
 -- the finished allocation; which registers are free, and for how long; and which temporary is wanted again last.
 use Rattle.std.specs.Prelude.{◌≡◌, ℕ, zero, suc, ◌+◌, ◌-◌, ◌*◌, ◌/◌, ◌%◌, ◌==◌, nat_lt, ◌↔◌, not, ◌&&◌, ◌||◌, Bool, true, false, List, [], ◌∷◌, drop, length, filter, find, flat_map, take_while, slice_get, slice_index_or, Option, Some, None, unwrap_or, option_and_then, if◌then◌else◌}
 use Rattle.std.specs.List.{list_any, range_with_len, best_of}
-use Rattle.suifvm_ir.specs.Functions.{count_of, insn_at}
+use Rattle.pass_core.specs.Functions.{count_of, insn_at}
 use Rattle.temp_ir.specs.declared.insn.TempInsn.{TempInsn}
 use Rattle.temp_ir.specs.Insns.{reads_of, writes_of}
 use Rattle.temp_ir.specs.Fixed.{fixed_reads_of, fixed_writes_of, ended_of, has_number}

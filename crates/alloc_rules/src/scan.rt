@@ -5,9 +5,9 @@ ghost use Rattle.std.specs.Prelude.{◌≡◌, ◌+◌, ◌<◌, ◌^◌, false,
 
 use alloc_model::allocation::{Event, TempPlace, Transfer};
 use bk_bits::BitSet;
-use c_tree::Seq;
+use bk_containers::Seq;
+use pass_core::function::Func;
 use std::alloc::{AllocError, Global};
-use suifvm_ir::function::Func;
 use temp_ir::insn::TempInsn;
 
 /// A part of a lifetime, from its first to its last point.

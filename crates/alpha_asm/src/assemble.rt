@@ -22,13 +22,16 @@ use alpha_items::asm::Asm;
 use alpha_items::item::{AsmItem, Fix};
 use bk_memory::memory_is_short;
 use std::alloc::{AllocError, Global};
+use thiserror::Error;
 
 /// Why an assembly has no image.
-#[derive(Clone, Copy, Debug, PartialEq, Eq)]
+#[derive(Clone, Copy, Debug, PartialEq, Eq, Error)]
 pub enum AsmFault {
     /// Its text has so many words, and an image has at most 2^28.
+    #[error("{words} words of text")]
     CodeTooLong { words: u64 },
     /// Memory is short.
+    #[error("there was no memory")]
     NoMemory,
 }
 

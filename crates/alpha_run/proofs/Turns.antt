@@ -12,8 +12,8 @@ use Rattle.alpha_isa.specs.declared.insn.BranchOp.{BranchOp}
 use Rattle.alpha_isa.specs.Program.{Program, instruction_at}
 use Rattle.alpha_isa.specs.State.{State, register, with_register}
 use Rattle.alpha_isa.specs.Step.{MachineNext, step, fetched_step, insn_step, memory_step, branch_step, stuck_at, next_instruction}
-use Rattle.alpha_run.specs.declared.processor.Turn.{Turn}
-use Rattle.alpha_run.specs.declared.processor.Turn.TheVariants as turn
+use Rattle.alpha_run.specs.declared.processor.StepResult.{StepResult}
+use Rattle.alpha_run.specs.declared.processor.StepResult.TheVariants as turn
 use Rattle.alpha_run.specs.declared.processor.Processor.{Processor}
 use Rattle.alpha_run.specs.model.ProcessorState.{processor_state}
 use Rattle.alpha_run.specs.model.TakenWord.{taken_word}
@@ -54,7 +54,7 @@ service_asks p s i function number e same f r = asks_only p s i function number 
 puts_only : (function : ℕ) (s : State) → register s 0 ≡ 2 → takes function s ≡ false
 puts_only function s r = and_right (eqb function 0x83) (eqb (register s 0) 3) (rw r refl)
 
-pub call_steps : (p : Program) (s : State) (i : Fields) (function : ℕ) (t : Turn) → Some i ≡ instruction_at p s.pc → i ≡ fields.Pal function → Calls function s t → Steps p t s s
+pub call_steps : (p : Program) (s : State) (i : Fields) (function : ℕ) (t : StepResult) → Some i ≡ instruction_at p s.pc → i ≡ fields.Pal function → Calls function s t → Steps p t s s
 call_steps p s i function turn.Goes e same h = absurd h
 call_steps p s i function (turn.Over halt) e same h = (insn_goes p s i (fields.Pal function) _ e same (sym h.0), asks_only p s i function 3 e same ∙ h.1)
 call_steps p s i function (turn.Puts byte) e same h = (insn_goes p s i (fields.Pal function) _ e same (sym h.0), asks_only p s i function 3 e same ∙ puts_only function s h.2, service_asks p s i function 2 e same h.1 h.2, refl)

@@ -8,12 +8,12 @@ ghost use Rattle.alpha_isa.specs.Behave.{IsStack, start_state};
 
 use crate::ending::{Ending, Halt};
 use crate::memory::Memory;
-use crate::processor::{Processor, TEXT_START, Turn};
+use crate::processor::{Processor, StepResult, TEXT_START};
 use crate::registers::Registers;
 use alpha_isa::decode::decode;
 use alpha_isa::image::Image;
 use alpha_isa::insn::Insn32;
-use bk_io::outside::{Sink, Source};
+use bk_io::outside::{Sink, Source, ask};
 use std::alloc::{AllocError, Global};
 use std::marker::Model;
 
@@ -74,7 +74,7 @@ impl Machine {
     ghost use Rattle.alpha_run.specs.Ending.{halt_ending};
     ghost use Rattle.alpha_run.specs.model.Stop.{stops_early};
     ghost use Rattle.alpha_run.specs.Run.{IsRun, MachineBehaves, halt_of, input_faults_after, output_faults_after};
-    ghost use Rattle.bk_io.specs.Outside.{Traffic};
+    ghost use Rattle.bk_io.specs.Outside.{traffic_of};
 
     /// A machine with an image in it, and a stack of so many bytes, from 4,096 to 268,435,456 of them
     /// and a multiple of 16. It takes all the memory that its runs need.
@@ -116,14 +116,14 @@ impl Machine {
         ensures run { (p : Program) (bytes : List ℕ) →
             IsMachineOf p self.old → self.old.halt ≡ None → I.left input.old ≡ Some bytes →
             IsRun p budget result (snapshot_state self.old bytes []) self.old self.new
-            (record { left = I.left input.old; made = I.made input.old; taken = O.taken out.old })
-            (record { left = I.left input.new; made = I.made input.new; taken = O.taken out.new }) }
+            (traffic_of I.left I.made O.taken input.old out.old)
+            (traffic_of I.left I.made O.taken input.new out.new) }
         // a run of a machine that was just loaded is the behaviour of its image
         ensures behaves { (p : Program) (stack : ℕ) (bytes : List ℕ) →
             self.old ≡ first_snapshot p stack → I.left input.old ≡ Some bytes →
             MachineBehaves p stack bytes budget result
-            (record { left = I.left input.old; made = I.made input.old; taken = O.taken out.old })
-            (record { left = I.left input.new; made = I.made input.new; taken = O.taken out.new }) }
+            (traffic_of I.left I.made O.taken input.old out.old)
+            (traffic_of I.left I.made O.taken input.new out.new) }
         ensures again { IfSome self.old.halt (λ h. (result ≡ halt_ending h) × (self.new ≡ self.old) ×
             (input.new ≡ input.old) × (out.new ≡ out.old)) }
         ensures halt { self.new.halt ≡ halt_of result }
@@ -147,8 +147,8 @@ impl Machine {
         ensures run { (p : Program) (x y : List ℕ) →
             IsMachineOf p self.old → self.old.halt ≡ None → I.left input.old ≡ Some x →
             IsRun p 1 (unwrap_or result Ending.Budget) (snapshot_state self.old x y) self.old self.new
-            (record { left = I.left input.old; made = I.made input.old; taken = O.taken out.old })
-            (record { left = I.left input.new; made = I.made input.new; taken = O.taken out.new }) }
+            (traffic_of I.left I.made O.taken input.old out.old)
+            (traffic_of I.left I.made O.taken input.new out.new) }
         ensures halt { self.old.halt ≡ None → self.new.halt ≡ halt_of (unwrap_or result Ending.Budget) }
         ensures early { IfSome result (λ e. IsTrue (stops_early e)) }
         ensures program { (p : Program) → IsMachineOf p self.old → IsMachineOf p self.new }
@@ -158,16 +158,16 @@ impl Machine {
             ≡ output_faults_after (unwrap_or result Ending.Budget) (O.faults out.old) }
     {
         match self.processor.step() {
-            Turn::Goes => {
+            StepResult::Goes => {
                 self.steps = self.steps.saturating_add(1);
                 None
             }
-            Turn::Over(halt) => {
+            StepResult::Over(halt) => {
                 self.steps = self.steps.saturating_add(halt.steps());
                 self.halt = Some(halt);
                 Some(halt.ending())
             }
-            Turn::Puts(byte) => {
+            StepResult::Puts(byte) => {
                 if out.put(byte).is_err() {
                     return Some(Ending::WriteFault);
                 }
@@ -176,8 +176,8 @@ impl Machine {
                 self.written = self.written.saturating_add(1);
                 None
             }
-            Turn::Takes => {
-                let Ok(byte) = input.next() else {
+            StepResult::Takes => {
+                let Ok(byte) = ask(input, out) else {
                     return Some(Ending::InputFault);
                 };
                 self.processor.resume_with(byte);

@@ -29,7 +29,7 @@ pub(crate) struct Processor {
 
 /// What a step did, or what it waits for.
 #[derive(Clone, Copy, Debug, PartialEq, Eq)]
-pub(crate) enum Turn {
+pub(crate) enum StepResult {
     Goes,
     Over(Halt),
     /// A byte is to be put, before the step is done.
@@ -305,19 +305,19 @@ impl Processor {
     }
 
     /// A call of privileged code.
-    fn call(&self, function: u32) -> Turn
+    fn call(&self, function: u32) -> StepResult
         ensures { (x y : List ℕ) → Calls function (processor_state self.now x y) result }
     {
         match (function, self.registers.get(0)) {
-            (0xaa, _) => Turn::Over(Halt::Trap {
+            (0xaa, _) => StepResult::Over(Halt::Trap {
                 code: self.registers.get(16),
             }),
-            (0x83, 1) => Turn::Over(Halt::Done {
+            (0x83, 1) => StepResult::Over(Halt::Done {
                 status: (self.registers.get(16) % 256) as u8,
             }),
-            (0x83, 2) => Turn::Puts((self.registers.get(16) % 256) as u8),
-            (0x83, 3) => Turn::Takes,
-            _ => Turn::Over(Halt::Stuck { pc: self.pc }),
+            (0x83, 2) => StepResult::Puts((self.registers.get(16) % 256) as u8),
+            (0x83, 3) => StepResult::Takes,
+            _ => StepResult::Over(Halt::Stuck { pc: self.pc }),
         }
     }
 
@@ -333,7 +333,7 @@ impl Processor {
     }
 
     /// A step, up to what it has to wait for.
-    pub(crate) fn step(&mut self) -> Turn
+    pub(crate) fn step(&mut self) -> StepResult
         requires { IsShort self.old }
         ensures within { OnTrue (waits result) (self.new.pc < 2 ^ 32) }
         ensures step { (p : Program) (x y : List ℕ) → IsProcessorOf p self.old →
@@ -341,27 +341,27 @@ impl Processor {
         ensures kept { KeepsText self.old self.new }
     {
         match self.fetch() {
-            None => Turn::Over(Halt::Stuck { pc: self.pc }),
+            None => StepResult::Over(Halt::Stuck { pc: self.pc }),
             Some(Fields::Memory { op, ra, rb, disp }) => {
                 if self.memory_step(op, ra, rb, disp) {
-                    Turn::Goes
+                    StepResult::Goes
                 } else {
-                    Turn::Over(Halt::Stuck { pc: self.pc })
+                    StepResult::Over(Halt::Stuck { pc: self.pc })
                 }
             }
             Some(Fields::Branch { op, ra, disp }) => {
                 self.branch_step(op, ra, disp);
-                Turn::Goes
+                StepResult::Goes
             }
             Some(Fields::Jump { ra, rb, .. }) => {
                 self.jump_step(ra, rb);
-                Turn::Goes
+                StepResult::Goes
             }
             Some(Fields::Operate { op, ra, rb, rc }) => {
                 if self.operate_step(op, ra, rb, rc) {
-                    Turn::Goes
+                    StepResult::Goes
                 } else {
-                    Turn::Over(Halt::Trap { code: 3 })
+                    StepResult::Over(Halt::Trap { code: 3 })
                 }
             }
             Some(Fields::Pal { function }) => self.call(function),

@@ -2,16 +2,16 @@
 use Rattle.std.proofs.Common.{ℕ, ◌+◌, ◌^◌, ◌<◌, ◌≤◌, List, [], ◌∷◌, length, sum_by, Option, Some, None, All, arith}
 use Rattle.std.proofs.lemmas.List.Sums.{sum_by-cons}
 use Rattle.std.proofs.lemmas.List.Elements.{All-nil, All-cons, All-head, All-tail}
-use Rattle.suifvm_ir.specs.Functions.{AllInsns, UsesRegisters, count_of}
+use Rattle.pass_core.specs.Functions.{AllInsns, UsesRegisters, count_of}
 use Rattle.suifvm_ir.specs.Insns.{reads_of, writes_of}
 use Rattle.suifvm_ir.specs.Programs.{VmFunction, IsLawfulFunction, weight_of, function_size, program_size}
-use Rattle.data_object.specs.declared.DataObject.{DataObject}
+use Rattle.mem_objects.specs.declared.DataObject.{DataObject}
 use Rattle.suifvm_ir.specs.declared.insn.TypedRegister.{TypedRegister}
 use Rattle.suifvm_ir.specs.declared.insn.VmInsn.{VmInsn}
 use Rattle.suifvm_ir.specs.declared.insn.VmInsn.TheVariants as x
 use Rattle.selection_code.specs.Fields.{IsNumbered, HasNumbers}
 use Rattle.selection_code.specs.Functions.{selected_blocks}
-use Rattle.selection_costs.proofs.Lengths.{code_short}
+use Rattle.selection_bounds.proofs.SelectionCosts.Lengths.{code_short}
 use Rattle.alpha_select.specs.model.Limits.{IsWithinLimits}
 
 few_returned : (value : Option TypedRegister) → length (reads_of (x.Return value)) ≤ 3

@@ -2,17 +2,17 @@
 use Rattle.std.proofs.Common.{◌≡◌, ◌+◌, ◌*◌, ◌≤◌, List, [], ◌∷◌, length, map, sum_by, All, refl, sym, ap, ◌∙◌, subst, arith}
 use Rattle.std.proofs.lemmas.List.{length-map}
 use Rattle.std.proofs.lemmas.List.Sums.{sum_by-cons}
-use Rattle.data_object.specs.declared.DataObject.{DataObject}
+use Rattle.mem_objects.specs.declared.DataObject.{DataObject}
 use Rattle.suifvm_ir.specs.declared.program.VmProgram.{VmProgram}
-use Rattle.suifvm_ir.specs.Functions.{AllInsns, count_of}
+use Rattle.pass_core.specs.Functions.{AllInsns, count_of}
 use Rattle.suifvm_ir.specs.Programs.{VmFunction, function_size, program_size}
 use Rattle.suifvm_ir.specs.Programs as vm
 use Rattle.temp_ir.specs.declared.program.TempProgram.{TempProgram}
 use Rattle.temp_ir.specs.Cost.{bulk_when_split}
 use Rattle.temp_ir.specs.Programs.{TempFn, main_count, IsLawfulTempFn}
-use Rattle.value_tests.proofs.Functions.{tested_function, cost_kept, size_kept}
-use Rattle.value_tests.proofs.Lawful.{mains_stay, names_stay}
-use Rattle.value_tests.proofs.Lawful as tests
+use Rattle.suifvm_zero_branches.proofs.Functions.{tested_function, cost_kept, size_kept}
+use Rattle.suifvm_zero_branches.proofs.Lawful.{mains_stay, names_stay}
+use Rattle.suifvm_zero_branches.proofs.Lawful as tests
 use Rattle.selection_code.specs.Fields.{HasFields}
 use Rattle.selection_laws.specs.Selected.{IsSelected}
 use Rattle.selection_laws.proofs.Plain.{selected_plain}

@@ -4,8 +4,8 @@ use Rattle.std.specs.Prelude.{◌==◌, cond, slice_get, slice_index_or, IsTrue,
 use Rattle.std.proofs.lemmas.List.Sums.{sum_by-cons}
 use Rattle.std.proofs.lemmas.Option.{slice_get_within, slice_get-get_or, get_or_from_slice_get}
 use Rattle.std.proofs.lemmas.List.Elements.{All-nil, All-cons, All-head, All-tail}
-use Rattle.data_object.specs.declared.DataObject.{DataObject}
-use Rattle.suifvm_ir.specs.Functions.{AllInsns, count_of}
+use Rattle.mem_objects.specs.declared.DataObject.{DataObject}
+use Rattle.pass_core.specs.Functions.{AllInsns, count_of}
 use Rattle.suifvm_ir.specs.Programs.{VmFunction, function_size, program_size}
 use Rattle.suifvm_ir.specs.Programs as vm
 use Rattle.suifvm_ir.specs.declared.insn.VmInsn.{VmInsn}
@@ -14,14 +14,14 @@ use Rattle.temp_ir.specs.Fixed.{is_settled}
 use Rattle.temp_ir.specs.Programs.{TempFn, is_main, main_count, function_takes, names_what_is_there, goes_back_to_marks, IsLawfulTempFn}
 use Rattle.alloc_model.specs.Temporaries.{TemporaryCode, code_of}
 use Rattle.selection_code.specs.Functions.{selected_blocks}
-use Rattle.selection_shapes.proofs.Marks.{marks_kept}
-use Rattle.selection_shapes.proofs.Named.{names_there}
-use Rattle.selection_shapes.proofs.Settled.{functions_settled}
+use Rattle.selection_bounds.proofs.SelectionShapes.Marks.{marks_kept}
+use Rattle.selection_bounds.proofs.SelectionShapes.Named.{names_there}
+use Rattle.selection_bounds.proofs.SelectionShapes.Settled.{functions_settled}
 use Rattle.suifvm_ir.specs.declared.program.VmProgram.{VmProgram}
 use Rattle.temp_ir.specs.declared.program.TempProgram.{TempProgram}
 use Rattle.selection_code.specs.Fields.{HasFields}
-use Rattle.selection_costs.proofs.Lengths.{code_short}
-use Rattle.selection_costs.proofs.Costs.{costs_little}
+use Rattle.selection_bounds.proofs.SelectionCosts.Lengths.{code_short}
+use Rattle.selection_bounds.proofs.SelectionCosts.Costs.{costs_little}
 use Rattle.selection_laws.proofs.Plain.{plain_code}
 use Rattle.alpha_select.specs.Selection.{CostLittle}
 

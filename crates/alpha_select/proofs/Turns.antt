@@ -2,7 +2,7 @@
 use Rattle.std.proofs.Common.{◌≡◌, List, [], ◌∷◌, ◌++◌, length, All, sym, ap, ◌∙◌, subst, arith}
 use Rattle.std.proofs.lemmas.List.{append_assoc, append-nil}
 use Rattle.std.proofs.lemmas.List.Elements.{All-nil, All-cons, All-head, All-tail}
-use Rattle.suifvm_ir.specs.Functions.{AllInsns}
+use Rattle.pass_core.specs.Functions.{AllInsns}
 use Rattle.suifvm_ir.specs.Programs.{VmFunction}
 use Rattle.temp_ir.specs.Programs.{TempFn}
 use Rattle.selection_code.specs.Fields.{HasFields}

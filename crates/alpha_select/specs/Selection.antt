@@ -4,7 +4,7 @@ use Rattle.suifvm_ir.specs.Programs.{VmFunction}
 use Rattle.suifvm_ir.specs.Cost.{cost}
 use Rattle.temp_ir.specs.Programs.{TempFn}
 use Rattle.temp_ir.specs.Cost.{bulk_when_split}
-use Rattle.value_tests.specs.Tests.{tested_block}
+use Rattle.suifvm_zero_branches.specs.Tests.{tested_block}
 use Rattle.selection_code.specs.Functions.{selected_blocks}
 
 -- the selected one of a function: its name, number of parameters and objects stay, it has four temporaries more than

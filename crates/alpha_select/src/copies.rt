@@ -2,10 +2,10 @@
 
 ghost use Rattle.std.specs.Prelude.{◌≡◌, IfOk};
 
-use c_tree::Seq;
-use data_object::{DataCell, DataObject};
+use bk_containers::Seq;
+use mem_objects::{DataCell, DataObject};
+use pass_core::function::MemoryLocal;
 use std::alloc::{AllocError, Global};
-use suifvm_ir::function::MemoryLocal;
 
 /// Equal cells. It fails only where memory is short.
 fn copy_cells(alloc: Global, cells: &[DataCell]) -> Result<Seq<DataCell>, AllocError>

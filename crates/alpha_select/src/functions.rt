@@ -1,18 +1,18 @@
 //! Selected functions.
 
 ghost use Rattle.std.specs.Prelude.{◌≡◌, ◌^◌, ◌≤◌, All, OnOk, IfOk};
-ghost use Rattle.suifvm_ir.specs.Functions.{AllInsns};
+ghost use Rattle.pass_core.specs.Functions.{AllInsns};
 ghost use Rattle.suifvm_ir.specs.Programs.{VmFunction, function_size};
 ghost use Rattle.selection_code.specs.Fields.{HasFields};
 ghost use Rattle.alpha_select.specs.Selection.{IsSelectedFunction, AreSelected};
 ghost use Rattle.alpha_select.specs.model.Limits.{IsWithinLimits};
 
 use crate::copies::copy_objects;
-use c_tree::Seq;
+use bk_containers::Seq;
+use pass_core::function::Func;
 use selection_code::blocks::function_blocks;
 use selection_code::temporaries::SCRATCH_COUNT;
 use std::alloc::{AllocError, Global};
-use suifvm_ir::function::Func;
 use suifvm_ir::insn::VmInsn;
 use temp_ir::insn::TempInsn;
 

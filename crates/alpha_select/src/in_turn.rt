@@ -1,7 +1,7 @@
 //! Selection of a program whose functions are let go one by one.
 
 ghost use Rattle.std.specs.Prelude.{◌≡◌, ◌+◌, ◌*◌, ◌^◌, ◌<◌, ◌≤◌, All, length, sum_by, IfOk, OnOk};
-ghost use Rattle.suifvm_ir.specs.Functions.{AllInsns, count_of};
+ghost use Rattle.pass_core.specs.Functions.{AllInsns, count_of};
 ghost use Rattle.suifvm_ir.specs.Programs.{VmFunction, program_size};
 ghost use Rattle.temp_ir.specs.Programs.{TempFn};
 ghost use Rattle.selection_code.specs.Fields.{HasFields};
@@ -11,9 +11,9 @@ ghost use Rattle.alpha_select.specs.Selection.{AreSelected, CostLittle};
 ghost use Rattle.alpha_select.specs.model.Limits.{IsWithinLimits};
 
 use crate::functions::select_function;
-use c_tree::Seq;
+use bk_containers::Seq;
+use pass_core::function::Func;
 use std::alloc::{AllocError, Global};
-use suifvm_ir::function::Func;
 use suifvm_ir::insn::VmInsn;
 use suifvm_ir::program::VmProgram;
 use temp_ir::insn::TempInsn;

@@ -1,7 +1,7 @@
 //! Selected programs.
 
 ghost use Rattle.std.specs.Prelude.{◌≡◌, ◌+◌, ◌*◌, ◌^◌, ◌<◌, ◌≤◌, All, length, sum_by, IfOk};
-ghost use Rattle.suifvm_ir.specs.Functions.{count_of};
+ghost use Rattle.pass_core.specs.Functions.{count_of};
 ghost use Rattle.suifvm_ir.specs.Programs.{VmFunction, program_size};
 ghost use Rattle.temp_ir.specs.Programs.{TempFn};
 ghost use Rattle.selection_laws.specs.Selected.{IsSelected};

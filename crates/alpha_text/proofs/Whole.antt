@@ -18,7 +18,7 @@ use Rattle.alpha_lines.specs.Lines.{HasLine, item_line, data_line, fix_line}
 use Rattle.alpha_lines.specs.model.Mnemonics.{mnemonics, mnemonic_of}
 use Rattle.alpha_lines.specs.model.Readers.{item_of}
 use Rattle.alpha_lines.proofs.Items.{item_complete}
-use Rattle.alpha_text.specs.Texts.{Texts, ended_lines, hex_rows, hex_lines, asm_text}
+use Rattle.alpha_text.specs.Texts.{Texts, HasText, ended_lines, hex_rows, hex_lines, asm_text}
 use Rattle.alpha_text.specs.Wrong.{lines_of, is_ended, Nothing, Data, is_label_named, is_among, begins_data, NoneWrong}
 use Rattle.alpha_text.proofs.Lines.{lines_joined}
 use Rattle.alpha_text.proofs.Sound.{IsKnown, IsSane, said_lines, well_sound}
@@ -154,3 +154,8 @@ read_text text items n bytes fixes none =
     let sound = well_sound (lines_of text) Nothing (lines_of text) (is_ended text) (Data items n bytes fixes) tt none in
     let full : length bytes ≡ n = sound.1 in
     sym (lines_joined text sound.2) ∙ (ap ended_lines sound.3 ∙ rw (← full) refl)
+
+pub read_fields : (text : List ℕ) (items : List AsmItem) (n : ℕ) (bytes : List ℕ) (fixes : List Fix) → NoneWrong text (Data items n bytes fixes) → HasText (record { items = items; bytes = bytes; fixes = fixes })
+read_fields text items n bytes fixes none =
+    let sound = well_sound (lines_of text) Nothing (lines_of text) (is_ended text) (Data items n bytes fixes) tt none in
+    (sound.0.0.fields, sound.0.1.range)

@@ -83,6 +83,7 @@ fn within_limit(counted: u64) -> Result<(), TextFault>
 pub fn read_asm(alloc: Global, text: &[u8]) -> Result<Asm, TextFault>
     ensures text { IfOk result (λ asm. Texts text.now asm) }
     ensures whole { IfOk result (λ asm. IsWhole asm) }
+    ensures fields { IfOk result (λ asm. HasText asm) }
     ensures fault { IfErr result (λ fault. IsTextFault text.now fault) }
     ensures only { (asm : Assembly) → IsWhole asm → HasText asm → Texts text.now asm → MatchResult result
         (λ found. found ≡ asm) (λ fault. fault ≡ NoMemory) }

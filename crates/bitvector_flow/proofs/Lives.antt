@@ -4,9 +4,9 @@ use Rattle.std.specs.Prelude.{slice_get, Contains}
 use Rattle.std.proofs.lemmas.Bool.{cases_lt, eq-eqb, eqb-true}
 use Rattle.std.proofs.lemmas.List.{get_or_past}
 use Rattle.std.proofs.lemmas.Option.{slice_get_within, get_or_from_slice_get, slice_get-get_or, none-some, same_Some}
-use Rattle.suifvm_ir.specs.Functions.{insn_in, insn_at, successors_of}
-use Rattle.suifvm_ir.specs.Live.{Live}
-use Rattle.suifvm_ir.specs.Live.Live.{IsRead, Passes, Follows}
+use Rattle.pass_core.specs.Functions.{insn_in, insn_at, successors_of}
+use Rattle.pass_core.specs.Live.{Live}
+use Rattle.pass_core.specs.Live.Live.{IsRead, Passes, Follows}
 use Rattle.cfg.specs.Edges.{successors_from}
 use Rattle.bk_bits.specs.Sets.{has}
 use Rattle.bitvector_flow.specs.Flows.{has_at, FlowsOut, FlowsIn}

@@ -1,7 +1,7 @@
 -- The sets of registers that are live at the tops and bottoms of blocks.
 use Rattle.std.specs.Prelude.{◌≡◌, ℕ, ◌<◌, ◌^◌, ◌==◌, ◌&&◌, ◌||◌, not, ◌↔◌, Bool, true, false, List, [], ◌∷◌, length, slice_get, Some}
 use Rattle.std.specs.List.{list_any}
-use Rattle.suifvm_ir.specs.Live.{Live}
+use Rattle.pass_core.specs.Live.{Live}
 use Rattle.bitvector_flow.specs.Flows.{has_at, AreBounded}
 
 abbrev pub has_register : (registers : List ℕ) → (register : ℕ) → Bool

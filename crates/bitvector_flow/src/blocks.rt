@@ -1,15 +1,15 @@
 //! What the instructions of a block read and write.
 
 ghost use Rattle.std.specs.Prelude.{◌≡◌, ◌<◌, ◌^◌, ◌==◌, ◌&&◌, ◌||◌, not, ℕ, All, length, IfOk, OnOk};
-ghost use Rattle.suifvm_ir.specs.Functions.{AllInsns, UsesRegisters};
+ghost use Rattle.pass_core.specs.Functions.{AllInsns, UsesRegisters};
 ghost use Rattle.bk_bits.specs.Sets.{has};
 ghost use Rattle.bitvector_flow.specs.Lives.{has_register, reads_first, some_writes, HasFewRegisters};
 ghost use Rattle.bitvector_flow.specs.model.Blocks.{IsPushed, AreBlockSets};
 
 use bk_bits::BitSet;
 use pass_core::Insn;
+use pass_core::block::Block;
 use std::alloc::{AllocError, Global};
-use suifvm_ir::block::Block;
 
 /// The registers that instructions read before they write them, and those that they write.
 #[derive(Drop)]

@@ -1,7 +1,7 @@
 //! Sets for the blocks of a function.
 
 use bk_bits::BitSet;
-use c_tree::Seq;
+use bk_containers::Seq;
 
 /// A set for the top of each block, and one for its bottom.
 #[derive(Drop)]

@@ -1,18 +1,18 @@
 //! Which registers are live.
 
 ghost use Rattle.std.specs.Prelude.{◌≡◌, IfOk};
-ghost use Rattle.suifvm_ir.specs.Functions.{AllInsns};
+ghost use Rattle.pass_core.specs.Functions.{AllInsns};
 ghost use Rattle.cfg.specs.Edges.{successors_from};
 ghost use Rattle.bitvector_flow.specs.Lives.{HasFewRegisters, AreLive};
 
 use crate::blocks::{BlockSets, block_sets};
 use crate::flow::Flow;
 use crate::settling::{Solution, solve_sets};
-use c_tree::Seq;
+use bk_containers::Seq;
 use cfg::Graph;
 use pass_core::Insn;
+use pass_core::function::Func;
 use std::alloc::{AllocError, Global};
-use suifvm_ir::function::Func;
 
 /// The registers that are live at the top and at the bottom of each block of a function with this flow graph: those of
 /// which some path from there reads one before it writes it. It fails only where memory is short.

@@ -9,7 +9,7 @@ ghost use Rattle.bitvector_flow.specs.model.Tested.{AreTested};
 use crate::flow::Flow;
 use crate::settling::{Solution, solve_sets};
 use bk_bits::BitSet;
-use c_tree::Seq;
+use bk_containers::Seq;
 use cfg::Graph;
 use std::alloc::{AllocError, Global};
 

@@ -7,7 +7,7 @@ ghost use Rattle.bitvector_flow.specs.model.Rounds.{AreBelow, turn, IsStep, AreF
 
 use crate::sets::{empty_sets, gather, pass};
 use bk_bits::BitSet;
-use c_tree::Seq;
+use bk_containers::Seq;
 use std::alloc::{AllocError, Global};
 
 /// What flows out of each block, and into it.

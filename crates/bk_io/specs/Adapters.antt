@@ -1,16 +1,23 @@
 -- What the adapters do to the reader or writer under them, as far as it is known.
-use Rattle.std.specs.Prelude.{ℕ, ◌≤◌, List, [], ◌∷◌, take, length, Option, Some, None, Result, Ok, Err}
-use Rattle.std.specs.Io.KnownBytes.{Keeps, Appends as Gains, Consumes, IsAtEnd}
+use Rattle.std.specs.Prelude.{ℕ, ◌≤◌, Bool, List, [], ◌∷◌, take, length, Option, Some, None, Result, Ok, Err}
+use Rattle.std.specs.Io.KnownBytes.{Keeps, Appends as Gains, Consumes, IsAtEnd, append_known}
 
 -- a reader as a source: the bytes that remain, where they are known, and the count of faults
 pub record Inlet : Type 0 where
   pub remaining : Option (List ℕ)
   pub faults : ℕ
 
--- a writer as a sink: the bytes that it holds, where they are known, and the count of faults
+-- a writer as a sink: the bytes that were written to it, where they are known, those that are held back, whether a
+-- write failed that no call has reported, and the count of faults
 pub record Outlet : Type 0 where
-  pub contents : Option (List ℕ)
+  pub written : Option (List ℕ)
+  pub held : List ℕ
+  pub owes_fault : Bool
   pub faults : ℕ
+
+-- all bytes of a sink, in order: what was written, where it is known, and then what is held
+abbrev pub outlet_bytes : Outlet → Option (List ℕ)
+outlet_bytes outlet = append_known outlet.written outlet.held
 
 -- a byte is the first that remained, none is the end, and a failed read leaves what remained
 abbrev pub GivesByte : {E : Type 0} → Result (Option ℕ) E → Option (List ℕ) → Option (List ℕ) → Type 0

@@ -41,3 +41,7 @@ pub record Traffic : Type 0 where
   pub left : Option (List ℕ)
   pub made : Option ℕ
   pub taken : Option (List ℕ)
+
+abbrev pub traffic_of : {I O : Type 0} → (left : I → Option (List ℕ)) → (made : I → Option ℕ) →
+    (taken : O → Option (List ℕ)) → I → O → Traffic
+traffic_of left made taken input out = record { left = left input; made = made input; taken = taken out }

@@ -3,8 +3,8 @@ use Rattle.std.specs.Prelude.{◌≡◌, ℕ, ◌<◌, ◌≤◌, List, [], ◌+
 use Rattle.std.specs.List.{list_any}
 use Rattle.bk_memory.specs.Shortage.{MemoryIsShort}
 use Rattle.bk_io.specs.Outside.{next_count}
-use Rattle.bk_io.specs.declared.outside.Got.{Got}
-use Rattle.bk_io.specs.declared.outside.Got.TheVariants.{Whole, Cut}
+use Rattle.bk_io.specs.declared.outside.ReadExtent.{ReadExtent}
+use Rattle.bk_io.specs.declared.outside.ReadExtent.TheVariants.{Whole, Cut}
 use Rattle.bk_io.specs.declared.outside.FileFault.{FileFault}
 use Rattle.bk_io.specs.declared.outside.FileFault.TheVariants.{Failed, NoMemory}
 
@@ -28,7 +28,7 @@ abbrev pub after_call : Shelf → Shelf
 after_call shelf = record shelf { made = next_count shelf.made }
 
 -- the count of faults after a read: one more where it failed for another cause than memory, and else as before
-abbrev pub faults_after_read : Result Got FileFault → ℕ → ℕ
+abbrev pub faults_after_read : Result ReadExtent FileFault → ℕ → ℕ
 faults_after_read (Ok got) faults = faults
 faults_after_read (Err Failed) faults = next_count faults
 faults_after_read (Err NoMemory) faults = faults
@@ -39,17 +39,17 @@ HasCause Failed = Unit {0}
 HasCause NoMemory = MemoryIsShort
 
 -- how many bytes a read of at most limit bytes may append, by its answer
-abbrev pub IsCount : Result Got FileFault → ℕ → ℕ → Type 0
+abbrev pub IsCount : Result ReadExtent FileFault → ℕ → ℕ → Type 0
 IsCount (Ok Whole) limit n = n < limit
 IsCount (Ok Cut) limit n = n ≡ limit
 IsCount (Err e) limit n = n ≤ limit
 
 -- a read appends bytes to those that were there
-abbrev pub Appends : Result Got FileFault → ℕ → List ℕ → List ℕ → Type 0
+abbrev pub Appends : Result ReadExtent FileFault → ℕ → List ℕ → List ℕ → Type 0
 Appends r limit old new = (bytes : List ℕ) × (new ≡ old ++ bytes) × IsCount r limit (length bytes)
 
 -- what a read appends is a front of the file: all of it where it is shorter than the limit
-abbrev pub AppendsFile : Result Got FileFault → ℕ → List ℕ → List ℕ → List ℕ → Type 0
+abbrev pub AppendsFile : Result ReadExtent FileFault → ℕ → List ℕ → List ℕ → List ℕ → Type 0
 AppendsFile (Ok Whole) limit file old new = (length file < limit) × (new ≡ old ++ file)
 AppendsFile (Ok Cut) limit file old new = (limit ≤ length file) × (new ≡ old ++ take limit file)
 AppendsFile (Err e) limit file old new = (n : ℕ) × (new ≡ old ++ take n file)

@@ -1,21 +1,21 @@
 //! Adapters to the system. They count the calls that fail, and tell nothing of the bytes through the traits;
 //! what they do to the reader or writer under them is said by clauses of their own.
 
-ghost use Rattle.std.specs.Prelude.{◌≡◌, ◌≤◌, ◌<◌, ◌+◌, IfOk, OnErr, IfErr, length, MatchResult, ⊤};
+ghost use Rattle.std.specs.Prelude.{◌≡◌, ◌↔◌, ◌≤◌, ◌<◌, ◌+◌, true, false, [], IfOk, IsOk, OnOk, OnErr, IsErr, IfErr, length, MatchResult, ⊤};
 ghost use Rattle.std.specs.Io.KnownBytes.{Keeps, IsAtEnd};
-ghost use Rattle.std.specs.Io.Buffered.{reader_remaining};
+ghost use Rattle.std.specs.Io.Buffered.{reader_remaining, writer_buffer, writer_contents};
 ghost use Rattle.bk_io.specs.Outside.{count_end, faults_after, next_count};
 ghost use Rattle.bk_io.specs.Shelf.{faults_after_read, Appends, HasCause};
-ghost use Rattle.bk_io.specs.Adapters.{GivesByte, Writes};
+ghost use Rattle.bk_io.specs.Adapters.{GivesByte, Writes, outlet_bytes};
 ghost use Rattle.bk_io.specs.model.Steps.{WritesSome, AppendsRead, AppendsPart, AppendsNone};
 
-use crate::outside::{Failed, FileFault, Files, Got, Sink, Source};
+use crate::outside::{Failed, FileFault, Files, ReadExtent, Sink, Source};
 use std::alloc::{AllocError, Global};
-use std::io::{BufReader, Read, Write};
+use std::io::{BufReader, BufWriter, IsTerminal, Read, Write};
 use std::marker::Model;
 use std::{fs, rt};
 
-/// How many bytes of a file one read asks for.
+/// How many bytes of a file one read asks for, and how many of the output are held.
 const CHUNK: usize = 65536;
 
 /// A reader of the system as a source, read ahead through a buffer.
@@ -82,33 +82,75 @@ impl<R: Read + Drop> Source for HostSource<R> {
         }
         answer
     }
+
+    fn may_wait(&self) -> bool {
+        self.reader.buffer().is_empty()
+    }
 }
 
-/// A writer of the system as a sink. What is put is flushed, so that `Ok` leaves nothing in a buffer.
+/// A writer of the system as a sink. It holds up to a number of bytes, and lets them go where there are more, by
+/// `flush`, and by `finish`.
 #[derive(Drop)]
 pub struct HostSink<W: Write + Drop> {
-    writer: W,
+    writer: BufWriter<W>,
+    goes_by_lines: bool,
+    owes_fault: bool,
     faults: u64,
 }
 
 impl<W: Write + Drop> Model for HostSink<W> {
     ghost use Rattle.std.specs.Prelude.{◌≤◌};
+    ghost use Rattle.std.specs.Io.Buffered.{writer_inner, writer_buffer};
     ghost use Rattle.bk_io.specs.Outside.{count_end};
     ghost use Rattle.bk_io.specs.Adapters.{Outlet};
 
     ghost Value = { Outlet };
 
-    ghost view = { λ s. record { contents = W.contents s.writer; faults = s.faults } };
+    ghost view = { λ s. record {
+      written = W.contents (writer_inner s.writer);
+      held = writer_buffer s.writer;
+      owes_fault = s.owes_fault;
+      faults = s.faults;
+    } };
 
     ghost invariant = { λ s. s.faults ≤ count_end };
 }
 
 impl<W: Write + Drop> HostSink<W> {
-    /// A sink over a writer, as the standard output. It allocates nothing of its own.
-    pub fn new(_alloc: Global, writer: W) -> Result<HostSink<W>, AllocError>
-        ensures { IfOk result (λ s. s ≡ record { contents = W.contents writer; faults = 0 }) }
+    /// A sink over a writer, which holds up to so many bytes. It takes memory for them alone: for none where it
+    /// holds none, and each call writes.
+    pub fn with_capacity(
+        alloc: Global,
+        capacity: usize,
+        writer: W,
+    ) -> Result<HostSink<W>, AllocError>
+        ensures empty { IfOk result
+            (λ s. s ≡ record { written = W.contents writer; held = []; owes_fault = false; faults = 0 }) }
+        ensures succeeds { capacity ≡ 0 → IsOk result }
     {
-        Ok(HostSink { writer, faults: 0 })
+        match BufWriter::with_capacity(alloc, capacity, writer) {
+            Ok(writer) => Ok(HostSink {
+                writer,
+                goes_by_lines: false,
+                owes_fault: false,
+                faults: 0,
+            }),
+            Err(_) => Err(AllocError),
+        }
+    }
+}
+
+impl<W: Write + IsTerminal + Drop> HostSink<W> {
+    /// A sink over a writer, as the standard output. It holds up to 65,536 bytes, and on a terminal it lets them go
+    /// at each line feed.
+    pub fn new(alloc: Global, writer: W) -> Result<HostSink<W>, AllocError>
+        ensures { IfOk result
+            (λ s. s ≡ record { written = W.contents writer; held = []; owes_fault = false; faults = 0 }) }
+    {
+        let goes_by_lines = writer.is_terminal();
+        let mut sink = HostSink::with_capacity(alloc, CHUNK, writer)?;
+        sink.goes_by_lines = goes_by_lines;
+        Ok(sink)
     }
 }
 
@@ -122,8 +164,8 @@ fn write_some<W: Write>(writer: &mut W, bytes: &[u8]) -> Result<usize, Failed>
     }
 }
 
-/// Writes bytes through to the system, in as few calls as it takes.
-fn write_through<W: Write>(writer: &mut W, bytes: &[u8]) -> Result<(), Failed>
+/// Writes bytes, in as few calls as it takes.
+fn write_all<W: Write>(writer: &mut W, bytes: &[u8]) -> Result<(), Failed>
     ensures { Writes result bytes.now (W.contents writer.old) (W.contents writer.new) }
 {
     let mut at = 0;
@@ -133,27 +175,70 @@ fn write_through<W: Write>(writer: &mut W, bytes: &[u8]) -> Result<(), Failed>
         }
         at += write_some(writer, &bytes[at..])?;
     }
-    flush(writer)
+    Ok(())
 }
 
-/// Leaves nothing in a buffer of the writer.
-fn flush<W: Write>(writer: &mut W) -> Result<(), Failed>
-    ensures { Keeps (W.contents writer.old) (W.contents writer.new) }
+/// Lets go what a buffer holds.
+fn let_go<W: Write + Drop>(writer: &mut BufWriter<W>) -> Result<(), Failed>
+    ensures keeps { Keeps (writer_contents W.contents writer.old) (writer_contents W.contents writer.new) }
+    ensures empty { OnOk result (writer_buffer writer.new ≡ []) }
 {
     writer.flush().map_err(|_| Failed)
 }
 
 impl<W: Write + Drop> HostSink<W> {
-    /// Writes bytes through, and counts a failure.
+    /// Reports a fault that is owed.
+    fn pay(&mut self) -> Result<(), Failed>
+        ensures owed { IsErr result ↔ self.old.owes_fault ≡ true }
+        ensures paid { self.new ≡ record self.old { owes_fault = false } }
+    {
+        if self.owes_fault {
+            self.owes_fault = false;
+            return Err(Failed);
+        }
+        Ok(())
+    }
+
+    /// Puts bytes behind those that are held, unless a fault is owed.
+    fn hold(&mut self, bytes: &[u8]) -> Result<(), Failed>
+        ensures writes { Writes result bytes.now (outlet_bytes self.old) (outlet_bytes self.new) }
+        ensures owed { self.old.owes_fault ≡ true → IsErr result }
+        ensures paid { self.new.owes_fault ≡ false }
+        ensures count { self.new.faults ≡ self.old.faults }
+    {
+        self.pay()?;
+        write_all(&mut self.writer, bytes)
+    }
+
+    /// Puts bytes, and counts a failure.
     fn put_bytes(&mut self, bytes: &[u8]) -> Result<(), Failed>
-        ensures writes { Writes result bytes.now self.old.contents self.new.contents }
+        ensures writes { Writes result bytes.now (outlet_bytes self.old) (outlet_bytes self.new) }
+        ensures owed { self.old.owes_fault ≡ true → IsErr result }
         ensures count { self.new.faults ≡ faults_after result self.old.faults }
     {
-        let answer = write_through(&mut self.writer, bytes);
+        let answer = self.hold(bytes);
+        self.count(&answer);
+        self.end_line(bytes);
+        answer
+    }
+
+    /// Counts a call that failed.
+    fn count(&mut self, answer: &Result<(), Failed>)
+        ensures { self.new ≡ record self.old { faults = faults_after answer.now self.old.faults } }
+    {
         if answer.is_err() {
             self.faults = self.faults.saturating_add(1);
         }
-        answer
+    }
+
+    /// Lets go what is held where a line ends in these bytes, on a terminal.
+    fn end_line(&mut self, bytes: &[u8])
+        ensures keeps { Keeps (outlet_bytes self.old) (outlet_bytes self.new) }
+        ensures count { self.new.faults ≡ self.old.faults }
+    {
+        if self.goes_by_lines && bytes.contains(&b'\n') {
+            self.flush();
+        }
     }
 }
 
@@ -165,17 +250,43 @@ impl<W: Write + Drop> Sink for HostSink<W> {
     ghost taken = { λ _. None };
 
     fn put(&mut self, byte: u8) -> Result<(), Failed>
-        ensures writes { Writes result (byte ∷ []) self.old.contents self.new.contents }
+        ensures writes { Writes result (byte ∷ []) (outlet_bytes self.old) (outlet_bytes self.new) }
+        ensures owed { self.old.owes_fault ≡ true → IsErr result }
         ensures count { self.new.faults ≡ faults_after result self.old.faults }
     {
         self.put_bytes(&[byte])
     }
 
     fn put_slice(&mut self, bytes: &[u8]) -> Result<(), Failed>
-        ensures writes { Writes result bytes.now self.old.contents self.new.contents }
+        ensures writes { Writes result bytes.now (outlet_bytes self.old) (outlet_bytes self.new) }
+        ensures owed { self.old.owes_fault ≡ true → IsErr result }
         ensures count { self.new.faults ≡ faults_after result self.old.faults }
     {
         self.put_bytes(bytes)
+    }
+
+    fn flush(&mut self)
+        ensures keeps { Keeps (outlet_bytes self.old) (outlet_bytes self.new) }
+        ensures owed { self.old.owes_fault ≡ true → self.new.owes_fault ≡ true }
+        ensures empty { self.new.owes_fault ≡ false → self.new.held ≡ [] }
+        ensures count { self.new.faults ≡ self.old.faults }
+    {
+        if let_go(&mut self.writer).is_err() {
+            self.owes_fault = true;
+        }
+    }
+
+    fn finish(&mut self) -> Result<(), Failed>
+        ensures keeps { Keeps (outlet_bytes self.old) (outlet_bytes self.new) }
+        ensures owed { self.old.owes_fault ≡ true → IsErr result }
+        ensures paid { self.new.owes_fault ≡ false }
+        ensures empty { OnOk result (self.new.held ≡ []) }
+        ensures count { self.new.faults ≡ faults_after result self.old.faults }
+    {
+        self.flush();
+        let answer = self.pay();
+        self.count(&answer);
+        answer
     }
 }
 
@@ -231,7 +342,7 @@ fn read_up_to<R: Read>(
     chunk: &mut [u8],
     into: &mut Vec<u8>,
     limit: u64,
-) -> Result<Got, FileFault>
+) -> Result<ReadExtent, FileFault>
     requires { 0 < length chunk.old }
     ensures appends { AppendsRead result limit into.old.items into.new.items (R.remaining reader.old)
         (R.remaining reader.new) }
@@ -245,14 +356,14 @@ fn read_up_to<R: Read>(
             Err(fault) => return Err(fault),
         };
         if count == 0 {
-            return Ok(Got::Whole);
+            return Ok(ReadExtent::Whole);
         }
         left -= count as u64;
         if left == 0 {
             break;
         }
     }
-    Ok(Got::Cut)
+    Ok(ReadExtent::Cut)
 }
 
 /// Opens a file and appends its bytes until its end or the limit.
@@ -262,7 +373,7 @@ fn read_file<R: rt::Files>(
     chunk: &mut [u8],
     into: &mut Vec<u8>,
     limit: u64,
-) -> Result<Got, FileFault>
+) -> Result<ReadExtent, FileFault>
     requires { 0 < length chunk.old }
     ensures appends { Appends result limit into.old.items into.new.items }
     ensures memory { IfErr result HasCause }
@@ -279,7 +390,12 @@ impl<R: rt::Files + Drop> Files for HostFiles<R> {
 
     ghost told = { λ _. None };
 
-    fn read(&mut self, name: &str, into: &mut Vec<u8>, limit: u64) -> Result<Got, FileFault> {
+    fn read(
+        &mut self,
+        name: &str,
+        into: &mut Vec<u8>,
+        limit: u64,
+    ) -> Result<ReadExtent, FileFault> {
         let chunk = self.chunk.as_mut_slice();
         let answer = read_file(&self.runtime, name, chunk, into, limit);
         if answer == Err(FileFault::Failed) {

@@ -6,7 +6,7 @@ ghost use Rattle.bk_io.specs.Outside.{next_count, faults_after, left_after, take
 ghost use Rattle.bk_io.specs.Shelf.{is_due, file_of, Appends, AppendsFile, HasCause};
 ghost use Rattle.bk_io.specs.Memory.{shelf_at, shelf_of, name_and_bytes, is_put_due, after_put, after_puts, all_put};
 
-use crate::outside::{Failed, FileFault, Files, Got, Sink, Source};
+use crate::outside::{Failed, FileFault, Files, ReadExtent, Sink, Source};
 use std::alloc::{AllocError, Global};
 use std::marker::Model;
 
@@ -232,7 +232,12 @@ impl Files for MemFiles {
 
     ghost told = { λ s. Some (shelf_of s) };
 
-    fn read(&mut self, name: &str, into: &mut Vec<u8>, limit: u64) -> Result<Got, FileFault> {
+    fn read(
+        &mut self,
+        name: &str,
+        into: &mut Vec<u8>,
+        limit: u64,
+    ) -> Result<ReadExtent, FileFault> {
         let call = self.made;
         self.made = self.made.saturating_add(1);
         let there = open(self.files.as_slice(), self.fails.as_slice(), call, name);
@@ -245,16 +250,16 @@ impl Files for MemFiles {
 }
 
 /// Appends the front of a file, at most `limit` bytes of it.
-fn append(into: &mut Vec<u8>, file: &[u8], limit: u64) -> Result<Got, FileFault>
+fn append(into: &mut Vec<u8>, file: &[u8], limit: u64) -> Result<ReadExtent, FileFault>
     ensures appends { Appends result limit into.old.items into.new.items }
     ensures file { AppendsFile result limit file.now into.old.items into.new.items }
     ensures memory { IfErr result (λ e. (e ≡ FileFault.NoMemory) × HasCause e) }
 {
     let limit = limit as usize;
     let (front, got) = if file.len() < limit {
-        (file, Got::Whole)
+        (file, ReadExtent::Whole)
     } else {
-        (&file[..limit], Got::Cut)
+        (&file[..limit], ReadExtent::Cut)
     };
     into.extend_from_slice(front)?;
     Ok(got)

@@ -1,6 +1,6 @@
 //! The traits of the outside: a source of bytes, a sink of bytes, and a store of named files.
 
-ghost use Rattle.std.specs.Prelude.{◌≡◌, ℕ, ◌↔◌, List, IfOk, IfErr, IfSome, IsTrue, IsErrOf, Option, option_map, slice_get};
+ghost use Rattle.std.specs.Prelude.{◌≡◌, ℕ, ◌↔◌, List, IfOk, IfErr, IfSome, IsOk, IsTrue, IsErrOf, Option, option_map, slice_get};
 ghost use Rattle.bk_io.specs.Outside.{next_count, faults_after, left_after, taken_after, TakesSlice};
 ghost use Rattle.bk_io.specs.Shelf.{Shelf, is_due, file_of, after_call, faults_after_read, Appends, AppendsFile, HasCause};
 
@@ -49,7 +49,7 @@ impl From<AllocError> for FileFault {
 
 /// How much of a file was read.
 #[derive(Clone, Copy, Debug, PartialEq, Eq)]
-pub enum Got {
+pub enum ReadExtent {
     /// All of it: it has fewer bytes than the limit.
     Whole,
     /// As many bytes as the limit: it has at least so many.
@@ -73,9 +73,14 @@ pub trait Source {
         ensures left { left self.new ≡ left_after result (left self.old) }
         ensures made { made self.new ≡ option_map next_count (made self.old) }
         ensures count { faults self.new ≡ faults_after result (faults self.old) };
+
+    /// Whether the next call may wait for bytes that are not there yet. No clause rests on the answer.
+    fn may_wait(&self) -> bool {
+        true
+    }
 }
 
-/// A sink of bytes.
+/// A sink of bytes. It may hold what it takes, and lets that go later. One that tells the bytes that it took holds none.
 pub trait Sink {
     /// How many faults there were so far, at most 2^64 - 1: one for each call that failed.
     ghost faults: { Self → ℕ };
@@ -98,6 +103,45 @@ pub trait Sink {
         }
         Ok(())
     }
+
+    /// Lets go what is held. A write that fails there is kept in mind, and a later `put`, `put_slice` or `finish`
+    /// reports it.
+    fn flush(&mut self)
+        ensures taken { taken self.new ≡ taken self.old }
+        ensures count { faults self.new ≡ faults self.old }
+    {}
+
+    /// Lets go all that is held, and reports a write that failed and was not reported.
+    fn finish(&mut self) -> Result<(), Failed>
+        ensures told { IfSome (taken self.old) (λ _. IsOk result × (self.new ≡ self.old)) }
+        ensures taken { taken self.new ≡ taken self.old }
+        ensures count { faults self.new ≡ faults_after result (faults self.old) }
+    {
+        Ok(())
+    }
+}
+
+/// Lets go what an output holds, where the input may wait.
+fn flush_before<I: Source, O: Sink>(input: &I, out: &mut O)
+    ensures taken { O.taken out.new ≡ O.taken out.old }
+    ensures count { O.faults out.new ≡ O.faults out.old }
+{
+    if input.may_wait() {
+        out.flush();
+    }
+}
+
+/// The next byte of an input, or `None` at its end. What an output holds is let go before the input waits.
+pub fn ask<I: Source, O: Sink>(input: &mut I, out: &mut O) -> Result<Option<u8>, Failed>
+    ensures byte { IfOk result (λ byte. IfSome (I.left input.old) (λ bytes. byte ≡ slice_get bytes 0)) }
+    ensures left { I.left input.new ≡ left_after result (I.left input.old) }
+    ensures made { I.made input.new ≡ option_map next_count (I.made input.old) }
+    ensures input_count { I.faults input.new ≡ faults_after result (I.faults input.old) }
+    ensures taken { O.taken out.new ≡ O.taken out.old }
+    ensures output_count { O.faults out.new ≡ O.faults out.old }
+{
+    flush_before(input, out);
+    input.next()
 }
 
 /// A store of named files.
@@ -110,7 +154,7 @@ pub trait Files {
 
     /// Appends the bytes of a file, at most `limit` of them. After a refusal `into` holds its old bytes
     /// and a front of the file. `NoMemory` comes where `into` could not grow.
-    fn read(&mut self, name: &str, into: &mut Vec<u8>, limit: u64) -> Result<Got, FileFault>
+    fn read(&mut self, name: &str, into: &mut Vec<u8>, limit: u64) -> Result<ReadExtent, FileFault>
         ensures appends { Appends result limit into.old.items into.new.items }
         ensures file { IfSome (told self.old)
             (λ shelf. AppendsFile result limit (file_of shelf name.now) into.old.items into.new.items) }

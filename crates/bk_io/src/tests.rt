@@ -2,10 +2,10 @@
 
 use crate::host::{HostFiles, HostSink, HostSource};
 use crate::memory::{MemFiles, MemSink, MemSource};
-use crate::outside::{Failed, FileFault, Files, Got, Sink, Source};
+use crate::outside::{Failed, FileFault, Files, ReadExtent, Sink, Source, ask};
 use std::fs;
 use std::fs::File;
-use std::io::{self, BufWriter, ErrorKind, Read, Write};
+use std::io::{self, ErrorKind, IsTerminal, Read, Write};
 use std::test::Fail;
 
 /// A reader whose reads fail.
@@ -32,11 +32,32 @@ impl Write for Full {
     }
 }
 
-/// A writer that can be called once, and flushed once.
+/// A file that says that it is a terminal.
+#[derive(Drop)]
+struct Screen {
+    file: File,
+}
+
+impl Write for Screen {
+    fn write(&mut self, buf: &[u8]) -> io::Result<usize> {
+        self.file.write(buf)
+    }
+
+    fn flush(&mut self) -> io::Result<()> {
+        self.file.flush()
+    }
+}
+
+impl IsTerminal for Screen {
+    fn is_terminal(&self) -> bool {
+        true
+    }
+}
+
+/// A writer that can be called once.
 #[derive(Drop)]
 struct Once {
     is_written: bool,
-    is_flushed: bool,
 }
 
 impl Write for Once {
@@ -49,11 +70,13 @@ impl Write for Once {
     }
 
     fn flush(&mut self) -> io::Result<()> {
-        if self.is_flushed {
-            return Err(io::Error::from(ErrorKind::Other));
-        }
-        self.is_flushed = true;
         Ok(())
+    }
+}
+
+impl IsTerminal for Once {
+    fn is_terminal(&self) -> bool {
+        false
     }
 }
 
@@ -67,33 +90,87 @@ fn a_read_error_is_no_end(rt: HostRuntime) -> Result<(), Fail> {
 
 #[test]
 fn a_write_of_nothing_fails(rt: HostRuntime) -> Result<(), Fail> {
-    let mut sink = HostSink::new(rt.alloc(), Full)?;
+    let mut sink = HostSink::with_capacity(rt.alloc(), 0, Full)?;
     assert_eq!(rt; sink.put(1), Err(Failed));
     assert_eq!(rt; sink.put_slice(b"ab"), Err(Failed));
     Ok(())
 }
 
 #[test]
-fn a_slice_takes_one_write_and_one_flush(rt: HostRuntime) -> Result<(), Fail> {
-    let once = Once {
-        is_written: false,
-        is_flushed: false,
-    };
-    let mut sink = HostSink::new(rt.alloc(), once)?;
-    assert_eq!(rt; sink.put_slice(b"abc"), Ok(()));
-    assert_eq!(rt; sink.put(1), Err(Failed), "the writer was called");
+fn what_is_held_takes_one_write(rt: HostRuntime) -> Result<(), Fail> {
+    let mut sink = HostSink::new(rt.alloc(), Once { is_written: false })?;
+    for _byte in 0..65536 {
+        assert_eq!(rt; sink.put(10), Ok(()));
+    }
+    sink.flush();
+    assert_eq!(rt; sink.finish(), Ok(()), "one write");
+    assert_eq!(rt; sink.put(1), Ok(()), "held");
+    assert_eq!(rt; sink.finish(), Err(Failed), "the writer was called");
     Ok(())
 }
 
 #[test]
-fn what_is_put_stays_in_no_buffer(rt: HostRuntime) -> Result<(), Fail> {
-    let file = File::create(&rt, "buffer.bytes")?;
-    let mut sink = HostSink::new(rt.alloc(), BufWriter::new(rt.alloc(), file)?)?;
-    assert_eq!(rt; sink.put(7), Ok(()));
-    assert_eq!(rt; sink.put_slice(b"abc"), Ok(()));
-    let there = fs::read(&rt, "buffer.bytes")?;
-    assert_eq!(rt; there.as_slice(), b"\x07abc".as_slice());
-    fs::remove_file(&rt, "buffer.bytes")?;
+fn a_failed_write_is_reported_later(rt: HostRuntime) -> Result<(), Fail> {
+    let mut sink = HostSink::new(rt.alloc(), Once { is_written: true })?;
+    assert_eq!(rt; sink.put(1), Ok(()));
+    sink.flush();
+    assert_eq!(rt; sink.put(2), Err(Failed));
+    assert_eq!(rt; sink.put(3), Ok(()), "it was reported");
+    assert_eq!(rt; sink.finish(), Err(Failed));
+    Ok(())
+}
+
+#[test]
+fn bytes_go_when_there_are_more_and_at_the_end(rt: HostRuntime) -> Result<(), Fail> {
+    let name = "held.bytes";
+    let mut sink = HostSink::new(rt.alloc(), File::create(&rt, name)?)?;
+    for at in 0..200_000u32 {
+        assert_eq!(rt; sink.put((at % 251) as u8), Ok(()));
+    }
+    assert_eq!(rt; fs::read(&rt, name)?.len(), 196_608, "three times 65,536");
+    assert_eq!(rt; sink.finish(), Ok(()));
+    let written = fs::read(&rt, name)?;
+    assert_eq!(rt; written.len(), 200_000);
+    for at in [0, 65_535, 65_536, 196_608, 199_999] {
+        assert_eq!(rt; written[at], (at % 251) as u8, "{at}");
+    }
+    fs::remove_file(&rt, name)?;
+    Ok(())
+}
+
+#[test]
+fn a_line_feed_lets_go_on_a_terminal(rt: HostRuntime) -> Result<(), Fail> {
+    let name = "screen.bytes";
+    let file = File::create(&rt, name)?;
+    let mut sink = HostSink::new(rt.alloc(), Screen { file })?;
+    assert_eq!(rt; sink.put_slice(b"ab"), Ok(()));
+    assert_eq!(rt; fs::read(&rt, name)?.len(), 0);
+    assert_eq!(rt; sink.put(10), Ok(()));
+    assert_eq!(rt; fs::read(&rt, name)?.len(), 3);
+    assert_eq!(rt; sink.put(99), Ok(()));
+    sink.flush();
+    assert_eq!(rt; fs::read(&rt, name)?.as_slice(), b"ab\nc".as_slice());
+    fs::remove_file(&rt, name)?;
+    Ok(())
+}
+
+#[test]
+fn an_output_goes_before_its_input_waits(rt: HostRuntime) -> Result<(), Fail> {
+    let (questions, answers) = ("asked.bytes", "answered.bytes");
+    fs::write(&rt, questions, b"xy")?;
+    let mut input = HostSource::new(rt.alloc(), File::open(&rt, questions)?)?;
+    let mut out = HostSink::new(rt.alloc(), File::create(&rt, answers)?)?;
+    assert_eq!(rt; out.put(1), Ok(()));
+    assert_eq!(rt; fs::read(&rt, answers)?.len(), 0);
+    assert_eq!(rt; ask(&mut input, &mut out), Ok(Some(b'x')));
+    assert_eq!(rt; fs::read(&rt, answers)?.len(), 1);
+    assert_eq!(rt; out.put(2), Ok(()));
+    assert_eq!(rt; ask(&mut input, &mut out), Ok(Some(b'y')));
+    assert_eq!(rt; fs::read(&rt, answers)?.len(), 1, "the second was there");
+    assert_eq!(rt; ask(&mut input, &mut out), Ok(None));
+    assert_eq!(rt; fs::read(&rt, answers)?.len(), 2);
+    fs::remove_file(&rt, questions)?;
+    fs::remove_file(&rt, answers)?;
     Ok(())
 }
 
@@ -118,8 +195,8 @@ fn host_source_gives_the_bytes_of_a_reader(rt: HostRuntime) -> Result<(), Fail> 
 }
 
 #[test]
-fn host_sink_writes_each_byte_through(rt: HostRuntime) -> Result<(), Fail> {
-    let mut sink = HostSink::new(rt.alloc(), File::create(&rt, "sink.bytes")?)?;
+fn host_sink_that_holds_none_writes_each_byte(rt: HostRuntime) -> Result<(), Fail> {
+    let mut sink = HostSink::with_capacity(rt.alloc(), 0, File::create(&rt, "sink.bytes")?)?;
     for byte in [0, 10, 255] {
         assert_eq!(rt; sink.put(byte), Ok(()));
     }
@@ -127,7 +204,7 @@ fn host_sink_writes_each_byte_through(rt: HostRuntime) -> Result<(), Fail> {
     assert_eq!(rt; written.as_slice(), [0, 10, 255].as_slice());
     fs::remove_file(&rt, "sink.bytes")?;
 
-    let mut closed = HostSink::new(rt.alloc(), File::open(&rt, "/dev/null")?)?;
+    let mut closed = HostSink::with_capacity(rt.alloc(), 0, File::open(&rt, "/dev/null")?)?;
     assert_eq!(rt; closed.put(1), Err(Failed), "opened for reading alone");
     Ok(())
 }
@@ -137,9 +214,9 @@ fn host_files_reads_up_to_the_limit(rt: HostRuntime) -> Result<(), Fail> {
     fs::write(&rt, "five.bytes", b"abcde")?;
     let mut files = HostFiles::new(rt.alloc(), rt.clone()?)?;
     let cases = [
-        ("five.bytes", 6, Ok(Got::Whole), 5),
-        ("five.bytes", 5, Ok(Got::Cut), 5),
-        ("five.bytes", 2, Ok(Got::Cut), 2),
+        ("five.bytes", 6, Ok(ReadExtent::Whole), 5),
+        ("five.bytes", 5, Ok(ReadExtent::Cut), 5),
+        ("five.bytes", 2, Ok(ReadExtent::Cut), 2),
         ("missing.bytes", 6, Err(FileFault::Failed), 0),
     ];
     for (name, limit, want, count) in cases {
@@ -178,10 +255,10 @@ fn forms_in_memory_fail_at_the_listed_calls(rt: HostRuntime) -> Result<(), Fail>
     let mut files = MemFiles::new(name_and_bytes, [1].to_vec(alloc)?);
     let mut into = Vec::new(alloc);
     let cases = [
-        ("a.c", Ok(Got::Whole)),
+        ("a.c", Ok(ReadExtent::Whole)),
         ("a.c", Err(FileFault::Failed)),
         ("b.c", Err(FileFault::Failed)),
-        ("a.c", Ok(Got::Whole)),
+        ("a.c", Ok(ReadExtent::Whole)),
     ];
     for (name, want) in cases {
         assert_eq!(rt; files.read(name, &mut into, 4), want, "{name}");

@@ -1,8 +1,8 @@
 -- An initialiser, a construct further in.
 use Rattle.std.proofs.Common.{◌≡◌, ℕ, zero, suc, ◌-◌, ◌<◌, List, ap, arith}
 use Rattle.c_lexer.specs.Pieces.{Lexeme}
-use Rattle.c_grammar.specs.Tokens.{TypeNames}
-use Rattle.c_grammar.specs.ParseUnits.{init_by, init}
+use Rattle.c_parser_grammar.specs.Tokens.{TypeNames}
+use Rattle.c_parser_grammar.specs.ParseUnits.{init_by, init}
 
 pub init_deeper : (s : TypeNames) (n : ℕ) (ts : List Lexeme) → 0 < n → init s n ts ≡ init_by s n (init s (n - 1)) ts
 unfolding init

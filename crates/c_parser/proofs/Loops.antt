@@ -7,16 +7,16 @@ use Rattle.c_tree.specs.declared.types.TypeNode.{TypeNode}
 use Rattle.c_tree.specs.declared.declarations.Storage.{Storage}
 use Rattle.c_tree.specs.declared.declarations.External.{External}
 use Rattle.c_tree.specs.declared.declarations.External.TheVariants as x
-use Rattle.c_grammar.specs.declared.shapes.NameRequirement.TheVariants as nm
-use Rattle.c_grammar.specs.Types.{without_body}
-use Rattle.c_grammar.specs.Units.{with_type}
-use Rattle.c_grammar.specs.Tokens.{TypeNames, is_mark, kind_at, token_tail}
-use Rattle.c_grammar.specs.Parser.{ParseOutcome, Parser, and_then, pure}
-use Rattle.c_grammar.specs.ParseExpr.{declarator}
-use Rattle.c_grammar.specs.ParseSpecifiers.{declaration}
-use Rattle.c_grammar.specs.ParseUnits.{typedefs_from, object_named, objects_from, external, externals_behind, externals_from}
+use Rattle.c_parser_grammar.specs.declared.shapes.NameRequirement.TheVariants as nm
+use Rattle.c_parser_grammar.specs.Types.{without_body}
+use Rattle.c_parser_grammar.specs.Units.{with_type}
+use Rattle.c_parser_grammar.specs.Tokens.{TypeNames, is_mark, kind_at, token_tail}
+use Rattle.c_parser_grammar.specs.Parser.{ParseOutcome, Parser, and_then, pure}
+use Rattle.c_parser_grammar.specs.ParseExpr.{declarator}
+use Rattle.c_parser_grammar.specs.ParseSpecifiers.{declaration}
+use Rattle.c_parser_grammar.specs.ParseUnits.{typedefs_from, object_named, objects_from, external, externals_behind, externals_from}
 use Rattle.c_parser.specs.model.Parts.{typedef_declarator, object_declarator}
-use Rattle.c_token_cursor.proofs.Loops.{turn, end}
+use Rattle.c_parser_cursor.proofs.Loops.{turn, end}
 
 -- one after another, from the left or from the right
 then_then : {A B C : Type 0} (o : ParseOutcome A) (f : A → Parser B) (g : B → Parser C) → and_then o (λ a r. and_then (f a r) g) ≡ and_then (and_then o f) g

@@ -3,12 +3,12 @@ use Rattle.std.proofs.Common.{◌≡◌, ◌≢◌, ℕ, ◌≤◌, ◌<◌, Lis
 use Rattle.c_lexer.specs.Pieces.{Lexeme, Toks, Tokens}
 use Rattle.c_lexer.proofs.Once.{tokens_once, fault_once, tokens_or_fault}
 use Rattle.c_tree.specs.declared.declarations.TranslationUnit.{TranslationUnit}
-use Rattle.c_nesting.specs.Nesting.{nesting_of}
-use Rattle.c_nesting.specs.HasNesting.{HasNesting}
-use Rattle.c_grammar.specs.Units.{Reads}
-use Rattle.c_grammar.specs.Refused.{CanGoOn, RefusedFrom}
-use Rattle.c_grammar.proofs.SoundUnits.{one_reading}
-use Rattle.c_token_cursor.specs.Answers.{place_or}
+use Rattle.c_parser_nesting.specs.Nesting.{nesting_of}
+use Rattle.c_parser_nesting.specs.HasNesting.{HasNesting}
+use Rattle.c_parser_grammar.specs.Units.{Reads}
+use Rattle.c_parser_grammar.specs.Refused.{CanGoOn, RefusedFrom}
+use Rattle.c_parser_grammar.proofs.SoundUnits.{one_reading}
+use Rattle.c_parser_cursor.specs.Answers.{place_or}
 use Rattle.c_parser.specs.declared.fault.ParseFault.{ParseFault}
 use Rattle.c_parser.specs.declared.fault.ParseFault.TheVariants.{Lex, Nesting, Syntax, NoMemory}
 use Rattle.c_parser.specs.Limits.{most_nesting}

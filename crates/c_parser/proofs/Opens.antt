@@ -1,5 +1,5 @@
 -- The parts of the grammar's initialiser, under one name.
-use Rattle.c_grammar.specs.ParseUnits.{init, init_list, init_value}
+use Rattle.c_parser_grammar.specs.ParseUnits.{init, init_list, init_value}
 
 unfoldable pub initialiser : Unit {0}
 unfolding init init_list init_value

@@ -5,16 +5,16 @@ use Rattle.c_lexer.specs.declared.token.Token.{Token}
 use Rattle.c_lexer.specs.Pieces.{Lexeme, Toks}
 use Rattle.c_tree.specs.declared.declarations.TranslationUnit.{TranslationUnit}
 use Rattle.c_tree.specs.Nodes.{unit_nodes, unit_height}
-use Rattle.c_nesting.specs.Nesting.{nesting, nesting_of}
+use Rattle.c_parser_nesting.specs.Nesting.{nesting, nesting_of}
 use Rattle.c_lexer.specs.Limits.{text_limit}
-use Rattle.c_nesting.specs.HasNesting.{IsTokens, HasNesting, toks_of, role_of_token}
-use Rattle.c_nesting.proofs.Reading.{roles-lexemes}
-use Rattle.c_grammar.specs.ParseUnits.{unit}
-use Rattle.c_grammar.proofs.ReadUnits.{complete}
-use Rattle.c_grammar.proofs.SoundUnits.{sound}
-use Rattle.c_grammar.proofs.Exact.{refused_from}
-use Rattle.c_grammar.proofs.FewUnits.{unit_few}
-use Rattle.c_token_cursor.proofs.Lexemes.{length_lexemes}
+use Rattle.c_parser_nesting.specs.HasNesting.{IsTokens, HasNesting, toks_of, role_of_token}
+use Rattle.c_parser_nesting.proofs.Reading.{roles-lexemes}
+use Rattle.c_parser_grammar.specs.ParseUnits.{unit}
+use Rattle.c_parser_grammar.proofs.ReadUnits.{complete}
+use Rattle.c_parser_grammar.proofs.SoundUnits.{sound}
+use Rattle.c_parser_grammar.proofs.Exact.{refused_from}
+use Rattle.c_parser_grammar.proofs.FewUnits.{unit_few}
+use Rattle.c_parser_cursor.proofs.Lexemes.{length_lexemes}
 use Rattle.c_parser.specs.declared.fault.ParseFault.{ParseFault}
 use Rattle.c_parser.specs.declared.fault.ParseFault.TheVariants.{Lex, Nesting, Syntax, NoMemory}
 use Rattle.c_parser.specs.Limits.{most_nesting, most_nodes, most_height}

@@ -1,4 +1,4 @@
-pub use Rattle.c_nesting.specs.HasNesting
+pub use Rattle.c_parser_nesting.specs.HasNesting
 pub mod Limits
 pub mod Faults
 pub mod Reading

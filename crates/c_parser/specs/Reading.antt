@@ -4,11 +4,11 @@ use Rattle.bk_memory.specs.Shortage.{MemoryIsShort}
 use Rattle.c_lexer.specs.Pieces.{Lexeme, Toks, Tokens, FaultAt}
 use Rattle.c_tree.specs.declared.declarations.TranslationUnit.{TranslationUnit}
 use Rattle.c_tree.specs.Nodes.{unit_height}
-use Rattle.c_nesting.specs.Nesting.{nesting_of}
-use Rattle.c_nesting.specs.HasNesting.{HasNesting}
-use Rattle.c_grammar.specs.Units.{Reads}
-use Rattle.c_grammar.specs.Refused.{RefusedFrom}
-use Rattle.c_token_cursor.specs.Answers.{place_or}
+use Rattle.c_parser_nesting.specs.Nesting.{nesting_of}
+use Rattle.c_parser_nesting.specs.HasNesting.{HasNesting}
+use Rattle.c_parser_grammar.specs.Units.{Reads}
+use Rattle.c_parser_grammar.specs.Refused.{RefusedFrom}
+use Rattle.c_parser_cursor.specs.Answers.{place_or}
 use Rattle.c_parser.specs.declared.fault.ParseFault.{ParseFault}
 use Rattle.c_parser.specs.declared.fault.ParseFault.TheVariants.{Lex, Nesting, Syntax, NoMemory}
 use Rattle.c_parser.specs.Limits.{most_nesting, most_height}

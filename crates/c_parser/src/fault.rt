@@ -6,8 +6,8 @@ ghost use Rattle.c_parser.specs.declared.fault.ParseFault.TheVariants.{NoMemory}
 ghost use Rattle.c_parser.specs.model.Faults as faults;
 
 use bk_memory::memory_is_short;
-use c_nesting::ScanFault;
-use c_token_cursor::ParseStop;
+use c_parser_cursor::ParseStop;
+use c_parser_nesting::ScanFault;
 use std::alloc::AllocError;
 use thiserror::Error;
 

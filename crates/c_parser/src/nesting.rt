@@ -2,7 +2,7 @@
 
 ghost use Rattle.std.specs.Prelude.{◌≤◌, IfOk, IfErr, length};
 ghost use Rattle.c_lexer.specs.Limits.{text_limit};
-ghost use Rattle.c_nesting.specs.HasNesting.{HasNesting};
+ghost use Rattle.c_parser_nesting.specs.HasNesting.{HasNesting};
 ghost use Rattle.c_parser.specs.Faults.{HasNoNesting};
 
 use crate::fault::ParseFault;
@@ -21,7 +21,7 @@ pub fn nest(alloc: Global, text: &[u8]) -> Result<u32, ParseFault>
     ensures nesting { IfOk result (HasNesting text.now) }
     ensures fault { IfErr result (HasNoNesting text.now) }
 {
-    match c_nesting::nest(alloc, text) {
+    match c_parser_nesting::nest(alloc, text) {
         Ok(nesting) => Ok(nesting),
         Err(fault) => Err(ParseFault::of_scan(fault)),
     }

@@ -3,7 +3,7 @@
 ghost use Rattle.std.specs.Prelude.{◌≤◌, ◌<◌, ◌≡◌, length, IfOk, IfErr};
 ghost use Rattle.c_tree.specs.Nodes.{unit_nodes, unit_height};
 ghost use Rattle.c_lexer.specs.Limits.{text_limit};
-ghost use Rattle.c_nesting.specs.HasNesting.{IsTokens, toks_of};
+ghost use Rattle.c_parser_nesting.specs.HasNesting.{IsTokens, toks_of};
 ghost use Rattle.c_parser.specs.declared.fault.ParseFault.TheVariants.{Nesting, NoMemory};
 ghost use Rattle.c_parser.specs.Limits.{most_nesting, most_nodes, most_height};
 ghost use Rattle.c_parser.specs.Reading.{IsRead, IsNotRead};
@@ -12,8 +12,8 @@ ghost use Rattle.c_parser.specs.model.Gives.{Gives};
 use crate::fault::ParseFault;
 use crate::units::externals;
 use c_lexer::Token;
-use c_nesting::{nesting_of, tokens};
-use c_token_cursor::{Tokens, TypedefScope};
+use c_parser_cursor::{Tokens, TypedefScope};
+use c_parser_nesting::{nesting_of, tokens};
 use c_tree::{TranslationUnit, is_within_height};
 use std::alloc::Global;
 

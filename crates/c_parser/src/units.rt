@@ -1,29 +1,30 @@
 //! Units.
 
 ghost use Rattle.std.specs.Prelude.{◌≡◌, [], length, IfOk};
-ghost use Rattle.c_grammar.specs.ParseSpecifiers.{braced_list_from};
-ghost use Rattle.c_grammar.specs.Types as types;
-ghost use Rattle.c_grammar.specs.ParseUnits as model;
-ghost use Rattle.c_token_cursor.specs.Answers.{Answers};
+ghost use Rattle.c_parser_grammar.specs.ParseSpecifiers.{braced_list_from};
+ghost use Rattle.c_parser_grammar.specs.Types as types;
+ghost use Rattle.c_parser_grammar.specs.ParseUnits as model;
+ghost use Rattle.c_parser_cursor.specs.Answers.{Answers};
 ghost use Rattle.c_parser.specs.model.Answers.{AnswersIn, AnswersUnit};
 ghost use Rattle.c_parser.specs.model.Parts as parts;
-ghost use Rattle.c_grammar.specs.Units.{external_of, is_function};
+ghost use Rattle.c_parser_grammar.specs.Units.{external_of, is_function};
 
-use c_expression_parser::{declarator, expr};
-use c_grammar::{
+use bk_containers::{Box, Seq};
+use c_lexer::Punct;
+use c_parser_cursor::c_parser_types::{SpecifierType, with_shapes};
+use c_parser_cursor::{ParseStop, Tokens, TypedefScope};
+use c_parser_expressions::{declarator, expr};
+use c_parser_grammar::{
     Declarator, DeclaredName, NameRequirement, Shape, StorageClass, levels, storage_class_of,
 };
-use c_lexer::Punct;
-use c_parser_types::{SpecifierType, with_shapes};
-use c_specifier_parser::{append, declaration, specifier};
-use c_statement_parser::items;
-use c_token_cursor::{ParseStop, Tokens, TypedefScope};
-use c_tree::{Box, Declaration, External, FunctionEnd, Init, Seq, Storage};
+use c_parser_specifiers::{append, declaration, specifier};
+use c_parser_statements::items;
+use c_tree::{Declaration, External, FunctionEnd, Init, Storage};
 use std::alloc::{AllocError, Global};
 
 /// Reads initialisers with commas between them, one or more, and perhaps a comma behind.
 #[cycle(init)]
-#[tactic(auto, using(c_specifier_parser::proofs::Loops::braced_turn, c_specifier_parser::proofs::Loops::braced_end))]
+#[tactic(auto, using(c_parser_specifiers::proofs::Loops::braced_turn, c_parser_specifiers::proofs::Loops::braced_end))]
 fn inits(
     alloc: Global,
     scope: &TypedefScope,
@@ -117,7 +118,7 @@ fn typedef_declarators(
 }
 
 /// Reads a `typedef` behind its word.
-#[tactic(auto, unfolding(c_grammar::specs::ParseUnits::typedefs))]
+#[tactic(auto, unfolding(c_parser_grammar::specs::ParseUnits::typedefs))]
 fn typedefs(
     alloc: Global,
     scope: &mut TypedefScope,
@@ -207,7 +208,7 @@ fn init_of(init: Option<Box<Init>>) -> Option<Init>
 }
 
 /// Reads what stands behind a declarator: its initialiser, or nothing.
-#[tactic(auto, unfolding(c_grammar::specs::ParseUnits::object_by))]
+#[tactic(auto, unfolding(c_parser_grammar::specs::ParseUnits::object_by))]
 fn object(
     alloc: Global,
     scope: &TypedefScope,
@@ -288,7 +289,7 @@ fn objects(
 }
 
 /// Reads what stands behind the first declarator, of which the further ones have the bare type.
-#[tactic(auto, unfolding(c_grammar::specs::ParseUnits::objects_behind))]
+#[tactic(auto, unfolding(c_parser_grammar::specs::ParseUnits::objects_behind))]
 fn objects_behind(
     alloc: Global,
     scope: &TypedefScope,
@@ -312,7 +313,7 @@ fn objects_behind(
 }
 
 /// Reads the body of a function behind its brace.
-#[tactic(auto, unfolding(c_grammar::specs::ParseUnits::body_behind))]
+#[tactic(auto, unfolding(c_parser_grammar::specs::ParseUnits::body_behind))]
 fn body_behind(
     alloc: Global,
     scope: &TypedefScope,
@@ -334,7 +335,7 @@ fn body_behind(
 }
 
 /// Reads what stands behind the first declarator: the body of a function, or the rest of a declaration.
-#[tactic(auto, unfolding(c_grammar::specs::ParseUnits::objects_named))]
+#[tactic(auto, unfolding(c_parser_grammar::specs::ParseUnits::objects_named))]
 fn objects_or_body(
     alloc: Global,
     scope: &TypedefScope,
@@ -359,7 +360,7 @@ fn objects_or_body(
 }
 
 /// Reads what stands behind a type at file scope.
-#[tactic(auto, unfolding(c_grammar::specs::ParseUnits::behind_type))]
+#[tactic(auto, unfolding(c_parser_grammar::specs::ParseUnits::behind_type))]
 fn behind_type(
     alloc: Global,
     scope: &TypedefScope,
@@ -394,7 +395,7 @@ fn behind_type(
 }
 
 /// Reads a declaration at file scope behind its storage word.
-#[tactic(auto, unfolding(c_grammar::specs::ParseUnits::behind_storage))]
+#[tactic(auto, unfolding(c_parser_grammar::specs::ParseUnits::behind_storage))]
 fn behind_storage(
     alloc: Global,
     scope: &TypedefScope,
@@ -409,7 +410,7 @@ fn behind_storage(
 }
 
 /// Reads an external declaration.
-#[tactic(auto, unfolding(c_grammar::specs::ParseUnits::external))]
+#[tactic(auto, unfolding(c_parser_grammar::specs::ParseUnits::external))]
 fn external(
     alloc: Global,
     scope: &mut TypedefScope,

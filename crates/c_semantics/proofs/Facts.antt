@@ -1,7 +1,7 @@
 -- Facts on truth values, and on values that are constants.
 use Rattle.std.proofs.Common.{◌≡◌, ℕ, Bool, true, false, not, ◌&&◌, ◌||◌, ◌==◌, IsTrue, Option, Some, None, refl, sym, ap, ◌∙◌, subst, if◌then◌else◌, option_map, option_and_then}
 use Rattle.std.proofs.lemmas.Option.{none-some}
-use Rattle.c_arithmetic.specs.declared.integer_type.IntegerType.{IntegerType}
+use Rattle.bk_arithmetic.specs.declared.integer_type.IntegerType.{IntegerType}
 use Rattle.c_tree.specs.declared.expressions.BinaryOp.{BinaryOp}
 use Rattle.c_tree.specs.declared.expressions.BinaryOp.TheVariants as op
 use Rattle.c_typed_tree.specs.Types.{PlainType}

@@ -9,8 +9,8 @@ use Rattle.mem_model.specs.declared.value.Value.TheVariants.{Word, Address, Unse
 use Rattle.mem_model.specs.declared.value.MemFault.{MemFault}
 use Rattle.mem_model.specs.Memory.{Memory, load_at, store_at, copy_at, overlaps}
 use Rattle.mem_model.specs.Pointers.{is_live, pointer_plus, pointer_lt, pointer_le, pointer_eq}
-use Rattle.c_arithmetic.specs.declared.integer_type.IntegerType.{IntegerType}
-use Rattle.c_arithmetic.specs.declared.outcome.ArithmeticOutcome.{ArithmeticOutcome}
+use Rattle.bk_arithmetic.specs.declared.integer_type.IntegerType.{IntegerType}
+use Rattle.bk_arithmetic.specs.declared.outcome.ArithmeticOutcome.{ArithmeticOutcome}
 use Rattle.c_tree.specs.declared.expressions.BinaryOp.{BinaryOp}
 use Rattle.c_tree.specs.declared.expressions.StepOp.{StepOp}
 use Rattle.c_typed_tree.specs.declared.types.StructDef.{StructDef}
@@ -33,7 +33,7 @@ use Rattle.c_typed_tree.specs.View.{type_view, stmt_view}
 use Rattle.c_semantics.specs.Evaluates.{put_character, get, builtin, Functions, run_call, element_pointer, member_pointer, target_of, update, assign_value, choose, converted_from, eval, place, evals, value_of_last}
 use Rattle.c_semantics.specs.Executes.{StatementFlow, Goes, Breaks, Continues, Returns, after_body, and_next, after_switch, declared_in, declared_first, is_chosen_label, target_in, with_parameters, value_of_call, body_of, holds, loop_condition, loop_step, initialise_object, run_declaration, run_declarations, first, flow_of_return, exec, exec_else, execs, exec_sections, exec_from, within_call, Level, call_with_turn}
 use Rattle.c_typed_tree.specs.Lawful.{is_main}
-use Rattle.c_arithmetic.specs.declared.outcome.ArithmeticOutcome.TheVariants as o
+use Rattle.bk_arithmetic.specs.declared.outcome.ArithmeticOutcome.TheVariants as o
 use Rattle.c_tree.specs.declared.expressions.UnaryOp.TheVariants as u
 use Rattle.c_tree.specs.declared.expressions.BinaryOp.TheVariants as b
 use Rattle.c_tree.specs.declared.expressions.StepOp.TheVariants as s

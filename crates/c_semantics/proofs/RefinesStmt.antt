@@ -4,7 +4,7 @@ use Rattle.std.specs.Prelude.{slice_get, map, if◌then◌else◌, cond, ◌==�
 use Rattle.std.specs.List.{list_all, list_any}
 use Rattle.std.proofs.lemmas.List.Sums.{sum_by_from}
 use Rattle.mem_model.specs.World.{Rooms}
-use Rattle.c_arithmetic.specs.declared.integer_type.IntegerType.{IntegerType}
+use Rattle.bk_arithmetic.specs.declared.integer_type.IntegerType.{IntegerType}
 use Rattle.c_typed_tree.specs.declared.statements.TLabel.{TLabel}
 use Rattle.c_typed_tree.specs.declared.types.StructDef.{StructDef}
 use Rattle.c_typed_tree.specs.declared.units.Local.{Local}

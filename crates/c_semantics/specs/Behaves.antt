@@ -6,7 +6,7 @@ use Rattle.mem_model.specs.Memory.{Memory}
 use Rattle.mem_model.specs.World.{World, Rooms, meter_of}
 use Rattle.mem_model.specs.Ending.{Ending, ending_output, ending_peak, Evaluation, Gives, Ends}
 use Rattle.mem_model.specs.Ending as g
-use Rattle.data_object.specs.Start.{start_memory}
+use Rattle.mem_objects.specs.Start.{start_memory}
 use Rattle.c_typed_tree.specs.declared.units.TypedFn.{TypedFn}
 use Rattle.c_typed_tree.specs.declared.units.TypedUnit.{TypedUnit}
 use Rattle.c_typed_tree.specs.Lawful.{is_main}

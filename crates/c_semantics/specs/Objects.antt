@@ -9,10 +9,10 @@ use Rattle.mem_model.specs.Memory.{Memory, load_at, store_at, copy_at, overlaps,
 use Rattle.mem_model.specs.Pointers.{is_live, size_at, is_offset, pointer_plus}
 use Rattle.mem_model.specs.World.{with_memory}
 use Rattle.mem_model.specs.Ending.{Evaluation, Gives}
-use Rattle.c_arithmetic.specs.declared.integer_type.IntegerType.{IntegerType}
-use Rattle.c_arithmetic.specs.declared.integer_type.IntegerType.TheVariants as i
-use Rattle.c_arithmetic.specs.IntegerTypes.{integer_type}
-use Rattle.c_arithmetic.specs.Words.{value, extension}
+use Rattle.bk_arithmetic.specs.declared.integer_type.IntegerType.{IntegerType}
+use Rattle.bk_arithmetic.specs.declared.integer_type.IntegerType.TheVariants as i
+use Rattle.bk_arithmetic.specs.IntegerTypes.{integer_type}
+use Rattle.bk_arithmetic.specs.Words.{value, extension}
 use Rattle.c_typed_tree.specs.declared.types.StructDef.{StructDef}
 use Rattle.c_typed_tree.specs.declared.types.Member.{Member}
 use Rattle.c_typed_tree.specs.declared.units.Local.{Local}

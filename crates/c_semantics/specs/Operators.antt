@@ -5,13 +5,13 @@ use Rattle.mem_model.specs.declared.value.Value.{Value}
 use Rattle.mem_model.specs.declared.value.Value.TheVariants.{Word, Address, Unset}
 use Rattle.mem_model.specs.Memory.{Memory}
 use Rattle.mem_model.specs.Pointers.{is_live, pointer_minus, pointer_lt, pointer_le, pointer_eq}
-use Rattle.c_arithmetic.specs.declared.integer_type.IntegerType.{IntegerType}
-use Rattle.c_arithmetic.specs.declared.integer_type.IntegerType.TheVariants as i
-use Rattle.c_arithmetic.specs.declared.outcome.ArithmeticOutcome.{ArithmeticOutcome}
-use Rattle.c_arithmetic.specs.declared.outcome.ArithmeticOutcome.TheVariants as o
-use Rattle.c_arithmetic.specs.IntegerTypes.{bytes, is_signed, promote}
-use Rattle.c_arithmetic.specs.Words.{value, word}
-use Rattle.c_arithmetic.specs.Operations.{conversion, negation, complement, truth}
+use Rattle.bk_arithmetic.specs.declared.integer_type.IntegerType.{IntegerType}
+use Rattle.bk_arithmetic.specs.declared.integer_type.IntegerType.TheVariants as i
+use Rattle.bk_arithmetic.specs.declared.outcome.ArithmeticOutcome.{ArithmeticOutcome}
+use Rattle.bk_arithmetic.specs.declared.outcome.ArithmeticOutcome.TheVariants as o
+use Rattle.bk_arithmetic.specs.IntegerTypes.{bytes, is_signed, promote}
+use Rattle.bk_arithmetic.specs.Words.{value, word}
+use Rattle.bk_arithmetic.specs.Operations.{conversion, negation, complement, truth}
 use Rattle.c_tree.specs.declared.expressions.UnaryOp.{UnaryOp}
 use Rattle.c_tree.specs.declared.expressions.UnaryOp.TheVariants as u
 use Rattle.c_tree.specs.declared.expressions.BinaryOp.{BinaryOp}

@@ -1,4 +1,3 @@
-pub mod formers
 pub mod Words
 pub mod Nodes
 pub mod model

@@ -1,6 +1,7 @@
 //! Units and what stands at file scope (C99 6.7 and 6.9).
 
-use crate::{Declaration, Expr, Name, Seq, Stmt, TypeNode};
+use crate::{Declaration, Expr, Stmt, TypeNode};
+use bk_containers::{Name, Seq};
 
 /// The storage word of a declaration at file scope, but for `typedef` (C99 6.7.1).
 #[derive(Clone, Copy, Debug, PartialEq, Eq)]

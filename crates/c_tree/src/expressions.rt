@@ -1,6 +1,7 @@
 //! Expressions (C99 6.5).
 
-use crate::{Box, Name, Seq, TypeName};
+use crate::TypeName;
+use bk_containers::{Box, Name, Seq};
 
 /// The operators in front of an operand (C99 6.5.3), without `sizeof` and casts.
 #[derive(Clone, Copy, Debug, PartialEq, Eq)]

@@ -9,9 +9,10 @@ ghost use Rattle.c_tree.specs.Nodes.{node_height, nodes_height, expr_node, type_
 ghost use Rattle.c_tree.specs.model.Parts.{children_of, constant_node, member_node, parameter_node, section_node, else_nodes};
 
 use crate::{
-    Box, Constant, Declaration, Expr, External, ForFirst, FunctionEnd, Init, Label,
-    LocalDeclarator, Parameter, Section, Stmt, TranslationUnit, TypeNode,
+    Constant, Declaration, Expr, External, ForFirst, FunctionEnd, Init, Label, LocalDeclarator,
+    Parameter, Section, Stmt, TranslationUnit, TypeNode,
 };
+use bk_containers::Box;
 
 /// Whether an expression is at most so high.
 #[cycle(ast)]

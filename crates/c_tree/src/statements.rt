@@ -1,6 +1,7 @@
 //! Statements (C99 6.8).
 
-use crate::{Box, Declaration, Expr, Seq};
+use crate::{Declaration, Expr};
+use bk_containers::{Box, Seq};
 
 /// A statement, or a declaration in a block. `at` is the offset of the statement's word. The larger parts are in
 /// boxes, so that a function which holds a statement takes little of the machine's stack.

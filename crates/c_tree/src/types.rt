@@ -1,6 +1,7 @@
 //! The types that declarations and type names spell.
 
-use crate::{Box, Expr, Name, Seq};
+use crate::Expr;
+use bk_containers::{Box, Name, Seq};
 
 /// A type of C99 6.7.2 that words alone spell, without the words that may be left out.
 #[derive(Clone, Copy, Debug, PartialEq, Eq)]

@@ -10,7 +10,8 @@ ghost use Rattle.c_tree.specs.Nodes.{expr_node, type_node, nodes_of, nodes_text,
 ghost use Rattle.c_tree.specs.model.Parts.{line_text, line_of, children_of, constant_node, member_node, parameter_node};
 
 use crate::words::{assign_word, basic_words, binary_word, name_or_dash, step_word, unary_word};
-use c_tree::{Constant, Declaration, Expr, Name, Parameter, TypeNode};
+use bk_containers::Name;
+use c_tree::{Constant, Declaration, Expr, Parameter, TypeNode};
 use std::alloc::{AllocError, Global};
 
 /// Puts the line that says the word and the text.

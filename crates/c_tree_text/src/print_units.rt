@@ -7,8 +7,9 @@ ghost use Rattle.c_tree.specs.model.Parts.{line_text, line_of, children_of, sect
 
 use crate::print::{below, put_expr, put_line, put_line_of_three, put_type};
 use crate::words::storage_text;
+use bk_containers::Box;
 use c_tree::{
-    Box, Declaration, Expr, External, ForFirst, FunctionEnd, Init, Label, LocalDeclarator, Section,
+    Declaration, Expr, External, ForFirst, FunctionEnd, Init, Label, LocalDeclarator, Section,
     Stmt, TranslationUnit,
 };
 use std::alloc::{AllocError, Global};

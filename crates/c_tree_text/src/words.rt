@@ -3,7 +3,8 @@
 ghost use Rattle.std.specs.Prelude.{◌≡◌, ◌++◌, IfOk, OnOk, option_map};
 ghost use Rattle.c_tree.specs.Words as words;
 
-use c_tree::{AssignOp, BasicType, BinaryOp, Name, StepOp, Storage, UnaryOp};
+use bk_containers::Name;
+use c_tree::{AssignOp, BasicType, BinaryOp, StepOp, Storage, UnaryOp};
 use std::alloc::AllocError;
 
 /// The spelling of an operator in front of its operand.

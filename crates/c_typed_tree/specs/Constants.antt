@@ -1,9 +1,9 @@
 -- Integer constants (C99 6.6): what they are built of, and the values of those that neither trap nor are undefined.
 use Rattle.std.specs.Prelude.{ℕ, Bool, true, false, not, ◌&&◌, ◌==◌, is_some, Option, Some, None, option_map, option_and_then, if◌then◌else◌}
-use Rattle.c_arithmetic.specs.declared.integer_type.IntegerType.{IntegerType}
-use Rattle.c_arithmetic.specs.declared.outcome.ArithmeticOutcome.{ArithmeticOutcome}
-use Rattle.c_arithmetic.specs.declared.outcome.ArithmeticOutcome.TheVariants as o
-use Rattle.c_arithmetic.specs.Operations.{conversion, sum, difference, product, negation, quotient, remainder, conjunction, disjunction, exclusive_disjunction, complement, left_shift, right_shift, is_less, is_less_or_equal, is_equal, truth}
+use Rattle.bk_arithmetic.specs.declared.integer_type.IntegerType.{IntegerType}
+use Rattle.bk_arithmetic.specs.declared.outcome.ArithmeticOutcome.{ArithmeticOutcome}
+use Rattle.bk_arithmetic.specs.declared.outcome.ArithmeticOutcome.TheVariants as o
+use Rattle.bk_arithmetic.specs.Operations.{conversion, sum, difference, product, negation, quotient, remainder, conjunction, disjunction, exclusive_disjunction, complement, left_shift, right_shift, is_less, is_less_or_equal, is_equal, truth}
 use Rattle.c_tree.specs.declared.expressions.UnaryOp.{UnaryOp}
 use Rattle.c_tree.specs.declared.expressions.UnaryOp.TheVariants as u
 use Rattle.c_tree.specs.declared.expressions.BinaryOp.{BinaryOp}

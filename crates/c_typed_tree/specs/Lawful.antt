@@ -2,8 +2,8 @@
 -- them is `main` (C99 6.7, 6.9, 5.1.2.2.1).
 use Rattle.std.specs.Prelude.{◌≡◌, ℕ, ◌+◌, ◌^◌, ◌<◌, ◌≤◌, max, nat_le, ◌==◌, Bool, true, false, ◌&&◌, ◌||◌, IsTrue, List, [], ◌∷◌, length, map, take, filter, sum_by, All, bytes_eq, codes}
 use Rattle.std.specs.List.{list_all}
-use Rattle.data_object.specs.declared.TheConstants.{MOST_DATA}
-use Rattle.data_object.specs.Globals.{AreLawful}
+use Rattle.mem_objects.specs.declared.TheConstants.{MOST_DATA}
+use Rattle.mem_objects.specs.Globals.{AreLawful}
 use Rattle.c_typed_tree.specs.declared.types.StructDef.{StructDef}
 use Rattle.c_typed_tree.specs.declared.types.Member.{Member}
 use Rattle.c_typed_tree.specs.declared.units.Local.{Local}

@@ -13,3 +13,4 @@ pub mod Names
 pub mod Weight
 pub mod Rooms
 pub mod model
+pub mod c_typed_height

@@ -1,6 +1,6 @@
 -- Rooms: what a call of a function may take of the stack; and the data that a unit needs.
 use Rattle.std.specs.Prelude.{ℕ, ◌+◌, ◌*◌, max, List, [], ◌∷◌, sum_by, if◌then◌else◌}
-use Rattle.data_object.specs.Layout.{data_end}
+use Rattle.mem_objects.specs.Layout.{data_end}
 use Rattle.c_typed_tree.specs.declared.types.StructDef.{StructDef}
 use Rattle.c_typed_tree.specs.declared.units.Local.{Local}
 use Rattle.c_typed_tree.specs.declared.units.TypedFn.{TypedFn}

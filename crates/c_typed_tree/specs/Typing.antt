@@ -3,16 +3,16 @@
 -- there. One line for each form; the rule of an operator speaks of types alone.
 use Rattle.std.specs.Prelude.{ℕ, ◌+◌, nat_le, max, ◌==◌, Bool, true, false, ◌&&◌, ◌||◌, not, List, [], ◌∷◌, slice_get, is_some, Option, Some, None}
 use Rattle.std.specs.Bool.{beq}
-use Rattle.c_arithmetic.specs.declared.integer_type.IntegerType.{IntegerType}
-use Rattle.c_arithmetic.specs.IntegerTypes.{bytes, is_signed, promote, common}
-use Rattle.c_arithmetic.specs.Words.{is_word}
+use Rattle.bk_arithmetic.specs.declared.integer_type.IntegerType.{IntegerType}
+use Rattle.bk_arithmetic.specs.IntegerTypes.{bytes, is_signed, promote, common}
+use Rattle.bk_arithmetic.specs.Words.{is_word}
 use Rattle.c_tree.specs.declared.expressions.UnaryOp.{UnaryOp}
 use Rattle.c_tree.specs.declared.expressions.UnaryOp.TheVariants as u
 use Rattle.c_tree.specs.declared.expressions.BinaryOp.{BinaryOp}
 use Rattle.c_tree.specs.declared.expressions.BinaryOp.TheVariants as b
 use Rattle.c_tree.specs.declared.expressions.AssignOp.{AssignOp}
 use Rattle.c_tree.specs.declared.expressions.AssignOp.TheVariants as a
-use Rattle.data_object.specs.declared.DataObject.{DataObject}
+use Rattle.mem_objects.specs.declared.DataObject.{DataObject}
 use Rattle.c_typed_tree.specs.declared.expressions.Builtin.TheVariants.{Putchar, Getchar, Abort, Exit}
 use Rattle.c_typed_tree.specs.declared.expressions.Callee.{Callee}
 use Rattle.c_typed_tree.specs.declared.expressions.Callee.TheVariants.{Function, Builtin}

@@ -1,7 +1,7 @@
 -- When a statement is well typed (C99 6.8), one line for each form.
 use Rattle.std.specs.Prelude.{◌==◌, Bool, true, false, ◌&&◌, ◌||◌, not, slice_get, Option, Some, None}
 use Rattle.std.specs.List.{list_all}
-use Rattle.c_arithmetic.specs.declared.integer_type.IntegerType.{IntegerType}
+use Rattle.bk_arithmetic.specs.declared.integer_type.IntegerType.{IntegerType}
 use Rattle.c_typed_tree.specs.declared.statements.TLabel.{TLabel}
 use Rattle.c_typed_tree.specs.declared.statements.TLabel.TheVariants.{Case, Default}
 use Rattle.c_typed_tree.specs.declared.units.Local.{Local}

@@ -3,7 +3,7 @@
 ghost use Rattle.std.specs.Prelude.{◌≡◌, IfOk};
 
 use crate::{CType, TExpr, make};
-use c_tree::{Box, Seq};
+use bk_containers::{Box, Seq};
 use std::alloc::{AllocError, Global};
 
 impl CType {

@@ -5,7 +5,7 @@ ghost use Rattle.c_typed_tree.specs.declared.statements.TStmt as t;
 
 use crate::copy::{copy_in_box, copy_optional};
 use crate::{TExpr, TFirst, TLocal, TSection, TStmt};
-use c_tree::{Box, Seq};
+use bk_containers::{Box, Seq};
 use std::alloc::{AllocError, Global};
 
 /// An equal declaration of a local.

@@ -5,8 +5,8 @@ ghost use Rattle.c_typed_tree.specs.Lawful.{IsLawfulUnit};
 
 use crate::copy_statements::copy_stmt;
 use crate::{Local, Member, StructDef, TypedFn, TypedUnit};
-use c_tree::Seq;
-use data_object::{DataCell, DataObject};
+use bk_containers::Seq;
+use mem_objects::{DataCell, DataObject};
 use std::alloc::{AllocError, Global};
 
 fn copy_member(alloc: Global, member: &Member) -> Result<Member, AllocError>

@@ -5,7 +5,8 @@ ghost use Rattle.c_typed_tree.specs.Expressions.{type_of};
 ghost use Rattle.c_typed_tree.specs.View.{type_view, expr_view};
 
 use crate::CType;
-use c_tree::{AssignOp, BinaryOp, Box, Seq, StepOp, UnaryOp};
+use bk_containers::{Box, Seq};
+use c_tree::{AssignOp, BinaryOp, StepOp, UnaryOp};
 
 /// The functions that every unit has without a definition.
 #[derive(Clone, Copy, Debug, PartialEq, Eq)]

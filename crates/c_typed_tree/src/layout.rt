@@ -5,7 +5,7 @@ ghost use Rattle.c_typed_tree.specs.View.{type_view};
 ghost use Rattle.c_typed_tree.specs.Layout.{integer_of, size_of, align_of, is_object, struct_size, struct_align, offset_of};
 
 use crate::{CType, StructDef};
-use c_arithmetic::integer_type::IntegerType;
+use bk_arithmetic::integer_type::IntegerType;
 
 /// The integer type that a type is, if it is one.
 #[tactic(auto, unfolding(crate::specs::model::View::opens))]

@@ -5,6 +5,8 @@
 //! `specs/View.antt` reads off the trees.
 #![tactic(auto)]
 
+pub mod c_lawful_unit;
+pub mod c_typed_height;
 mod copy;
 mod copy_statements;
 mod copy_units;

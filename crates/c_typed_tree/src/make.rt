@@ -4,7 +4,8 @@ ghost use Rattle.std.specs.Prelude.{◌≡◌, IfOk};
 ghost use Rattle.c_typed_tree.specs.declared.expressions.TExpr as t;
 
 use crate::{CType, Callee, TExpr};
-use c_tree::{AssignOp, BinaryOp, Box, Seq, StepOp, UnaryOp};
+use bk_containers::{Box, Seq};
+use c_tree::{AssignOp, BinaryOp, StepOp, UnaryOp};
 use std::alloc::{AllocError, Global};
 
 /// An integer.

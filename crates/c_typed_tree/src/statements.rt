@@ -1,7 +1,7 @@
 //! Typed statements (C99 6.8).
 
 use crate::TExpr;
-use c_tree::{Box, Seq};
+use bk_containers::{Box, Seq};
 
 /// A statement, or a declaration in a block. The larger parts are in boxes, so that a function which holds a statement
 /// takes little of the machine's stack.

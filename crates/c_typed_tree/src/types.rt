@@ -2,7 +2,7 @@
 
 ghost use Rattle.std.specs.Prelude.{◌≡◌, ◌↔◌, IsTrue};
 
-use c_tree::{Box, Name, Seq};
+use bk_containers::{Box, Name, Seq};
 
 /// A type. Functions are no values, so there is no type of functions here; an enum type is `int` (C99 6.7.2.2).
 #[derive(Drop)]

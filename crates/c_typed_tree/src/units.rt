@@ -1,8 +1,8 @@
 //! Typed units (C99 6.9).
 
 use crate::{CType, StructDef, TStmt};
-use c_tree::{Name, Seq};
-use data_object::DataObject;
+use bk_containers::{Name, Seq};
+use mem_objects::DataObject;
 
 /// A local of a function; a parameter is one.
 #[derive(Drop)]

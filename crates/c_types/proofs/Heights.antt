@@ -5,13 +5,13 @@ use Rattle.c_tree.specs.declared.declarations.TranslationUnit.{TranslationUnit}
 use Rattle.c_tree.specs.Nodes.{unit_height}
 use Rattle.c_typed_tree.specs.declared.units.TypedFn.{TypedFn}
 use Rattle.c_typed_tree.specs.declared.units.TypedUnit.{TypedUnit}
-use Rattle.c_typed_height.specs.Heights.{list_height, function_height, typed_unit_height}
-use Rattle.c_tag_bodies.specs.Bodies.{TagScope}
-use Rattle.c_declarations.specs.declared.walk.UnitFunction.{UnitFunction}
-use Rattle.c_declarations.specs.declared.walk.UnitSoFar.{UnitSoFar}
-use Rattle.c_units.specs.Units.{whole_unit}
-use Rattle.c_unit_height_laws.proofs.Parts.{IsLow, nothing_low, both_low}
-use Rattle.c_unit_height_laws.proofs.Units.{functions_within}
+use Rattle.c_typed_tree.specs.c_typed_height.Heights.{list_height, function_height, typed_unit_height}
+use Rattle.c_typing_struct_bodies.specs.Bodies.{TagScope}
+use Rattle.c_typing_declarations.specs.declared.walk.UnitFunction.{UnitFunction}
+use Rattle.c_typing_declarations.specs.declared.walk.UnitSoFar.{UnitSoFar}
+use Rattle.c_typing_units.specs.Units.{whole_unit}
+use Rattle.c_typing_function_sound.proofs.CTypingHeightLaws.CUnitHeightLaws.Parts.{IsLow, nothing_low, both_low}
+use Rattle.c_typing_function_sound.proofs.CTypingHeightLaws.CUnitHeightLaws.Units.{functions_within}
 use Rattle.c_types.specs.Units.{typed_unit, typed_unit_of, IsTyped}
 use Rattle.c_types.proofs.Made.{unit_made}
 

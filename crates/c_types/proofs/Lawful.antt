@@ -2,17 +2,17 @@
 use Rattle.std.proofs.Common.{◌≡◌, ℕ, List, [], ◌∷◌, Some, None, sym, ap, ◌∙◌, subst, All}
 use Rattle.std.proofs.lemmas.List.Elements.{All-head, All-tail}
 use Rattle.c_tree.specs.declared.declarations.TranslationUnit.{TranslationUnit}
-use Rattle.c_type_faults.specs.Faults.{sort_faults, head}
-use Rattle.c_type_faults.proofs.First.{some}
+use Rattle.c_typing_faults.specs.Faults.{sort_faults, head}
+use Rattle.c_typing_faults.proofs.First.{some}
 use Rattle.c_typed_tree.specs.declared.units.TypedUnit.{TypedUnit}
 use Rattle.c_typed_tree.specs.Lawful.{IsLawfulUnit}
-use Rattle.c_tag_bodies.specs.Bodies.{TagScope}
-use Rattle.c_declarations.specs.declared.walk.UnitSoFar.{UnitSoFar}
-use Rattle.c_units.specs.Units.{whole_unit}
-use Rattle.unit_counts.specs.Counts.{CanBeCounted}
-use Rattle.c_text_bytes.specs.Bytes.{AreBytes}
-use Rattle.c_typed_unit_laws.specs.Made.{HaveBytes, IsSpelled}
-use Rattle.c_typed_unit_laws.proofs.Units.{unit_typed}
+use Rattle.c_typing_struct_bodies.specs.Bodies.{TagScope}
+use Rattle.c_typing_declarations.specs.declared.walk.UnitSoFar.{UnitSoFar}
+use Rattle.c_typing_units.specs.Units.{whole_unit}
+use Rattle.c_typing_counts.specs.unit_counts.Counts.{CanBeCounted}
+use Rattle.c_typing_text_laws.specs.c_text_bytes.Bytes.{AreBytes}
+use Rattle.c_types.specs.c_typed_unit_laws.Made.{HaveBytes, IsSpelled}
+use Rattle.c_types.proofs.CTypedUnitLaws.Units.{unit_typed}
 use Rattle.c_types.specs.Spellings.{HasSpellings}
 use Rattle.c_types.specs.Units.{typed_unit_of, IsTyped}
 use Rattle.c_types.proofs.Made.{unit_made}

@@ -4,13 +4,13 @@ use Rattle.std.proofs.lemmas.List.{length-set}
 use Rattle.c_tree.specs.declared.declarations.TranslationUnit.{TranslationUnit}
 use Rattle.c_typed_tree.specs.declared.units.TypedFn.{TypedFn}
 use Rattle.c_typed_tree.specs.declared.units.TypedUnit.{TypedUnit}
-use Rattle.c_globals.specs.Globals.{globals}
-use Rattle.c_tag_bodies.specs.Bodies.{TagScope}
-use Rattle.c_declarations.specs.declared.walk.UnitFunction.{UnitFunction}
-use Rattle.c_declarations.specs.declared.walk.UnitSoFar.{UnitSoFar}
-use Rattle.c_units.specs.Units.{whole_unit}
+use Rattle.c_typing_globals.specs.Globals.{globals}
+use Rattle.c_typing_struct_bodies.specs.Bodies.{TagScope}
+use Rattle.c_typing_declarations.specs.declared.walk.UnitFunction.{UnitFunction}
+use Rattle.c_typing_declarations.specs.declared.walk.UnitSoFar.{UnitSoFar}
+use Rattle.c_typing_units.specs.Units.{whole_unit}
 use Rattle.c_types.specs.Units.{with_trees, functions_in, append_functions, typed_from, typed_unit}
-use Rattle.c_typed_unit_laws.specs.Made.{IsKeptAs, TypedIsMadeOf}
+use Rattle.c_types.specs.c_typed_unit_laws.Made.{IsKeptAs, TypedIsMadeOf}
 
 none_some : {A X : Type 0} {a : A} → None ≡ Some a → X
 none_some e = let clash : ⊥ = cc in absurd clash

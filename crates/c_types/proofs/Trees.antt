@@ -4,16 +4,16 @@ use Rattle.std.specs.List.{list_all}
 use Rattle.std.proofs.lemmas.List.{length-set}
 use Rattle.std.proofs.lemmas.Bool.Decides.{Decides-eqb}
 use Rattle.c_tree.specs.declared.declarations.TranslationUnit.{TranslationUnit}
-use Rattle.c_type_faults.specs.Faults.{sort_faults, head}
-use Rattle.c_type_faults.proofs.First.{some}
+use Rattle.c_typing_faults.specs.Faults.{sort_faults, head}
+use Rattle.c_typing_faults.proofs.First.{some}
 use Rattle.c_typed_tree.specs.declared.units.TypedFn.{TypedFn}
-use Rattle.c_tag_bodies.specs.Bodies.{TagScope}
-use Rattle.c_declarations.specs.declared.walk.UnitFunction.{UnitFunction}
-use Rattle.c_declarations.specs.declared.walk.UnitSoFar.{UnitSoFar}
-use Rattle.c_units.specs.Units.{whole_unit}
-use Rattle.c_type_laws.proofs.Truth.{no_true, front, back, also, either}
-use Rattle.c_found_unit_laws.specs.Laws.{is_tree_kept}
-use Rattle.c_found_unit_laws.proofs.Units.{functions_kept}
+use Rattle.c_typing_struct_bodies.specs.Bodies.{TagScope}
+use Rattle.c_typing_declarations.specs.declared.walk.UnitFunction.{UnitFunction}
+use Rattle.c_typing_declarations.specs.declared.walk.UnitSoFar.{UnitSoFar}
+use Rattle.c_typing_units.specs.Units.{whole_unit}
+use Rattle.c_typing_expression_sound.proofs.CTypeLaws.Truth.{no_true, front, back, also, either}
+use Rattle.c_types.specs.c_found_unit_laws.Laws.{is_tree_kept}
+use Rattle.c_types.proofs.CFoundUnitLaws.Units.{functions_kept}
 use Rattle.c_types.specs.Units.{with_trees, functions_in, append_functions}
 
 -- a place that has a tree

@@ -5,9 +5,9 @@ use Rattle.c_tree.specs.declared.declarations.TranslationUnit.{TranslationUnit}
 use Rattle.c_tree.specs.Nodes.{unit_height}
 use Rattle.c_typed_tree.specs.declared.units.TypedUnit.{TypedUnit}
 use Rattle.c_typed_tree.specs.Lawful.{IsLawfulUnit}
-use Rattle.c_typed_height.specs.Heights.{typed_unit_height}
-use Rattle.unit_counts.specs.Counts.{CanBeCounted}
-use Rattle.c_typed_unit_laws.specs.Made.{IsSpelled}
+use Rattle.c_typed_tree.specs.c_typed_height.Heights.{typed_unit_height}
+use Rattle.c_typing_counts.specs.unit_counts.Counts.{CanBeCounted}
+use Rattle.c_types.specs.c_typed_unit_laws.Made.{IsSpelled}
 use Rattle.c_types.specs.Units.{IsTyped}
 
 abbrev pub TypedUnitsAreLawful : Type 0

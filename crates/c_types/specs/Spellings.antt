@@ -4,9 +4,9 @@ use Rattle.std.specs.Prelude.{IsTrue, All}
 use Rattle.c_tree.specs.declared.declarations.Init.{Init}
 use Rattle.c_tree.specs.declared.declarations.TranslationUnit.{TranslationUnit}
 use Rattle.c_typed_tree.specs.Lawful.{is_identifier}
-use Rattle.c_typed_unit_laws.specs.FunctionNames.{passes}
-use Rattle.c_typed_unit_laws.specs.Initialisers.{HoldsBytes}
-use Rattle.c_typed_unit_laws.specs.Walks.{IsInitialiserIn}
+use Rattle.c_types.specs.c_typed_unit_laws.FunctionNames.{passes}
+use Rattle.c_types.specs.c_typed_unit_laws.Initialisers.{HoldsBytes}
+use Rattle.c_types.specs.c_typed_unit_laws.Walks.{IsInitialiserIn}
 
 -- the name of each function that is defined is an identifier, and the literals in initialisers hold bytes
 pub record HasSpellings (unit : TranslationUnit) : Type 0 where

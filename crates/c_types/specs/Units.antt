@@ -6,14 +6,14 @@ use Rattle.c_tree.specs.declared.declarations.TranslationUnit.{TranslationUnit}
 use Rattle.c_typed_tree.specs.declared.types.StructDef.{StructDef}
 use Rattle.c_typed_tree.specs.declared.units.TypedFn.{TypedFn}
 use Rattle.c_typed_tree.specs.declared.units.TypedUnit.{TypedUnit}
-use Rattle.c_type_faults.specs.Faults.{head}
-use Rattle.c_checks.specs.Checks.{append_part}
-use Rattle.c_globals.specs.declared.objects.UnitObject.{UnitObject}
-use Rattle.c_globals.specs.Globals.{globals}
-use Rattle.c_declarations.specs.declared.walk.UnitFunction.{UnitFunction}
-use Rattle.c_declarations.specs.declared.walk.UnitSoFar.{UnitSoFar}
-use Rattle.c_tag_bodies.specs.Bodies.{TagScope}
-use Rattle.c_units.specs.Units.{whole_unit, faults_of}
+use Rattle.c_typing_faults.specs.Faults.{head}
+use Rattle.c_typing_state.specs.Checks.{append_part}
+use Rattle.c_typing_globals.specs.declared.objects.UnitObject.{UnitObject}
+use Rattle.c_typing_globals.specs.Globals.{globals}
+use Rattle.c_typing_declarations.specs.declared.walk.UnitFunction.{UnitFunction}
+use Rattle.c_typing_declarations.specs.declared.walk.UnitSoFar.{UnitSoFar}
+use Rattle.c_typing_struct_bodies.specs.Bodies.{TagScope}
+use Rattle.c_typing_units.specs.Units.{whole_unit, faults_of}
 use Rattle.c_types.specs.declared.faults.TypeFault.{TypeFault}
 use Rattle.c_types.specs.declared.faults.TypeFault.TheVariants as f
 

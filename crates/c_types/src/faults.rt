@@ -5,7 +5,7 @@ ghost use Rattle.bk_memory.specs.Shortage.{MemoryIsShort};
 ghost use Rattle.c_types.specs.declared.faults.TypeFault.TheVariants.{NoMemory};
 
 use bk_memory::memory_is_short;
-use c_type_faults::Kind;
+use c_typing_faults::Kind;
 use std::alloc::AllocError;
 use thiserror::Error;
 

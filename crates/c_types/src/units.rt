@@ -2,23 +2,24 @@
 
 ghost use Rattle.std.specs.Prelude.{◌≡◌, ◌*◌, ◌≤◌, IsTrue, is_some, IfOk, IfErr, IfSome, IfNone, Some, None, [], replicate, slice_set};
 ghost use Rattle.c_tree.specs.Nodes.{unit_height};
-ghost use Rattle.c_typed_height.specs.Heights.{typed_unit_height};
+ghost use Rattle.c_typed_tree.specs.c_typed_height.Heights.{typed_unit_height};
 ghost use Rattle.c_typed_tree.specs.Lawful.{IsLawfulUnit};
 ghost use Rattle.c_types.specs.Spellings.{HasSpellings};
 ghost use Rattle.c_types.specs.Units as spec;
-ghost use Rattle.unit_counts.specs.Counts.{CanBeCounted};
+ghost use Rattle.c_typing_counts.specs.unit_counts.Counts.{CanBeCounted};
 
 use crate::faults::TypeFault;
-use c_checks::{Notes, append_part};
-use c_declarations::{UnitFunction, UnitSoFar};
-use c_globals::{UnitObject, lay_out_globals};
-use c_text_bytes::read_texts;
-use c_tree::{Seq, TranslationUnit};
-use c_type_faults::{Fault, least};
+use bk_containers::Seq;
+use c_tree::TranslationUnit;
 use c_typed_tree::{StructDef, TypedFn, TypedUnit};
-use c_units::{UnitState, judge};
+use c_typing_counts::unit_counts::can_be_counted;
+use c_typing_declarations::{UnitFunction, UnitSoFar};
+use c_typing_faults::{Fault, least};
+use c_typing_globals::{UnitObject, lay_out_globals};
+use c_typing_state::{Notes, append_part};
+use c_typing_text_laws::c_text_bytes::read_texts;
+use c_typing_units::{UnitState, judge};
 use std::alloc::{AllocError, Global};
-use unit_counts::can_be_counted;
 
 /// A place for each function, without a tree.
 fn no_trees(alloc: Global, count: u32) -> Result<Vec<Option<TypedFn>>, AllocError>

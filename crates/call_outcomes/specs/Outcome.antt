@@ -1,7 +1,7 @@
 -- The line that is written for an outcome, and the status of the process.
 use Rattle.std.specs.Prelude.{ℕ, List, [], ◌∷◌, ◌++◌, Option, Some, None, codes, decimal}
-use Rattle.c_type_faults.specs.declared.faults.Kind.{Kind}
-use Rattle.c_type_faults.specs.declared.faults.Kind.TheVariants as k
+use Rattle.c_typing_faults.specs.declared.faults.Kind.{Kind}
+use Rattle.c_typing_faults.specs.declared.faults.Kind.TheVariants as k
 use Rattle.call_outcomes.specs.declared.outcome.Outcome.{Outcome}
 use Rattle.call_outcomes.specs.declared.outcome.Outcome.TheVariants.{Built, Printed, Ran, Trapped, Stuck, Budget, Usage, FileFault, InputFault, WriteFault, Refused, Limit, BadImage, BadAsm, NoMemory}
 use Rattle.call_outcomes.specs.declared.outcome.SourceFault.TheVariants.{Lex, Syntax, Typing}

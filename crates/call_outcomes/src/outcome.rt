@@ -10,7 +10,7 @@ ghost use Rattle.call_outcomes.specs.Output.{TookUnlessFault};
 use crate::output::put_three;
 use bk_io::outside::{Failed, Sink};
 use bk_memory::memory_is_short;
-use c_type_faults::Kind;
+use c_typing_faults::Kind;
 use itoa::Buffer;
 use std::alloc::AllocError;
 use thiserror::Error;

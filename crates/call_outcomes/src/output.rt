@@ -1,6 +1,6 @@
 //! Putting bytes into a sink.
 
-ghost use Rattle.std.specs.Prelude.{◌≡◌, ◌≢◌, ◌⊎◌, ◌++◌};
+ghost use Rattle.std.specs.Prelude.{◌≡◌, ◌≢◌, ◌⊎◌, ◌++◌, IfSome};
 ghost use Rattle.bk_io.specs.Outside.{faults_after, TakesSlice};
 ghost use Rattle.call_outcomes.specs.Output.{PutsBytes, output_faults_after};
 
@@ -43,5 +43,17 @@ pub fn write_bytes<S: Sink>(sink: &mut S, bytes: &[u8], done: Outcome) -> Outcom
     match sink.put_slice(bytes) {
         Ok(()) => done,
         Err(_) => Outcome::WriteFault,
+    }
+}
+
+/// Lets go all that a sink holds. The outcome is this one, unless a write fails, or failed and was not reported.
+pub fn finish_output<S: Sink>(sink: &mut S, done: Outcome) -> Outcome
+    ensures told { IfSome (S.taken sink.old) (λ _. (result ≡ done) × (sink.new ≡ sink.old)) }
+    ensures count { done ≢ Outcome.WriteFault → S.faults sink.new ≡ output_faults_after result (S.faults sink.old) }
+    ensures either { (result ≡ done) ⊎ (result ≡ Outcome.WriteFault) }
+{
+    match sink.finish() {
+        Ok(()) => done,
+        Err(_failed) => Outcome::WriteFault,
     }
 }

@@ -1,8 +1,8 @@
 //! The kinds of rows, each with its file.
 
 use anyhow::Result;
-use memory_calls::call::{answer, answer_for_text};
-use msc_calls::Msc;
+use row_calls::call::{answer, answer_for_text};
+use row_msc_calls::Msc;
 use row_sheets::Table;
 use std::alloc::Global;
 

@@ -8,10 +8,11 @@ mod kind;
 
 use crate::kind::KINDS;
 use anyhow::Result;
-use row_sheets::check_tables;
+use row_sheets::{check_tables, end_of_checks};
 
 /// Checks the files that the words name, or all of them in this folder where there are no words.
 fn main(rt: HostRuntime) -> Result<()> {
     let mut kinds = KINDS;
-    check_tables(&rt, &mut kinds)
+    let differing = check_tables(&rt, &mut kinds)?;
+    end_of_checks(&[differing])
 }

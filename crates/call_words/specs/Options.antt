@@ -3,12 +3,12 @@ use Rattle.std.specs.Prelude.{ℕ, Bool, not, List, Option, Some, None, is_some,
 use Rattle.std.specs.List.{list_all}
 use Rattle.std.specs.Option.{option_map_or}
 use Rattle.clap.specs.Words.{Row}
-use Rattle.compile_options.specs.declared.Allocator.{Allocator}
-use Rattle.compile_options.specs.declared.Allocator.TheVariants.{Plain}
-use Rattle.compile_options.specs.declared.MachineLimits.{MachineLimits}
-use Rattle.compile_options.specs.declared.Options.{Options}
-use Rattle.compile_options.specs.declared.PassName.{PassName}
-use Rattle.compile_options.specs.declared.PassName.TheVariants as pass
+use Rattle.call_words.specs.declared.compile_options.Allocator.{Allocator}
+use Rattle.call_words.specs.declared.compile_options.Allocator.TheVariants.{Plain}
+use Rattle.call_words.specs.declared.compile_options.MachineLimits.{MachineLimits}
+use Rattle.call_words.specs.declared.compile_options.Options.{Options}
+use Rattle.call_words.specs.declared.compile_options.PassName.{PassName}
+use Rattle.call_words.specs.declared.compile_options.PassName.TheVariants as pass
 use Rattle.call_words.specs.declared.request.OptionName.{OptionName}
 use Rattle.call_words.specs.declared.request.OptionName.TheVariants.{Pass, Alloc, Stack, Budget}
 use Rattle.call_words.specs.Limits.{default_stack, default_budget}

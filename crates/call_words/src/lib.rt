@@ -4,6 +4,7 @@
 //! read the values, and `read` says what is asked for.
 #![tactic(auto)]
 
+pub mod compile_options;
 mod line;
 mod numbers;
 mod options;

@@ -6,11 +6,11 @@ ghost use Rattle.clap.specs.Words.{found_of, rows_of};
 ghost use Rattle.call_words.specs.Line as line;
 ghost use Rattle.call_words.specs.Options as spec;
 
+use crate::compile_options::{Allocator, MachineLimits, Options, PassName};
 use crate::line::option_in;
 use crate::numbers::{budget_at, stack_at};
 use crate::request::OptionName;
 use clap::ArgMatches;
-use compile_options::{Allocator, MachineLimits, Options, PassName};
 
 /// The stack of a run, in bytes, where the words do not say.
 pub const DEFAULT_STACK: u64 = 8_388_608;

@@ -1,6 +1,6 @@
 //! What a call asks for.
 
-use compile_options::{MachineLimits, Options, PassName};
+use crate::compile_options::{MachineLimits, Options, PassName};
 
 /// What is asked for.
 #[derive(Clone, Copy, Debug, PartialEq, Eq)]

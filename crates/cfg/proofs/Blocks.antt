@@ -5,7 +5,7 @@ use Rattle.std.specs.List.{range_with_len}
 use Rattle.std.proofs.lemmas.List.{map_push}
 use Rattle.std.proofs.lemmas.List.Elements.{All-head, All-tail, All-contains, All-drop, Contains-push}
 use Rattle.std.proofs.lemmas.Option.{none-some}
-use Rattle.suifvm_ir.specs.Functions.{IsStraight, EndsLate, front_of}
+use Rattle.pass_core.specs.Functions.{IsStraight, EndsLate, front_of}
 use Rattle.bk_ilist.specs.Listing.{items, last_or, last_id, AtId, HasId}
 use Rattle.cfg.specs.model.Search.{marked_count}
 use Rattle.cfg.specs.Renumber.{with_targets, renumber}

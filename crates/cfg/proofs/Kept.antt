@@ -11,7 +11,7 @@ use Rattle.std.proofs.Math.ListN.{get_or-map}
 use Rattle.std.proofs.lemmas.List.{get_or-map as get_or_map, take-map}
 use Rattle.std.proofs.lemmas.List.Sums.{sum_by-cons}
 use Rattle.pass_core.specs.Insns.{InsnLaws}
-use Rattle.suifvm_ir.specs.Functions.{AllInsns, GoesToBlocks, IsStraight, EndsLate, front_of, last_of, stops, block_stops, insn_stops, successors_after, successors_of, count_of, insn_in, UsesRegisters}
+use Rattle.pass_core.specs.Functions.{AllInsns, GoesToBlocks, IsStraight, EndsLate, front_of, last_of, stops, block_stops, insn_stops, successors_after, successors_of, count_of, insn_in, UsesRegisters}
 use Rattle.cfg.specs.Edges.{successors_from, edge_count}
 use Rattle.cfg.specs.Walks.{zero_targets, block_at, SameWalks}
 use Rattle.cfg.specs.Paths.{IsReachable, IsEntry, Follows, AllReached}

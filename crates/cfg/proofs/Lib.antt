@@ -5,3 +5,4 @@ pub mod Bare
 pub mod Blocks
 pub mod Simulation
 pub mod Kept
+pub mod CfgText

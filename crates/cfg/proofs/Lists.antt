@@ -3,7 +3,7 @@ use Rattle.std.proofs.Common.{◌≡◌, ℕ, zero, suc, ◌+◌, ◌-◌, ◌<�
 use Rattle.std.proofs.lemmas.List.{take_more, map_push}
 use Rattle.std.proofs.lemmas.Option.{slice_get_within, get_or_from_slice_get, none-some}
 use Rattle.std.specs.List.{range_with_len}
-use Rattle.suifvm_ir.specs.Functions.{last_of, successors_after, successors_of}
+use Rattle.pass_core.specs.Functions.{last_of, successors_after, successors_of}
 use Rattle.bk_ilist.specs.Listing.{items, last_or, last_id, HasId}
 use Rattle.cfg.specs.Edges.{successors_from}
 

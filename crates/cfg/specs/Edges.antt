@@ -1,7 +1,7 @@
 -- The edges of a function.
 use Rattle.std.specs.Prelude.{ℕ, suc, ◌==◌, Bool, List, [], ◌∷◌, ◌++◌, map, filter, length, sum_by}
 use Rattle.std.specs.List.{range_with_len}
-use Rattle.suifvm_ir.specs.Functions.{successors_of}
+use Rattle.pass_core.specs.Functions.{successors_of}
 
 -- the blocks that may follow each block, where the first has this number
 abbrev pub successors_from : {I : Type 0} → (targets : I → List ℕ) → (flows_on : I → Bool) → (number : ℕ) →

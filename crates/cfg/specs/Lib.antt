@@ -5,3 +5,4 @@ pub mod Contents
 pub mod Measures
 pub mod Renumber
 pub mod model
+pub mod cfg_text

@@ -1,6 +1,6 @@
 -- Paths along the edges of a function.
 use Rattle.std.specs.Prelude.{◌≡◌, ℕ, ◌<◌, ◌≤◌, Bool, List, Contains, length, slice_get, Some}
-use Rattle.suifvm_ir.specs.Functions.{insn_at}
+use Rattle.pass_core.specs.Functions.{insn_at}
 use Rattle.cfg.specs.Edges.{successors_from}
 
 -- a path leads from block 0 to a block, where these are the blocks that may follow each

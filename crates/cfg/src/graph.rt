@@ -5,10 +5,10 @@ ghost use Rattle.cfg.specs.Edges.{successors_from, predecessors};
 
 use crate::predecessors::predecessor_lists;
 use crate::successors::successor_lists;
-use c_tree::Seq;
+use bk_containers::Seq;
 use pass_core::Insn;
+use pass_core::function::Func;
 use std::alloc::{AllocError, Global};
-use suifvm_ir::function::Func;
 
 /// The edges of a function, by the number of each block.
 #[derive(Debug, Drop)]

@@ -1,6 +1,7 @@
 //! Flow graphs of functions, whatever their instructions are.
 #![tactic(auto)]
 
+pub mod cfg_text;
 pub mod graph;
 pub mod order;
 mod predecessors;

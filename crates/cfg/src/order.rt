@@ -4,8 +4,8 @@ ghost use Rattle.std.specs.Prelude.{◌≡◌, length, IfOk};
 ghost use Rattle.std.specs.List.{range_with_len};
 
 use pass_core::Insn;
+use pass_core::function::Func;
 use std::alloc::{AllocError, Global};
-use suifvm_ir::function::Func;
 
 /// The blocks in the order of their numbers.
 #[tactic(auto, using(crate::proofs::Lists::range_push))]

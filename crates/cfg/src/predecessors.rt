@@ -3,7 +3,7 @@
 ghost use Rattle.std.specs.Prelude.{◌≡◌, ◌^◌, ◌<◌, ℕ, List, [], ◌∷◌, ◌++◌, length, IfOk, OnOk};
 ghost use Rattle.cfg.specs.Edges.{edges_to, edges_from, sources_of_each, predecessors};
 
-use c_tree::Seq;
+use bk_containers::Seq;
 use std::alloc::{AllocError, Global};
 
 /// Puts a block into the list of the one that its edge goes to.

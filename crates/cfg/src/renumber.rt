@@ -2,14 +2,14 @@
 
 ghost use Rattle.std.specs.Prelude.{◌≡◌, [], ◌∷◌, ◌++◌, ◌<◌, ◌+◌, ◌-◌, ◌^◌, All, length, map, OnOk, IfOk, if◌then◌else◌};
 ghost use Rattle.std.specs.List.{range_with_len};
-ghost use Rattle.suifvm_ir.specs.Functions.{AllInsns, EndsLate};
+ghost use Rattle.pass_core.specs.Functions.{AllInsns, EndsLate};
 ghost use Rattle.cfg.specs.Renumber.{renumber};
 ghost use Rattle.cfg.specs.model.Marked.{number_in, marked_of};
 
-use c_tree::Seq;
+use bk_containers::Seq;
 use pass_core::Insn;
+use pass_core::block::Block;
 use std::alloc::{AllocError, Global};
-use suifvm_ir::block::Block;
 
 /// The number of the next block, behind one that is marked or not.
 fn number_behind(number: u32, mark: bool) -> u32

@@ -4,7 +4,7 @@ ghost use Rattle.std.specs.Prelude.{◌≡◌, ◌<◌, ◌^◌, ℕ, true, fals
 ghost use Rattle.cfg.specs.Paths.{IsReachable};
 ghost use Rattle.cfg.specs.model.Search.{search_of, visit, visit_all, is_unmarked};
 
-use c_tree::Seq;
+use bk_containers::Seq;
 use std::alloc::{AllocError, Global};
 
 /// Whether a block is there and has no mark.

@@ -1,13 +1,13 @@
 //! The blocks that may follow a block.
 
 ghost use Rattle.std.specs.Prelude.{◌≡◌, ◌+◌, ◌^◌, ◌<◌, length, Some, IfOk};
-ghost use Rattle.suifvm_ir.specs.Functions.{successors_after, successors_of};
+ghost use Rattle.pass_core.specs.Functions.{successors_after, successors_of};
 ghost use Rattle.cfg.specs.Edges.{successors_from};
 
-use c_tree::Seq;
+use bk_containers::Seq;
 use pass_core::Insn;
+use pass_core::block::Block;
 use std::alloc::{AllocError, Global};
-use suifvm_ir::block::Block;
 
 /// The targets of an instruction.
 fn target_list<I: Insn>(alloc: Global, insn: &I) -> Result<Seq<u32>, AllocError>

@@ -3,12 +3,12 @@
 ghost use Rattle.std.specs.Prelude.{◌≡◌, [], ◌∷◌, IfOk};
 
 use crate::{build, linear_order, remove_unreachable};
-use c_tree::{Name, Seq};
+use bk_containers::{Name, Seq};
 use pass_core::Insn;
+use pass_core::block::Block;
+use pass_core::function::Func;
 use std::alloc::{AllocError, Global};
 use std::test::Fail;
-use suifvm_ir::block::Block;
-use suifvm_ir::function::Func;
 use suifvm_ir::insn::VmInsn;
 
 /// A block of one instruction.

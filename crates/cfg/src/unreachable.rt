@@ -1,7 +1,7 @@
 //! Functions without blocks to which no path leads.
 
 ghost use Rattle.std.specs.Prelude.{◌≡◌, ◌≤◌, ◌<◌, ◌^◌, All, IsTrue, length, IfOk};
-ghost use Rattle.suifvm_ir.specs.Functions.{AllInsns, GoesToBlocks, EndsLate, stops, count_of};
+ghost use Rattle.pass_core.specs.Functions.{AllInsns, GoesToBlocks, EndsLate, stops, count_of};
 ghost use Rattle.cfg.specs.Edges.{successors_from, edge_count};
 ghost use Rattle.cfg.specs.Walks.{SameWalks};
 ghost use Rattle.cfg.specs.Paths.{AllReached};
@@ -12,11 +12,11 @@ ghost use Rattle.cfg.specs.model.ReachedPart.{IsReachedPart};
 use crate::renumber::{marked_blocks, numbers_of};
 use crate::search::reached_marks;
 use crate::successors::successor_lists;
-use c_tree::Seq;
+use bk_containers::Seq;
 use pass_core::Insn;
+use pass_core::block::Block;
+use pass_core::function::Func;
 use std::alloc::{AllocError, Global};
-use suifvm_ir::block::Block;
-use suifvm_ir::function::Func;
 
 /// The blocks to which a path leads from block 0, in their order and with their new numbers as targets.
 fn reached_part<I: Insn>(alloc: Global, blocks: Seq<Block<I>>) -> Result<Seq<Block<I>>, AllocError>

@@ -2,7 +2,7 @@
 use Rattle.std.proofs.Common.{◌≡◌, ℕ, suc, ◌+◌, ◌*◌, ◌≤◌, Bool, true, false, List, [], ◌∷◌, map, length, get_or, refl, ap, ◌∙◌, arith}
 use Rattle.std.proofs.lemmas.List.Sums.{sum_by-cons}
 use Rattle.pass_core.specs.Insns.{InsnLaws}
-use Rattle.suifvm_ir.specs.Functions.{last_of, count_of}
+use Rattle.pass_core.specs.Functions.{last_of, count_of}
 use Rattle.cfg.specs.Walks.{zero_targets}
 use Rattle.cfg.specs.Renumber.{renumber}
 use Rattle.cfg.specs.model.Search.{marked_count}

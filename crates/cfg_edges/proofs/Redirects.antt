@@ -2,7 +2,7 @@
 use Rattle.std.proofs.Common.{◌≡◌, ℕ, ◌-◌, ◌<◌, List, [], ◌∷◌, ◌++◌, map, length, Option, Some, None, refl, arith, sym, ap, subst, ◌∙◌, slice_index_or, append_assoc}
 use Rattle.std.specs.Prelude.{All}
 use Rattle.std.proofs.lemmas.Option.{slice_get_within, get_or_from_slice_get}
-use Rattle.suifvm_ir.specs.Functions.{last_of}
+use Rattle.pass_core.specs.Functions.{last_of}
 use Rattle.bk_ilist.specs.Listing.{items, last_id}
 use Rattle.cfg.specs.Renumber.{with_targets}
 use Rattle.cfg.proofs.Lists.{no_last}

@@ -9,7 +9,7 @@ use Rattle.std.proofs.lemmas.List.{get_or-map}
 use Rattle.std.proofs.lemmas.List.Elements.{All-head, All-tail, All-contains, Contains-get_or, filter-append}
 use Rattle.std.proofs.lemmas.List.FromFn.{get_or-map-range_with_len}
 use Rattle.pass_core.specs.Insns.{InsnLaws}
-use Rattle.suifvm_ir.specs.Functions.{AllInsns, GoesToBlocks, EndsLate, last_of, stops, successors_after, successors_of}
+use Rattle.pass_core.specs.Functions.{AllInsns, GoesToBlocks, EndsLate, last_of, stops, successors_after, successors_of}
 use Rattle.cfg.specs.Edges.{successors_from, edges_to, edges_from, sources_of, predecessors, edge_count}
 use Rattle.cfg.specs.Walks.{block_at}
 use Rattle.cfg.specs.Renumber.{renumber}

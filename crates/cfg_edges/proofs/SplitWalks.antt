@@ -10,7 +10,7 @@ use Rattle.std.proofs.lemmas.List.{append-nil, get_or_default, take-map, map-app
 use Rattle.std.proofs.lemmas.List.Elements.{All-map, All-nil, Contains-append_left, Contains-append_right, Contains-append_cases, Contains-get_or}
 use Rattle.std.proofs.lemmas.List.{get_or-map as get_or_map}
 use Rattle.pass_core.specs.Insns.{InsnLaws}
-use Rattle.suifvm_ir.specs.Functions.{AllInsns, GoesToBlocks, IsStraight, EndsLate, UsesRegisters, front_of, last_of, stops, block_stops, insn_stops, insn_in, successors_after, successors_of}
+use Rattle.pass_core.specs.Functions.{AllInsns, GoesToBlocks, IsStraight, EndsLate, UsesRegisters, front_of, last_of, stops, block_stops, insn_stops, insn_in, successors_after, successors_of}
 use Rattle.cfg.specs.Edges.{successors_from}
 use Rattle.cfg.specs.Paths.{IsReachable, IsEntry, Follows, AllReached, GoesBack}
 use Rattle.cfg.specs.Walks.{zero_targets, block_at, SameWalks}

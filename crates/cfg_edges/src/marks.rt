@@ -4,7 +4,7 @@ ghost use Rattle.std.specs.Prelude.{◌≡◌, ◌<◌, ◌^◌, length, map, If
 ghost use Rattle.std.specs.List.{list_any};
 ghost use Rattle.cfg_edges.specs.model.Split.{is_join, is_split, places, numbers_from};
 
-use c_tree::Seq;
+use bk_containers::Seq;
 use cfg::Graph;
 use std::alloc::{AllocError, Global};
 

@@ -1,14 +1,14 @@
 //! What comes in the place of each block.
 
 ghost use Rattle.std.specs.Prelude.{◌≡◌, ◌<◌, ◌+◌, ◌^◌, ◌++◌, [], ◌∷◌, All, length, map, true, OnOk, IfOk};
-ghost use Rattle.suifvm_ir.specs.Functions.{AllInsns, EndsLate, last_of};
+ghost use Rattle.pass_core.specs.Functions.{AllInsns, EndsLate, last_of};
 ghost use Rattle.cfg_edges.specs.model.Split.{to_one, target_of, target_after, pieces, split_from};
 
-use c_tree::Seq;
+use bk_containers::Seq;
 use cfg::renumber_block;
 use pass_core::Insn;
+use pass_core::block::Block;
 use std::alloc::{AllocError, Global};
-use suifvm_ir::block::Block;
 
 /// Makes a block the target of an instruction, if it has one, and gives the target that it had, or 0.
 fn set_only_target<I: Insn>(insn: &mut I, to: u32) -> u32

@@ -1,7 +1,7 @@
 //! Functions in which no edge leads from a block with two successors to one with two predecessors.
 
 ghost use Rattle.std.specs.Prelude.{◌≡◌, ◌≤◌, ◌<◌, ◌+◌, ◌*◌, ◌^◌, All, IsTrue, length, map, IfOk};
-ghost use Rattle.suifvm_ir.specs.Functions.{AllInsns, GoesToBlocks, EndsLate, stops, count_of};
+ghost use Rattle.pass_core.specs.Functions.{AllInsns, GoesToBlocks, EndsLate, stops, count_of};
 ghost use Rattle.cfg.specs.Edges.{successors_from, predecessors, edge_count};
 ghost use Rattle.cfg.specs.Walks.{SameWalks};
 ghost use Rattle.cfg.specs.Paths.{AllReached};
@@ -13,12 +13,12 @@ ghost use Rattle.cfg_edges.specs.model.SplitPart.{IsSplitPart};
 
 use crate::marks::{numbers_of, splits_of};
 use crate::pieces::put_all;
-use c_tree::Seq;
+use bk_containers::Seq;
 use cfg::{Graph, build};
 use pass_core::Insn;
+use pass_core::block::Block;
+use pass_core::function::Func;
 use std::alloc::{AllocError, Global};
-use suifvm_ir::block::Block;
-use suifvm_ir::function::Func;
 
 /// The blocks of a function with this graph, where each block with a critical edge is followed by one that jumps to the
 /// block that followed it, and by one that jumps to its target.

@@ -1,15 +1,15 @@
 //! The call, shown at the instructions of the virtual machine.
 
 ghost use Rattle.std.specs.Prelude.{◌≡◌, ◌<◌, ◌+◌, ◌*◌, ◌^◌, [], ◌∷◌, length, IfOk};
-ghost use Rattle.suifvm_ir.specs.Functions.{count_of};
+ghost use Rattle.pass_core.specs.Functions.{count_of};
 
 use crate::split_edges;
-use c_tree::{Name, Seq};
+use bk_containers::{Name, Seq};
 use cfg::build;
+use pass_core::block::Block;
+use pass_core::function::Func;
 use std::alloc::{AllocError, Global};
 use std::test::Fail;
-use suifvm_ir::block::Block;
-use suifvm_ir::function::Func;
 use suifvm_ir::insn::{VmBranchOp, VmInsn};
 use suifvm_ir::types::VmType;
 

@@ -1,4 +1,5 @@
 pub mod Units
 pub mod Builds
 pub mod Runs
+pub mod Fronts
 pub mod Vm

@@ -1,8 +1,8 @@
--- A text has one unit at most, and is not refused where it has one within the limits.
+-- A text is not refused where it has a unit within the limits.
 use Rattle.std.proofs.Common.{◌≡◌, ℕ, List, inl, inr, Option, Some, None, refl, sym, ap, ◌∙◌, subst, arith}
 use Rattle.c_tree.specs.declared.declarations.TranslationUnit.{TranslationUnit}
-use Rattle.c_type_faults.specs.declared.faults.Fault.{Fault}
-use Rattle.c_type_faults.specs.declared.faults.Kind.{Kind}
+use Rattle.c_typing_faults.specs.declared.faults.Fault.{Fault}
+use Rattle.c_typing_faults.specs.declared.faults.Kind.{Kind}
 use Rattle.c_parser.specs.declared.fault.ParseFault.{ParseFault}
 use Rattle.c_parser.specs.declared.fault.ParseFault.TheVariants as parse
 use Rattle.c_parser.specs.Reading.{IsRead, IsNotRead}
@@ -17,21 +17,12 @@ use Rattle.call_outcomes.specs.declared.outcome.Which.TheVariants.{Text, Nesting
 use Rattle.compile_calls.specs.CompileFault.TheVariants.{Source}
 use Rattle.compile_calls.specs.Units.{IsUnitOf, HasTypingFault, HasNoUnit}
 use Rattle.compile_calls.specs.Compile.{MakesNothing}
+use Rattle.compile_calls.proofs.Units.{OneTree, one_unit}
 use Rattle.compile_call_laws.specs.Laws.{HasUnit, TextsWithAUnitAreNotRefused}
 
--- the laws of readings
-abbrev pub OneTree : Type 0
-OneTree = (text : List ℕ) (x y : TranslationUnit) → IsRead text x → IsRead text y → x ≡ y
-
+-- the law of readings that are refused
 abbrev pub ReadOrRefused : Type 0
 ReadOrRefused = (text : List ℕ) (x : TranslationUnit) (fault : ParseFault) → IsRead text x → IsNotRead text fault → fault ≡ parse.NoMemory
-
-pub one_unit : OneTree → (text : List ℕ) (s t : TranslationUnit) (u v : TypedUnit) → IsUnitOf text s u → IsUnitOf text t v → u ≡ v
-one_unit one_tree text s t u v a b =
-    let trees : s ≡ t = one_tree text s t a.read b.read in
-    let same : IsUnitOf text t u = subst (λ x. IsUnitOf text x u) trees a in
-    let both : ◌≡◌ {A = Option TypedUnit} (Some u) (Some v) = sym same.typed.1 ∙ b.typed.1 in
-    cc
 
 module _ (one_tree : OneTree) (read_or_refused : ReadOrRefused) where
   well_typed : (text : List ℕ) (tree : TranslationUnit) (unit : TypedUnit) (at : ℕ) (k : Kind) → IsUnitOf text tree unit → HasTypingFault text at k → ⊥

@@ -1,9 +1,10 @@
 -- What `vm` answers for a text that has a unit.
 use Rattle.std.proofs.Common.{◌≡◌, ◌≢◌, ℕ, ◌<◌, List, All, inl, inr, Some, refl, sym, ap, ◌∙◌, subst}
-use Rattle.mem_model.specs.World.{Rooms}
-use Rattle.mem_model.specs.Ending.{Ending, Done, Trap, Undefined, More}
-use Rattle.vm_meaning.specs.Behave.{behave_vm}
-use Rattle.vm_meaning.specs.Laws.{OneVmEnding}
+use Rattle.mem_model.specs.World.{World, Rooms}
+use Rattle.mem_model.specs.Ending.{Ending, Done, Trap, Undefined, More, ending_output}
+use Rattle.suifvm_meaning.specs.Behave.{behave_vm}
+use Rattle.suifvm_meaning.specs.Laws.{OneVmEnding, VmKeepsOutput}
+use Rattle.machine_model.specs.Laws.{IsPrefix}
 use Rattle.bk_io.specs.Outside.{taken_with, Traffic}
 use Rattle.c_mean.specs.Behaviour as c
 use Rattle.c_mean.specs.Behaviour.{CBehaviour, output_of}
@@ -13,15 +14,23 @@ use Rattle.c_semantics.specs.Behaves.{behave_c, behaviour_of, rooms_of}
 use Rattle.suifvm_ir.specs.declared.program.VmProgram.{VmProgram}
 use Rattle.suifvm_run.specs.declared.ending.VmEnding.{VmEnding}
 use Rattle.suifvm_run.specs.declared.ending.VmEnding.TheVariants as ending
-use Rattle.suifvm_run.specs.Run.{VmBehaves}
+use Rattle.suifvm_run.specs.Run.{VmBehaves, GoesOn, program_run}
 use Rattle.lowering_theorem.specs.Laws.{IsCodeOf, BehavesAsUnit, BehavioursAreKept}
 use Rattle.call_outcomes.specs.declared.outcome.Outcome.{Outcome}
 use Rattle.call_outcomes.specs.declared.outcome.Outcome.TheVariants.{Ran, Trapped, Budget}
-use Rattle.compile_calls.specs.Compile.{IsBuilt}
+use Rattle.compile_calls.specs.Built.{IsBuilt}
 use Rattle.compile_calls.specs.Vm.{outcome_of_ending, RunsProgram}
-use Rattle.compile_call_laws.specs.Laws.{IsOutcomeOf, AnswersAs, TextsWithAUnitAreNotRefused, VmAnswersAsTheTextMeans}
-use Rattle.compile_call_laws.proofs.Units.{OneTree}
+use Rattle.compile_call_laws.specs.Laws.{IsOutcomeOf, PutsFrontOf, AnswersAs, TextsWithAUnitAreNotRefused, VmAnswersAsTheTextMeans}
+use Rattle.compile_calls.proofs.Units.{OneTree}
 use Rattle.compile_call_laws.proofs.Builds.{of_text, same_unit}
+use Rattle.compile_call_laws.proofs.Fronts.{front_of_ending}
+
+-- a front of what is put at an ending is one of what is put by its behaviour
+of_behaviour : (put : List ℕ) (e : Ending) → behaviour_of e ≢ c.Undefined → IsPrefix put (ending_output e) → IsPrefix put (output_of (behaviour_of e))
+of_behaviour put (Done w status) ne front = front
+of_behaviour put (Trap w code) ne front = front
+of_behaviour put (Undefined w at) ne front = absurd (ne refl)
+of_behaviour put (More w) ne front = front
 
 module _ (text : List ℕ) (turns : ℕ) (before after : Traffic) (b : CBehaviour) where
   -- what is answered for an ending is answered for its behaviour
@@ -29,34 +38,41 @@ module _ (text : List ℕ) (turns : ℕ) (before after : Traffic) (b : CBehaviou
       → AnswersAs text turns b before after answer
   meant e answer is outcome taken = subst (λ x. AnswersAs text turns x before after answer) is (AnswersAs.as_meant outcome taken)
 
-  module _ (one_ending : OneVmEnding) (ne : b ≢ c.Undefined) (rooms : Rooms) (program : VmProgram) (input : List ℕ) (e : Ending) (means : behave_vm rooms program input turns e) (is : behaviour_of e ≡ b) where
+  module _ (one_ending : OneVmEnding) (keeps : VmKeepsOutput) (ne : b ≢ c.Undefined) (rooms : Rooms) (program : VmProgram) (input : List ℕ) (e : Ending) (means : behave_vm rooms program input turns e) (is : behaviour_of e ≡ b) where
     -- an ending of the run is the one that is meant
     same : (f : Ending) → behave_vm rooms program input turns f → behaviour_of f ≡ b
     same f other = ap behaviour_of (one_ending rooms program input turns f e other means) ∙ is
+
+    -- a run that goes on has put a front
+    puts_front : (last : World) → GoesOn (program_run rooms program input turns) last → after.taken ≡ taken_with last.outer.output before.taken → PutsFrontOf b before.taken after.taken
+    puts_front last goes taken =
+        let front : IsPrefix last.outer.output (ending_output e) = front_of_ending rooms program input turns keeps last e means goes in
+        let of_e : IsPrefix last.outer.output (output_of (behaviour_of e)) = of_behaviour last.outer.output e (λ u. ne (sym is ∙ u)) front in
+        (last.outer.output, subst (λ x. IsPrefix last.outer.output (output_of x)) is of_e, taken)
 
     by_ending : (v : VmEnding) → VmBehaves rooms program input turns v before after → AnswersAs text turns b before after (outcome_of_ending turns v)
     by_ending (ending.Ended status) r = meant (Done r.last status) (Ran status) (same (Done r.last status) r.stops) refl r.taken
     by_ending (ending.Trapped code) r = meant (Trap r.last code) (Trapped code) (same (Trap r.last code) r.stops) refl r.taken
     by_ending (ending.Undefined pc) r = absurd (ne (sym (same (Undefined r.last pc) r.stops)))
     by_ending (ending.Budget left) r = meant (More r.last) (Budget turns) (same (More r.last) r.stops.1) refl r.taken
-    by_ending ending.InputFault r = AnswersAs.input_fault refl
-    by_ending ending.WriteFault r = AnswersAs.write_fault refl
-    by_ending ending.NoMemory r = AnswersAs.no_memory refl (inl r.stops.1)
+    by_ending ending.InputFault r = AnswersAs.input_fault refl (puts_front r.last r.stops.before r.taken)
+    by_ending ending.WriteFault r = AnswersAs.write_fault refl (puts_front r.last r.stops.before r.taken)
+    by_ending ending.NoMemory r = AnswersAs.short_later refl r.stops.1 (puts_front r.last r.stops.0 r.taken)
 
-module _ (one_tree : OneTree) (not_refused : TextsWithAUnitAreNotRefused) (one_ending : OneVmEnding) (kept : BehavioursAreKept) where
+module _ (one_tree : OneTree) (not_refused : TextsWithAUnitAreNotRefused) (one_ending : OneVmEnding) (keeps : VmKeepsOutput) (kept : BehavioursAreKept) where
   by_program : (text input : List ℕ) (unit : TypedUnit) (turns : ℕ) (answer : Outcome) (before after : Traffic) (program : VmProgram) → IsTypedUnit unit → IsCodeOf unit program
       → before.left ≡ Some input → All (λ byte. byte < 256) input → behave_c unit input turns ≢ c.Undefined → RunsProgram turns program answer before after
       → AnswersAs text turns (behave_c unit input turns) before after answer
   by_program text input unit turns answer before after program typed code told bytes ne runs =
       let it : BehavesAsUnit unit program input turns = kept unit program typed code input turns bytes ne in
       subst (AnswersAs text turns (behave_c unit input turns) before after) (sym runs.1)
-      (by_ending text turns before after (behave_c unit input turns) one_ending ne (rooms_of unit) program input it.ending it.ends it.behaviour runs.0 (runs.2 (rooms_of unit) input told))
+      (by_ending text turns before after (behave_c unit input turns) one_ending keeps ne (rooms_of unit) program input it.ending it.ends it.behaviour runs.0 (runs.2 (rooms_of unit) input told))
 
   pub answers : VmAnswersAsTheTextMeans
   answers text input unit allocator turns answer before after has told bytes ne runs = elim runs [
     | inl w ↦ elim (not_refused text unit answer has w.0) [
-      | inl file ↦ AnswersAs.file_fault file
-      | inr memory ↦ AnswersAs.no_memory memory.0 memory.1
+      | inl file ↦ AnswersAs.file_fault file w.1
+      | inr memory ↦ AnswersAs.no_memory memory.0 w.1 memory.1
     ]
     | inr m ↦
         let is : IsBuilt text allocator m.0 = of_text text allocator m.0 m.1 in

@@ -13,18 +13,19 @@ use Rattle.c_lexer.specs.Limits.{text_limit}
 use Rattle.c_tree.specs.declared.declarations.TranslationUnit.{TranslationUnit}
 use Rattle.c_parser.specs.Reading.{IsTooHigh}
 use Rattle.c_typed_tree.specs.declared.units.TypedUnit.{TypedUnit}
-use Rattle.c_semantics.specs.Behaves.{meaning, behave_c}
+use Rattle.c_typed_tree.specs.Weight.{unit_weight}
+use Rattle.c_semantics.specs.Behaves.{meaning, behave_c, IsEnded}
 use Rattle.call_outcomes.specs.declared.outcome.Outcome.{Outcome}
 use Rattle.call_outcomes.specs.declared.outcome.Outcome.TheVariants.{Built, Ran, Trapped, Budget, FileFault, InputFault, WriteFault, NoMemory}
 use Rattle.call_outcomes.specs.FromFile.{IsCause}
 use Rattle.call_outcomes.specs.Output.{PutsBytes}
-use Rattle.compile_options.specs.declared.Allocator.{Allocator}
-use Rattle.compile_options.specs.declared.MachineLimits.{MachineLimits}
+use Rattle.call_words.specs.declared.compile_options.Allocator.{Allocator}
+use Rattle.call_words.specs.declared.compile_options.MachineLimits.{MachineLimits}
 use Rattle.compile_calls.specs.Units.{IsUnitWithin}
-use Rattle.compile_calls.specs.Same.{Same}
+use Rattle.compile_calls.specs.Correct.{IsCorrectFor}
 use Rattle.compile_calls.specs.Compile.{RefusesText}
 use Rattle.compile_calls.specs.Build.{Builds}
-use Rattle.compile_calls.specs.Run.{Runs}
+use Rattle.compile_calls.specs.Run.{Runs, enough_steps}
 use Rattle.compile_calls.specs.Vm.{RunsText}
 
 -- the text is within the limit, and has this unit, within the limits of weight and of data
@@ -44,18 +45,18 @@ TextsWithAUnitAreNotRefused =
 
 -- ---- `build`
 
--- What is written for a unit: the bytes of an image that behaves as the unit does, on every stack, or a front of them
--- where the output fails; or the file is not read, or memory is short, and nothing is.
+-- What is written for a unit: the bytes of an image that is right for the unit, or a front of them where the output
+-- fails; or the file is not read, or memory is short, and nothing is.
 pub data WritesUnit (text : List ℕ) (unit : TypedUnit) (answer : Outcome) (old new : Option (List ℕ)) : Type 0 where
-  image : (p : Program) → IsLawful p → ((stack : ℕ) → IsStack stack → Same (meaning unit) p stack) →
+  image : (p : Program) → IsLawful p → IsCorrectFor unit p →
       PutsBytes Built (image_spelling p) answer old new → WritesUnit text unit answer old new
   file_fault : answer ≡ FileFault → new ≡ old → WritesUnit text unit answer old new
   no_memory : answer ≡ NoMemory → new ≡ old → IsShortFor text → WritesUnit text unit answer old new
 
 abbrev pub BuildWritesWhatTheTextMeans : Type 0
 BuildWritesWhatTheTextMeans =
-    (text : List ℕ) (unit : TypedUnit) (allocator : Allocator) (answer : Outcome) (old new : Option (List ℕ)) →
-    HasUnit text unit → Builds allocator (Some text) answer old new → WritesUnit text unit answer old new
+    (text : List ℕ) (unit : TypedUnit) (answer : Outcome) (old new : Option (List ℕ)) →
+    HasUnit text unit → Builds (Some text) answer old new → WritesUnit text unit answer old new
 
 -- ---- `run`
 
@@ -66,28 +67,36 @@ pub record PutsFront (m : Meaning) (input : List ℕ) (before after : Option (Li
   pub front : IsPrefix put (output_of (m.behave input turns))
   pub taken : after ≡ taken_with put before
 
--- What a run of so many steps may do for a program on an input: it ends or traps as the program does, and puts what
--- that puts; or a front of that, where the steps do not suffice, or the input or the output fails; or the file is not
--- read, or memory is short, and nothing is done.
-pub data RunsUnit (text : List ℕ) (m : Meaning) (input : List ℕ) (budget : ℕ) (before after : Traffic) :
+-- so many steps are fewer than are enough for a unit on an input: it never ends, or in more turns
+abbrev pub AreTooFew : TypedUnit → (input : List ℕ) → (budget : ℕ) → Type 0
+AreTooFew unit input budget =
+    (turns : ℕ) → IsEnded (behave_c unit input turns) → budget < enough_steps (unit_weight unit) turns
+
+-- What a run of so many steps may do for a unit on an input: it ends or traps as the unit does, and puts what that
+-- puts; or a front of that, where the steps are too few, or the input or the output fails; or the file is not read, or
+-- memory is short, and nothing is done.
+pub data RunsUnit (text : List ℕ) (unit : TypedUnit) (input : List ℕ) (budget : ℕ) (before after : Traffic) :
     Outcome → Type 0 where
-  ran : (turns : ℕ) (output : List ℕ) (status : ℕ) → m.behave input turns ≡ c.Done output status →
-      after.taken ≡ taken_with output before.taken → RunsUnit text m input budget before after (Ran status)
-  trapped : (turns : ℕ) (output : List ℕ) (code : ℕ) → m.behave input turns ≡ c.Trap output code →
-      after.taken ≡ taken_with output before.taken → RunsUnit text m input budget before after (Trapped code)
-  out_of_steps : PutsFront m input before.taken after.taken → RunsUnit text m input budget before after (Budget budget)
-  input_fault : PutsFront m input before.taken after.taken → RunsUnit text m input budget before after InputFault
-  write_fault : PutsFront m input before.taken after.taken → RunsUnit text m input budget before after WriteFault
-  file_fault : after ≡ before → RunsUnit text m input budget before after FileFault
-  no_memory : after ≡ before → IsShortFor text → RunsUnit text m input budget before after NoMemory
+  ran : (turns : ℕ) (output : List ℕ) (status : ℕ) → behave_c unit input turns ≡ c.Done output status →
+      after.taken ≡ taken_with output before.taken → RunsUnit text unit input budget before after (Ran status)
+  trapped : (turns : ℕ) (output : List ℕ) (code : ℕ) → behave_c unit input turns ≡ c.Trap output code →
+      after.taken ≡ taken_with output before.taken → RunsUnit text unit input budget before after (Trapped code)
+  out_of_steps : PutsFront (meaning unit) input before.taken after.taken → AreTooFew unit input budget →
+      RunsUnit text unit input budget before after (Budget budget)
+  input_fault : PutsFront (meaning unit) input before.taken after.taken →
+      RunsUnit text unit input budget before after InputFault
+  write_fault : PutsFront (meaning unit) input before.taken after.taken →
+      RunsUnit text unit input budget before after WriteFault
+  file_fault : after ≡ before → RunsUnit text unit input budget before after FileFault
+  no_memory : after ≡ before → IsShortFor text → RunsUnit text unit input budget before after NoMemory
 
 abbrev pub RunDoesWhatTheTextMeans : Type 0
 RunDoesWhatTheTextMeans =
-    (text input : List ℕ) (unit : TypedUnit) (allocator : Allocator) (limits : MachineLimits) (answer : Outcome)
+    (text input : List ℕ) (unit : TypedUnit) (limits : MachineLimits) (answer : Outcome)
     (before after : Traffic) → HasUnit text unit → IsStack limits.stack → before.left ≡ Some input →
     AreBytes input → Good (meaning unit) input limits.stack →
-    Runs allocator limits (Some text) answer before after →
-    RunsUnit text (meaning unit) input limits.budget before after answer
+    Runs limits (Some text) answer before after →
+    RunsUnit text unit input limits.budget before after answer
 
 -- ---- `vm`
 
@@ -98,16 +107,25 @@ IsOutcomeOf turns (c.Trap output code) answer = answer ≡ Trapped code
 IsOutcomeOf turns c.Undefined answer = ⊥
 IsOutcomeOf turns (c.More output) answer = answer ≡ Budget turns
 
--- what may be answered for a unit that behaves so within so many turns: the outcome of that, where the output took all
--- that the unit puts; or the file, the input or the output fails, or memory is short
+-- a front was put of what a behaviour puts
+abbrev pub PutsFrontOf : CBehaviour → (before after : Option (List ℕ)) → Type 0
+PutsFrontOf b before after = (put : List ℕ) × IsPrefix put (output_of b) × (after ≡ taken_with put before)
+
+-- What may be answered for a unit that behaves so within so many turns: the outcome of that, where the output took all
+-- that the unit puts; or a front of that was put, where the input or the output fails, or memory gets short; or the file
+-- is not read, or memory is short, and nothing is done.
 pub data AnswersAs (text : List ℕ) (turns : ℕ) (b : CBehaviour) (before after : Traffic) (answer : Outcome) :
     Type 0 where
   as_meant : IsOutcomeOf turns b answer → after.taken ≡ taken_with (output_of b) before.taken →
       AnswersAs text turns b before after answer
-  file_fault : answer ≡ FileFault → AnswersAs text turns b before after answer
-  input_fault : answer ≡ InputFault → AnswersAs text turns b before after answer
-  write_fault : answer ≡ WriteFault → AnswersAs text turns b before after answer
-  no_memory : answer ≡ NoMemory → IsShortFor text → AnswersAs text turns b before after answer
+  input_fault : answer ≡ InputFault → PutsFrontOf b before.taken after.taken →
+      AnswersAs text turns b before after answer
+  write_fault : answer ≡ WriteFault → PutsFrontOf b before.taken after.taken →
+      AnswersAs text turns b before after answer
+  short_later : answer ≡ NoMemory → MemoryIsShort → PutsFrontOf b before.taken after.taken →
+      AnswersAs text turns b before after answer
+  file_fault : answer ≡ FileFault → after ≡ before → AnswersAs text turns b before after answer
+  no_memory : answer ≡ NoMemory → after ≡ before → IsShortFor text → AnswersAs text turns b before after answer
 
 abbrev pub VmAnswersAsTheTextMeans : Type 0
 VmAnswersAsTheTextMeans =

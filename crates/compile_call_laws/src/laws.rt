@@ -4,7 +4,7 @@ ghost use Rattle.compile_call_laws.specs.Laws.{TextsWithAUnitAreNotRefused, Buil
 
 use c_parser::laws::{one_tree, read_or_refused};
 use lowering_theorem::laws::behaviours_are_kept;
-use vm_meaning::laws::one_ending;
+use suifvm_meaning::laws::{one_ending, runs_go_on};
 
 /// A text that has a unit within the limits is refused by no command that compiles it, unless the file fails or
 /// memory is short, or its tree is higher than is taken.
@@ -15,8 +15,7 @@ pub fn texts_with_a_unit_are_not_refused()
     read_or_refused();
 }
 
-/// `build` writes for such a text the image of what behaves as the unit, on every stack, unless the outside fails or
-/// memory is short.
+/// `build` writes for such a text an image that is right for the unit, unless the outside fails or memory is short.
 pub fn build_writes_what_the_text_means()
     ensures { BuildWritesWhatTheTextMeans }
 {
@@ -25,8 +24,9 @@ pub fn build_writes_what_the_text_means()
 }
 
 /// `run` ends or traps for such a text as the unit does, on each input of bytes that is told and on which the unit
-/// promises something with the stack of the run, unless its steps do not suffice, the outside fails or memory is
-/// short; it puts what the unit puts, or a front of that, and is never stuck.
+/// promises something with the stack of the run, unless its steps are too few, the outside fails or memory is short;
+/// it puts what the unit puts, or a front of that, and is never stuck. Where the unit ends within `n` turns,
+/// `1_228_800 * w * (n + 1)` steps are enough, for its weight `w`.
 pub fn run_does_what_the_text_means()
     ensures { RunDoesWhatTheTextMeans }
 {
@@ -35,12 +35,14 @@ pub fn run_does_what_the_text_means()
 }
 
 /// `vm` answers for such a text as the unit behaves within the turns asked for, on each input of bytes that is told,
-/// wherever that is defined, and puts what the unit puts, unless the outside fails or memory is short.
+/// wherever that is defined, and puts what the unit puts; or a front of that where the input or the output fails, or
+/// memory gets short on the way; or nothing where the file fails or memory is short.
 pub fn vm_answers_as_the_text_means()
     ensures { VmAnswersAsTheTextMeans }
 {
     one_tree();
     read_or_refused();
     one_ending();
+    runs_go_on();
     behaviours_are_kept();
 }

@@ -2,7 +2,7 @@
 use Rattle.std.proofs.Common.{◌≡◌, ℕ, suc, ◌+◌, ◌<◌, ◌≤◌, List, [], ◌∷◌, ◌++◌, length, get_or, drop, refl, sym, ap, ◌∙◌, append_assoc, append-nil}
 use Rattle.std.proofs.lemmas.List.{at_drop_more, at_drop_all}
 use Rattle.std.specs.List.{AllZip}
-use Rattle.suifvm_ir.specs.Functions.{count_of}
+use Rattle.pass_core.specs.Functions.{count_of}
 use Rattle.temp_ir.specs.Programs.{TempFn}
 use Rattle.alloc_model.specs.declared.allocation.Allocation.{Allocation}
 use Rattle.alloc_lines.specs.Text.{allocation_text}

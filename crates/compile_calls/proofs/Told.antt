@@ -7,9 +7,10 @@ use Rattle.call_outcomes.specs.declared.outcome.Which.{Which}
 use Rattle.call_outcomes.specs.declared.outcome.Which.TheVariants.{Text, Nesting, Weight, Data}
 use Rattle.call_outcomes.specs.FromFile.{IsCause, IsFront, file_bytes}
 use Rattle.call_outcomes.proofs.Told.{short_told, long_told}
-use Rattle.compile_options.specs.declared.Allocator.{Allocator}
+use Rattle.call_words.specs.declared.compile_options.Allocator.{Allocator}
 use Rattle.compiler.specs.declared.built.Built.{Built}
-use Rattle.compile_calls.specs.Compile.{IsBuilt, HasBuilt, MakesNothing, HasHighTree, RefusesText}
+use Rattle.compile_calls.specs.Built.{IsBuilt, HasBuilt}
+use Rattle.compile_calls.specs.Compile.{MakesNothing, HasHighTree, RefusesText}
 
 -- what was read of a file
 abbrev pub IsReadOf : Option Shelf → (name text : List ℕ) → Type 0

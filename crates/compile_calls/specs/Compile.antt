@@ -1,34 +1,27 @@
--- What is made of the text of a file, and why nothing is.
+-- What is right for the text of a file, and why there is nothing.
 use Rattle.std.specs.Prelude.{◌≡◌, ℕ, ◌<◌, ◌≤◌, List, length, Option, IfSome}
-use Rattle.alpha_isa.specs.Behave.{IsStack}
+use Rattle.alpha_isa.specs.Program.{Program}
 use Rattle.c_lexer.specs.Limits.{text_limit}
 use Rattle.c_parser.specs.Reading.{IsTooHigh}
-use Rattle.c_semantics.specs.Behaves.{meaning}
 use Rattle.call_outcomes.specs.declared.outcome.Outcome.{Outcome}
 use Rattle.call_outcomes.specs.declared.outcome.Outcome.TheVariants as outcome
 use Rattle.call_outcomes.specs.declared.outcome.Which.TheVariants.{Text}
-use Rattle.compile_options.specs.declared.Allocator.{Allocator}
 use Rattle.compiler.specs.CompileFault.TheVariants.{Source, Limit}
 use Rattle.compiler.specs.Units.{HasNoUnit}
-use Rattle.compiler.specs.Same.{Same}
-use Rattle.compiler.specs.declared.built.Built.{Built}
-use Rattle.compiler.specs.Made.{Made}
+use Rattle.compiler.specs.Correct.{IsCorrectImage}
 
 -- how many bytes are read of a C file: one more than a text may have
 abbrev pub source_limit : ℕ
 source_limit = 4194305
 
--- The text is within the limit, this was made of it, and the image behaves as the text means, on every stack.
-pub record IsBuilt (text : List ℕ) (allocator : Allocator) (b : Built) : Type 0 where
-  pub low : length text ≤ text_limit
-  pub made : Made text allocator b
-  pub same : (stack : ℕ) → IsStack stack → Same (meaning b.typed.unit) b.image stack
+-- ---- what is right for a text
 
--- this was made of a text, which is that of the file, where it is told
-pub record HasBuilt (told : Option (List ℕ)) (allocator : Allocator) (b : Built) : Type 0 where
+-- An image is right for a text within the limit, which is that of the file, where it is told.
+pub record HasCorrectImage (told : Option (List ℕ)) (image : Program) : Type 0 where
   pub text : List ℕ
   pub is_told : IfSome told (λ t. t ≡ text)
-  pub is_built : IsBuilt text allocator b
+  pub low : length text ≤ text_limit
+  pub correct : IsCorrectImage text image
 
 -- ---- why nothing is made
 

@@ -1,10 +1,11 @@
 pub mod Compile
+pub mod Built
 pub mod Build
 pub mod Run
 pub mod Vm
 pub mod Texts
 pub mod Print
 pub mod model
-pub use Rattle.compiler.specs.Same
+pub use Rattle.compiler.specs.Correct
 pub use Rattle.compiler.specs.Units
 pub use Rattle.compiler.specs.CompileFault

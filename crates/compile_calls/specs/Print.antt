@@ -5,10 +5,11 @@ use Rattle.call_outcomes.specs.declared.outcome.Outcome.{Outcome}
 use Rattle.call_outcomes.specs.declared.outcome.Outcome.TheVariants.{Printed, NoMemory}
 use Rattle.call_outcomes.specs.FromFile.{Does}
 use Rattle.call_outcomes.specs.Output.{PutsBytes}
-use Rattle.compile_options.specs.declared.Allocator.{Allocator}
-use Rattle.compile_options.specs.declared.PassName.{PassName}
+use Rattle.call_words.specs.declared.compile_options.Allocator.{Allocator}
+use Rattle.call_words.specs.declared.compile_options.PassName.{PassName}
 use Rattle.compile_calls.specs.Texts.{text_of_pass}
-use Rattle.compile_calls.specs.Compile.{HasBuilt, RefusesText}
+use Rattle.compile_calls.specs.Built.{HasBuilt}
+use Rattle.compile_calls.specs.Compile.{RefusesText}
 
 -- a text is put, or memory is short
 abbrev pub WritesText : List ℕ → Outcome → Option (List ℕ) → Option (List ℕ) → Type 0

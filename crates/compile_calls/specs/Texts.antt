@@ -1,15 +1,15 @@
 -- The text of each pass of a compile.
 use Rattle.std.specs.Prelude.{ℕ, ◌+◌, List, [], ◌∷◌, ◌++◌}
 use Rattle.c_tree.specs.Nodes.{text_of as tree_text}
-use Rattle.suifvm_ir.specs.Functions.{count_of}
+use Rattle.pass_core.specs.Functions.{count_of}
 use Rattle.suifvm_ir.specs.Text as vm
-use Rattle.cfg_text.specs.Text.{graphs_text}
+use Rattle.cfg.specs.cfg_text.Text.{graphs_text}
 use Rattle.temp_ir.specs.Text as temps
 use Rattle.alloc_model.specs.declared.allocation.Allocation.{Allocation}
 use Rattle.alloc_lines.specs.Text.{allocation_text}
 use Rattle.alpha_text.specs.Texts.{asm_text}
-use Rattle.compile_options.specs.declared.PassName.{PassName}
-use Rattle.compile_options.specs.declared.PassName.TheVariants.{Tree, Vm, Graph, Select, Alloc, Asm}
+use Rattle.call_words.specs.declared.compile_options.PassName.{PassName}
+use Rattle.call_words.specs.declared.compile_options.PassName.TheVariants.{Tree, Vm, Graph, Select, Alloc, Asm}
 use Rattle.compiler.specs.declared.built.Built.{Built}
 
 -- the allocations, whose instructions are counted over all of them, as over the program that they are of

@@ -9,8 +9,9 @@ use Rattle.bk_io.specs.Outside.{Traffic}
 use Rattle.call_outcomes.specs.declared.outcome.Outcome.{Outcome}
 use Rattle.call_outcomes.specs.declared.outcome.Outcome.TheVariants.{Ran, Trapped, Stuck, Budget, InputFault, WriteFault, NoMemory}
 use Rattle.call_outcomes.specs.FromFile.{Does}
-use Rattle.compile_options.specs.declared.Allocator.{Allocator}
-use Rattle.compile_calls.specs.Compile.{HasBuilt, RefusesText}
+use Rattle.call_words.specs.declared.compile_options.Allocator.{Allocator}
+use Rattle.compile_calls.specs.Built.{HasBuilt}
+use Rattle.compile_calls.specs.Compile.{RefusesText}
 
 -- the outcome of a run's ending, by how many turns it may take
 abbrev pub outcome_of_ending : (turns : ℕ) → VmEnding → Outcome

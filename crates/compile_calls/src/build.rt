@@ -4,13 +4,13 @@ ghost use Rattle.std.specs.Prelude.{◌≡◌, ◌≢◌, ◌↔◌, IfSome, IsT
 ghost use Rattle.bk_io.specs.Shelf.{is_due, after_call};
 ghost use Rattle.call_outcomes.specs.FromFile.{file_bytes};
 ghost use Rattle.call_outcomes.specs.Output.{file_faults_after, output_faults_after};
-ghost use Rattle.compile_calls.specs.Build.{Builds};
+ghost use Rattle.compile_calls.specs.Build.{Builds, BuildsMade};
 
 use crate::images::image_of_file;
 use bk_io::outside::{Files, Sink};
+use call_images::write_image;
 use call_outcomes::outcome::Outcome;
 use compiler::Options;
-use image_calls::write_image;
 use std::alloc::Global;
 
 /// Compiles a C file and writes the bytes of its image.
@@ -21,7 +21,8 @@ pub fn build<F: Files, O: Sink>(
     files: &mut F,
     out: &mut O,
 ) -> Outcome
-    ensures answer { Builds options.now.allocator (file_bytes (F.told files.old) name.now) result
+    ensures answer { Builds (file_bytes (F.told files.old) name.now) result (O.taken out.old) (O.taken out.new) }
+    ensures made { BuildsMade options.now.allocator (file_bytes (F.told files.old) name.now) result
         (O.taken out.old) (O.taken out.new) }
     ensures due { IfSome (F.told files.old) (λ shelf. (result ≡ Outcome.FileFault) ↔ IsTrue (is_due shelf name.now)) }
     ensures told { F.told files.new ≡ option_map after_call (F.told files.old) }

@@ -4,7 +4,8 @@ ghost use Rattle.std.specs.Prelude.{◌≡◌, ◌↔◌, IfOk, IfErr, IfSome, I
 ghost use Rattle.bk_io.specs.Shelf.{is_due, after_call};
 ghost use Rattle.call_outcomes.specs.FromFile.{file_bytes, IsCause};
 ghost use Rattle.call_outcomes.specs.Output.{file_faults_unless};
-ghost use Rattle.compile_calls.specs.Compile.{HasBuilt, RefusesText};
+ghost use Rattle.compile_calls.specs.Built.{HasBuilt};
+ghost use Rattle.compile_calls.specs.Compile.{RefusesText};
 
 use crate::texts::{SOURCE_LIMIT, compile_text};
 use bk_io::outside::Files;

@@ -12,7 +12,7 @@ use crate::passes::pass_text;
 use bk_io::outside::{Files, Sink};
 use call_outcomes::outcome::Outcome;
 use call_outcomes::output::write_bytes;
-use compile_options::PassName;
+use call_words::compile_options::PassName;
 use compiler::{Built, Options};
 use std::alloc::Global;
 

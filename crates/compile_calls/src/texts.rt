@@ -3,7 +3,8 @@
 ghost use Rattle.std.specs.Prelude.{◌≡◌, ◌≤◌, length, IfOk, IfErr, OnOk, Some};
 ghost use Rattle.c_lexer.specs.Limits.{text_limit};
 ghost use Rattle.call_outcomes.specs.FromFile.{IsCause};
-ghost use Rattle.compile_calls.specs.Compile.{IsBuilt, RefusesText};
+ghost use Rattle.compile_calls.specs.Built.{IsBuilt};
+ghost use Rattle.compile_calls.specs.Compile.{RefusesText};
 ghost use Rattle.compile_calls.specs.model.Causes.{outcome_of_compile_fault, IsNoFault};
 
 use call_outcomes::outcome::{Outcome, Which};

@@ -1,11 +1,12 @@
--- The image that was made of a text behaves as its unit does.
-use Rattle.same_behaviour.specs.Same.{UnitsBehaveAlike}
-use Rattle.compiler.specs.model.Stages.{ImagesAreSame}
+-- The image that was made of a text is right for the text.
+use Rattle.c_semantics.specs.Behaves.{rooms_of}
+use Rattle.compiler_theorem.specs.unit_images.Laws.{IsMadeOf}
+use Rattle.compiler_theorem.specs.same_behaviour.Same.{UnitsBehaveAlike, UnitsEndSoon}
+use Rattle.compiler.specs.model.Stages.{ImagesAreCorrect}
 
-pub images_are_same : UnitsBehaveAlike → ImagesAreSame
-images_are_same alike text allocator b made stack is_stack =
-    alike b.typed.unit b.image b.typed.lawful.typed
-    (record {
+pub images_are_correct : UnitsBehaveAlike → UnitsEndSoon → ImagesAreCorrect
+images_are_correct alike end_soon text allocator b made short =
+    let of : IsMadeOf b.typed.unit (rooms_of b.typed.unit) b.image = record {
       code = b.vm;
       is_code = made.code;
       selected = b.temps;
@@ -18,5 +19,14 @@ images_are_same alike text allocator b made stack is_stack =
       items = made.items;
       words = made.words;
       lawful = made.lawful;
-    })
-    stack is_stack
+    } in
+    record {
+      tree = b.unit;
+      unit = b.typed.unit;
+      is_unit = made.front;
+      correct = record {
+        same = λ stack is_stack. alike b.typed.unit b.image b.typed.lawful.typed of stack is_stack;
+        soon = λ stack is_stack. end_soon b.typed.unit b.image b.typed.lawful.typed of stack is_stack;
+        short = short;
+      };
+    }

@@ -1,80 +1,80 @@
 -- What was made of a text, as far as it was kept.
-use Rattle.std.proofs.Common.{◌≡◌, ℕ, ◌<◌, ◌≤◌, ◌^◌, List, Some, length, refl, sym, ap, ◌∙◌, subst, arith}
+use Rattle.std.proofs.Common.{◌≡◌, ℕ, ◌*◌, ◌<◌, ◌≤◌, ◌^◌, List, Option, Some, length, refl, sym, ap, ◌∙◌, subst, arith}
 use Rattle.std.specs.Prelude.{Result, Ok, Err, IfOk, unwrap_or}
 use Rattle.std.specs.Global.{Global, Vec}
 use denote.RawPtr.{null_ptr}
 use Rattle.alpha_isa.specs.Program.{Program, IsLawful}
 use Rattle.alpha_items.specs.Assembly.{Assembly}
 use Rattle.alpha_items.specs.Words.{Words}
+use Rattle.alpha_items.proofs.Unique.{length-words}
 use Rattle.alpha_asm.specs.Fault.{HasFewWords}
 use Rattle.c_tree.specs.declared.declarations.TranslationUnit.{TranslationUnit}
 use Rattle.c_typed_tree.specs.declared.units.TypedUnit.{TypedUnit}
-use Rattle.c_lawful_unit.specs.declared.LawfulUnit.{LawfulUnit}
+use Rattle.c_typed_tree.specs.declared.c_lawful_unit.LawfulUnit.{LawfulUnit}
+use Rattle.c_typed_tree.specs.Weight.{unit_weight}
 use Rattle.lowering.specs.Lowered.{AreLowered, AreWithinWeight}
 use Rattle.suifvm_ir.specs.declared.program.VmProgram.{VmProgram}
 use Rattle.suifvm_ir.specs.Programs.{program_size}
 use Rattle.temp_ir.specs.declared.program.TempProgram.{TempProgram}
+use Rattle.temp_ir.specs.Programs.{TempFn}
 use Rattle.alloc_model.specs.declared.allocation.Allocation.{Allocation}
-use Rattle.plain_programs.proofs.Functions.{are_allocations}
-use Rattle.plain_layouts.specs.Layouts.{IsPlainAssemblyOf}
-use Rattle.compile_options.specs.declared.Allocator.{Allocator}
-use Rattle.compile_options.specs.declared.Allocator.TheVariants.{Plain}
-use Rattle.front_end.specs.Units.{IsUnitWithin}
+use Rattle.alloc_rules.specs.Allocations.{IsAllocationOf}
+use Rattle.alloc_rules.proofs.Allocations.{are_allocations}
+use Rattle.alloc_plain.specs.Plain.{IsPlainAllocationOf}
+use Rattle.alloc_layouts.specs.Layouts.{IsAssemblyBy}
+use Rattle.call_words.specs.declared.compile_options.Allocator.{Allocator}
+use Rattle.call_words.specs.declared.compile_options.Allocator.TheVariants.{Plain}
+use Rattle.compiler_front_end.specs.Units.{IsUnitWithin}
+use Rattle.compiler_theorem.specs.Correct.{IsCorrectImage}
 use Rattle.compiler.specs.declared.built.AssemblyParts.{AssemblyParts}
 use Rattle.compiler.specs.declared.built.Built.{Built}
-use Rattle.compiler.specs.declared.built.CodeParts.{CodeParts}
 use Rattle.compiler.specs.declared.built.Parts.{Parts}
 use Rattle.compiler.specs.declared.built.WantedParts.{WantedParts}
 use Rattle.compiler.specs.declared.built.WantedParts.TheVariants.{Everything, Image}
-use Rattle.compiler.specs.Made.{Made}
+use Rattle.compiler.specs.Made.{Made, gives}
 use Rattle.compiler.specs.Images.{IsImageOfText}
-use Rattle.compiler.specs.model.Parts.{UnitHasText, AreCodePartsOf, HasAllocations, AreAssemblyPartsOf, parts_of_built, PartsAreWhole, ArePartsOf}
-use Rattle.compiler.specs.model.Stages.{IsCodeWithin, AreTempsOf, ProgramCanBeAssembled, IsAssemblyOfUnit, AssembliesAreMade, ImagesAreSame}
+use Rattle.compiler.specs.model.Parts.{UnitHasText, IsKept, AreAssemblyPartsOf, parts_of_built, PartsAreWhole, ArePartsOf}
+use Rattle.compiler.specs.model.Stages.{IsLoweredUnit, IsSelectedProgram, ArePassed, IsCodeWithin, ProgramCanBeAssembled, IsAssemblyOfUnit, AssembliesAreMade, ImagesAreCorrect}
+use Rattle.compiler.proofs.Registers.{unit_registers}
 use Rattle.compiler.proofs.Stages.{made_of}
 
--- ---- the code
+-- ---- what one pass leaves
 
-pub code_within : (u : TypedUnit) (vm : VmProgram) (temps : TempProgram) → AreLowered u.structs u.functions vm.functions → vm.globals ≡ u.globals → AreWithinWeight u.structs u.functions vm.functions → program_size vm.functions ≤ 2 ^ 24
-    → AreTempsOf vm temps → IsCodeWithin u vm temps
-code_within u vm temps functions globals weights size of = record { code = record { functions = functions; globals = globals }; weights = weights; size = size; over_temps = of }
+-- what was let go was not wanted
+pub not_wanted : {A : Type 0} (value : A) (kept : Option A) → IsKept Image value kept
+not_wanted value kept = λ e. let clash : ⊥ = cc in absurd clash
 
--- what was let go was there
-pub code_alone : (u : LawfulUnit) (vm : VmProgram) (p : CodeParts) → IsCodeWithin u.unit vm p.temps → AreCodePartsOf u Image p
-code_alone u vm p code = record {
-  vm = vm;
-  code = code;
-  unit = λ e. let clash : ⊥ = cc in absurd clash;
-  kept = λ e. let clash : ⊥ = cc in absurd clash;
+pub lowered_unit : (u : TypedUnit) (vm : VmProgram) → unit_weight u ≤ 131072 → AreLowered u.structs u.functions vm.functions → vm.globals ≡ u.globals → AreWithinWeight u.structs u.functions vm.functions → program_size vm.functions ≤ 2 ^ 24
+    → IsLoweredUnit u vm
+lowered_unit u vm light functions globals weights size = record {
+  code = record { functions = functions; globals = globals };
+  weights = weights;
+  size = size;
+  registers = unit_registers u vm.functions functions weights light;
 }
 
 -- ---- the assembly
 
-plain_has_allocations : (temps : TempProgram) (asm : Assembly) → IsPlainAssemblyOf temps asm → HasAllocations temps Plain asm
-plain_has_allocations temps asm h = record {
-  allocations = h.allocations;
-  are = are_allocations temps.functions h.allocations h.are;
-  by = h.are;
-  assembly = record { finals = h.finals; laid_out = h.laid_out; is_gathered = h.is_gathered; whole = h.whole };
-}
-
-pub in_turn : {E : Type 0} (temps : TempProgram) (allocator : Allocator) (r : Result Assembly E) → IfOk r (IsPlainAssemblyOf temps) → IfOk r (HasAllocations temps allocator)
-in_turn temps Plain (Ok asm) h = plain_has_allocations temps asm h
-in_turn temps Plain (Err e) h = tt
+pub chosen : {E : Type 0} (allocator : Allocator) (temps : TempProgram) (wanted : WantedParts) (r : Result AssemblyParts E) → IfOk r (AreAssemblyPartsOf IsPlainAllocationOf temps wanted) → IfOk r (AreAssemblyPartsOf (gives allocator) temps wanted)
+chosen Plain temps wanted r h = h
 
 -- a vector of allocations
 abbrev vec_of : Global → (allocations : List Allocation) → length allocations < 2 ^ 31 → Vec Allocation
 vec_of heap allocations few = record { ptr = null_ptr; len = length allocations; cap = length allocations; alloc = heap; items = allocations; ok = (refl, omega arith); small = omega (arith, few) }
 
 -- what was let go was there
-pub alone : Global → (temps : TempProgram) (allocator : Allocator) (p : AssemblyParts) → ProgramCanBeAssembled temps → HasAllocations temps allocator p.asm → AreAssemblyPartsOf temps allocator Image p
-alone heap temps allocator p can h = record {
-  allocations = vec_of heap h.allocations (can.laid_out h.allocations h.are).few;
-  are = h.are;
-  by = h.by;
-  assembly = h.assembly;
-  program = λ e. let clash : ⊥ = cc in absurd clash;
-  kept = λ e. let clash : ⊥ = cc in absurd clash;
-}
+pub alone : Global → (allocates : TempFn → Allocation → Type 0) → ((f : TempFn) (a : Allocation) → allocates f a → IsAllocationOf f a) → (temps : TempProgram) (p : AssemblyParts) → ProgramCanBeAssembled temps → IsAssemblyBy allocates temps p.asm
+    → AreAssemblyPartsOf allocates temps Image p
+alone heap allocates lawful temps p can h =
+    let are = are_allocations allocates lawful temps.functions h.allocations h.are in
+    record {
+      allocations = vec_of heap h.allocations (can.laid_out h.allocations are).few;
+      are = are;
+      by = h.are;
+      assembly = record { finals = h.finals; laid_out = h.laid_out; is_gathered = h.is_gathered; whole = h.whole };
+      program = not_wanted temps p.temps;
+      kept = λ e. let clash : ⊥ = cc in absurd clash;
+    }
 
 -- ---- all parts
 
@@ -96,13 +96,16 @@ whole text allocator p m = record { built = m.built; are = m.all refl }
 pub whole_made : (text : List ℕ) (allocator : Allocator) (p : Parts) (b : Built) → ArePartsOf text allocator Everything p → p ≡ parts_of_built b → Made text allocator b
 whole_made text allocator p b m is = subst (λ c. Made text allocator c) (same_built m.built b (sym (m.all refl) ∙ is)) m.made
 
-pub image_made : ImagesAreSame → (text : List ℕ) (allocator : Allocator) (wanted : WantedParts) (p : Parts) → ArePartsOf text allocator wanted p → IsImageOfText text allocator p.image
-image_made same text allocator wanted p m = record {
-  built = m.built;
-  made = m.made;
-  same = same text allocator m.built m.made;
-  is_its_image = m.image;
-}
+pub image_made : (text : List ℕ) (allocator : Allocator) (wanted : WantedParts) (p : Parts) → ArePartsOf text allocator wanted p → IsImageOfText text allocator p.image
+image_made text allocator wanted p m = record { built = m.built; made = m.made; is_its_image = m.image }
+
+pub image_correct : ImagesAreCorrect → (text : List ℕ) (allocator : Allocator) (wanted : WantedParts) (p : Parts) → ArePartsOf text allocator wanted p → IsCorrectImage text p.image
+image_correct correct text allocator wanted p m =
+    subst (IsCorrectImage text) (sym m.image)
+    (correct text allocator m.built m.made (subst (λ (i : Program). length i.words ≤ 2048 * unit_weight m.built.typed.unit) m.image m.short))
+
+pub whole_correct : ImagesAreCorrect → (text : List ℕ) (allocator : Allocator) (p : Parts) (b : Built) → ArePartsOf text allocator Everything p → p ≡ parts_of_built b → IsCorrectImage text b.image
+whole_correct correct text allocator p b m is = subst (IsCorrectImage text) (ap (λ (q : Parts). q.image) is) (image_correct correct text allocator Everything p m)
 
 -- ---- what was made of a unit
 
@@ -110,8 +113,11 @@ image_made same text allocator wanted p m = record {
 pub all_kept : (b : Built) (p : Parts) → p.unit ≡ Some b.unit → p.typed ≡ Some b.typed → p.vm ≡ Some b.vm → p.temps ≡ Some b.temps → p.allocations ≡ Some b.allocations → p.asm ≡ Some b.asm → p.image ≡ b.image → p ≡ parts_of_built b
 all_kept b p unit typed vm temps allocations asm image = λ i. record { unit = unit i; typed = typed i; vm = vm i; temps = temps i; allocations = allocations i; asm = asm i; image = image i }
 
+pub code_within : (u : TypedUnit) (vm : VmProgram) (selected temps : TempProgram) → IsLoweredUnit u vm → IsSelectedProgram vm selected → ArePassed selected temps → IsCodeWithin u vm temps
+code_within u vm selected temps lowered selection passed = record { lowered = lowered; selected = selected; selection = selection; passed = passed }
+
 module _ (made : AssembliesAreMade) (allocator : Allocator) (wanted : WantedParts) (unit : TranslationUnit) (typed : LawfulUnit) (vm : VmProgram) (temps : TempProgram) (code : IsCodeWithin typed.unit vm temps) (q : AssemblyParts)
-    (of : AreAssemblyPartsOf temps allocator wanted q) where
+    (of : AreAssemblyPartsOf (gives allocator) temps wanted q) where
   assembly_of_unit : (text : List ℕ) → IsUnitWithin text unit typed.unit → IsAssemblyOfUnit typed.unit vm temps of.allocations.items q.asm
   assembly_of_unit text front = made text unit typed vm temps of.allocations.items q.asm front code of.are of.assembly
 
@@ -126,5 +132,6 @@ module _ (made : AssembliesAreMade) (allocator : Allocator) (wanted : WantedPart
     built = built_of p.image;
     made = made_of text allocator (built_of p.image) front code of.are of.by of.assembly (assembly_of_unit text front) words lawful;
     image = refl;
+    short = subst (λ n. n ≤ 2048 * unit_weight typed.unit) (sym (length-words q.asm p.image words)) ((assembly_of_unit text front).short words.far);
     all = kept;
   }

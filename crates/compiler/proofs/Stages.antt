@@ -1,52 +1,58 @@
 -- What one stage of the compiler gives to the next, by the laws of the layers below.
-use Rattle.std.proofs.Common.{◌≡◌, ℕ, ◌+◌, ◌^◌, ◌<◌, ◌≤◌, List, [], ◌∷◌, length, sum_by, sym, ap, ◌∙◌, subst, arith}
+use Rattle.std.proofs.Common.{◌≡◌, ℕ, ◌+◌, ◌*◌, ◌^◌, ◌<◌, ◌≤◌, List, [], ◌∷◌, length, sum_by, sym, ap, ◌∙◌, subst, arith}
 use Rattle.std.specs.Prelude.{All, IsTrue, Result, Ok, Err, IfOk}
+use Rattle.std.specs.List.{AllZip}
 use Rattle.std.proofs.lemmas.List.Elements.{All-nil, All-cons, All-head, All-tail}
 use Rattle.alpha_isa.specs.Program.{IsLawful}
 use Rattle.alpha_items.specs.Assembly.{Assembly, IsWhole}
 use Rattle.alpha_items.specs.Words.{Words}
 use Rattle.alpha_items.specs.Items.{is_name}
+use Rattle.alpha_items.specs.Layout.{text_words}
 use Rattle.alpha_items.specs.declared.final_fn.FinalFn.{FinalFn}
 use Rattle.alpha_asm.specs.declared.assemble.AsmFault.TheVariants.{CodeTooLong, NoMemory}
 use Rattle.alpha_asm.specs.Fault.{HasFewWords, IsAsmFault}
-use Rattle.data_object.specs.declared.DataObject.{DataObject}
-use Rattle.data_object.specs.declared.TheConstants.{MOST_DATA}
-use Rattle.data_object.specs.Globals.{AreLawful}
-use Rattle.data_object.specs.Layout.{data_end}
+use Rattle.mem_objects.specs.declared.DataObject.{DataObject}
+use Rattle.mem_objects.specs.declared.TheConstants.{MOST_DATA}
+use Rattle.mem_objects.specs.Globals.{AreLawful}
+use Rattle.mem_objects.specs.Layout.{data_end}
 use Rattle.c_typed_tree.specs.declared.units.TypedUnit.{TypedUnit}
+use Rattle.c_typed_tree.specs.Weight.{unit_weight}
 use Rattle.c_semantics.specs.Behaves.{rooms_of}
-use Rattle.suifvm_ir.specs.Functions.{AllInsns}
+use Rattle.pass_core.specs.Functions.{AllInsns}
 use Rattle.suifvm_ir.specs.declared.program.VmProgram.{VmProgram}
+use Rattle.suifvm_ir.specs.Programs.{VmFunction}
+use Rattle.alpha_select.specs.Selection.{AreSelected}
 use Rattle.lowering_theorem.specs.Laws.{ProgramsKeepMeaning}
 use Rattle.temp_ir.specs.declared.program.TempProgram.{TempProgram}
 use Rattle.temp_ir.specs.Programs.{TempFn}
 use Rattle.alloc_model.specs.declared.allocation.Allocation.{Allocation}
-use Rattle.program_rooms.specs.Ranges.{HasSmallNumbers}
-use Rattle.program_passes.specs.Prepared.{ArePrepared}
-use Rattle.prepared_laws.specs.Fit.{PreparedFunctionsFit, PreparedFunctionsHaveNames, ArePreparedOf}
-use Rattle.prepared_laws.specs.Kept.{PreparedSelectionsKeep}
-use Rattle.plain_programs.specs.Allocations.{AreAllocationsOf}
-use Rattle.program_rooms.specs.AllocationLaws.{HasFrame, AllocationsFit, LabelsAreFew, AllocationsAreNear}
-use Rattle.program_rooms.specs.Laws.{FunctionsHaveFrames, FramesFitTheirRooms}
-use Rattle.program_rooms.specs.WordLaws.{UnitTextsFitImages}
-use Rattle.program_rooms.specs.Words.{OnlyMemoryIsShort}
-use Rattle.program_rooms.specs.Assemblies.{whole_assembly}
-use Rattle.program_rooms.specs.Layouts.{FunctionsAreLaidOut}
-use Rattle.program_rooms.specs.Programs.{HasItemsOf, plans_of}
-use Rattle.program_rooms.specs.AssemblyLaws.{AssembliesAreWhole, AssembliesHavePrograms, ProgramsAreAllocated, placement_of}
-use Rattle.compile_options.specs.declared.Allocator.{Allocator}
-use Rattle.front_end.specs.Units.{IsUnitWithin}
+use Rattle.image_assembly.specs.Ranges.{HasSmallNumbers}
+use Rattle.block_passes.specs.Keeps.{KeepsFunction}
+use Rattle.block_preparation_laws.specs.Fit.{TempFunctionsFit, TempFunctionsHaveNames, AreTempFunctionsOf}
+use Rattle.block_preparation_laws.specs.Kept.{PassesKeepSelections}
+use Rattle.alloc_rules.specs.Allocations.{AreAllocationsOf}
+use Rattle.image_assembly_laws.specs.allocation_laws.Laws.{HasFrame, AllocationsFit, LabelsAreFew, AllocationsAreNear}
+use Rattle.image_code_bounds.specs.program_rooms.Laws.{FunctionsHaveFrames, FramesFitTheirRooms}
+use Rattle.image_code_bounds.specs.unit_words.Laws.{UnitTextsAreWithinWeight, UnitTextsFitImages}
+use Rattle.image_code_bounds.specs.program_words.Words.{OnlyMemoryIsShort}
+use Rattle.image_assembly.specs.Assemblies.{whole_assembly}
+use Rattle.image_assembly.specs.Layouts.{FunctionsAreLaidOut}
+use Rattle.image_assembly.specs.Programs.{HasItemsOf, plans_of}
+use Rattle.image_assembly_laws.specs.Laws.{AssembliesAreWhole, AssembliesHavePrograms, ProgramsAreAllocated, placement_of}
+use Rattle.call_words.specs.declared.compile_options.Allocator.{Allocator}
+use Rattle.compiler_front_end.specs.Units.{IsUnitWithin}
 use Rattle.compiler.specs.declared.built.Built.{Built}
-use Rattle.compiler.specs.Made.{Made, IsTidy, AllocatesBy}
+use Rattle.compiler.specs.Made.{Made, IsCalledAs, AllocatesBy}
 use Rattle.compiler.specs.model.Stages.{IsCodeWithin, CanBeLaidOut, CodeCanBeAssembled, IsAssemblyOf, IsAssemblyOfUnit, AssembliesAreMade}
 
--- the functions of a program are prepared of those of its unit
-prepared_of : PreparedFunctionsFit → (u : TypedUnit) (vm : VmProgram) (temps : TempProgram) → IsCodeWithin u vm temps → ArePreparedOf u temps
-prepared_of fit u vm temps code = fit u vm code.over_temps.selected temps code.code.functions code.weights code.size code.over_temps.are_selected code.over_temps.costs code.over_temps.prepared
+-- the functions of a program are those of its unit
+functions_of : TempFunctionsFit → (u : TypedUnit) (vm : VmProgram) (temps : TempProgram) → IsCodeWithin u vm temps → AreTempFunctionsOf u temps
+functions_of fit u vm temps code =
+    fit u vm code.selected temps code.lowered.code.functions code.lowered.weights code.lowered.size code.selection.functions code.selection.costs code.passed.keeps code.passed.split
 
 -- they have the objects of the unit
 globals_of : (u : TypedUnit) (vm : VmProgram) (temps : TempProgram) → IsCodeWithin u vm temps → temps.globals ≡ u.globals
-globals_of u vm temps code = code.over_temps.globals ∙ code.code.globals
+globals_of u vm temps code = code.passed.keeps.globals ∙ code.selection.globals ∙ code.lowered.code.globals
 
 -- ---- what is asked of an assembly
 
@@ -75,10 +81,10 @@ can_be_laid_out fit few temps allocations frames names labels lawful data_size a
       data_size = data_size;
     }
 
-pub can_be_assembled : PreparedFunctionsFit → PreparedFunctionsHaveNames → FunctionsHaveFrames → AllocationsFit → LabelsAreFew → CodeCanBeAssembled
-can_be_assembled prepared_fit have_names have_frames fit few text tree u vm temps front code =
-    let frames = have_frames u.unit temps (prepared_of prepared_fit u.unit vm temps code) front.light front.small in
-    let names = (have_names u.unit vm code.over_temps.selected temps code.code.functions code.over_temps.are_selected code.over_temps.prepared).names u.lawful.typed.functions in
+pub can_be_assembled : TempFunctionsFit → TempFunctionsHaveNames → FunctionsHaveFrames → AllocationsFit → LabelsAreFew → CodeCanBeAssembled
+can_be_assembled functions_fit have_names have_frames fit few text tree u vm temps front code =
+    let frames = have_frames u.unit temps (functions_of functions_fit u.unit vm temps code) front.light front.small in
+    let names = (have_names 1 u.unit vm code.selected temps code.lowered.code.functions code.selection.functions code.passed.keeps).names u.lawful.typed.functions in
     let globals = globals_of u.unit vm temps code in
     let lawful = subst AreLawful (sym globals) u.lawful.typed.globals in
     let small = front.small in
@@ -86,9 +92,9 @@ can_be_assembled prepared_fit have_names have_frames fit few text tree u vm temp
     record {
       frames = frames;
       names = names;
-      labels = code.over_temps.labels;
+      labels = code.passed.labels;
       data_size = data_size;
-      laid_out = λ allocations are. can_be_laid_out fit few temps allocations frames names code.over_temps.labels lawful data_size are;
+      laid_out = λ allocations are. can_be_laid_out fit few temps allocations frames names code.passed.labels lawful data_size are;
     }
 
 -- ---- that an assembly is whole
@@ -119,26 +125,31 @@ module _ (are_whole : AssembliesAreWhole) (temps : TempProgram) (allocations : L
 
 -- ---- the assembly of a unit
 
-are_tidy : (before after : List TempFn) → ArePrepared before after → All IsTidy after
-are_tidy [] [] h = All-nil IsTidy
-are_tidy [] (g ∷ gs) h = absurd h
-are_tidy (f ∷ fs) [] h = absurd h
-are_tidy (f ∷ fs) (g ∷ gs) h = All-cons IsTidy g gs (record { reached = h.0.reached; split = h.0.split }) (are_tidy fs gs h.1)
+-- selection and the passes keep names and parameters
+are_called : (vs : List VmFunction) (fs gs : List TempFn) → AreSelected vs fs → AllZip (KeepsFunction 1) fs gs → AllZip IsCalledAs vs gs
+are_called [] [] [] s p = tt
+are_called [] [] (g ∷ gs) s p = absurd p
+are_called [] (f ∷ fs) gs s p = absurd s
+are_called (v ∷ vs) [] gs s p = absurd s
+are_called (v ∷ vs) (f ∷ fs) [] s p = absurd p
+are_called (v ∷ vs) (f ∷ fs) (g ∷ gs) s p = (record { name = p.0.name ∙ s.0.name; params = p.0.params ∙ s.0.params }, are_called vs fs gs s.1 p.1)
 
-pub assemblies_are_made : ProgramsKeepMeaning → PreparedSelectionsKeep → PreparedFunctionsFit → FunctionsHaveFrames → FramesFitTheirRooms → AllocationsFit → AllocationsAreNear → AssembliesHavePrograms → ProgramsAreAllocated
-    → UnitTextsFitImages → AssembliesAreMade
-assemblies_are_made keep selections prepared_fit have_frames fit_rooms fit near have_programs are_allocated fit_images text tree u vm temps allocations asm front code are made =
-    let prepared = prepared_of prepared_fit u.unit vm temps code in
-    let fits = fit temps allocations are (have_frames u.unit temps prepared front.light front.small) in
+pub assemblies_are_made : ProgramsKeepMeaning → PassesKeepSelections → TempFunctionsFit → FunctionsHaveFrames → FramesFitTheirRooms → AllocationsFit → AllocationsAreNear → AssembliesHavePrograms → ProgramsAreAllocated
+    → UnitTextsAreWithinWeight → UnitTextsFitImages → AssembliesAreMade
+assemblies_are_made keep selections functions_fit have_frames fit_rooms fit near have_programs are_allocated within fit_images text tree u vm temps allocations asm front code are made =
+    let functions = functions_of functions_fit u.unit vm temps code in
+    let fits = fit temps allocations are (have_frames u.unit temps functions front.light front.small) in
     record {
-      runs = keep u.unit vm u.lawful.typed code.code;
-      selection = selections vm code.over_temps.selected temps code.over_temps.are_selected code.over_temps.prepared code.over_temps.same_globals code.over_temps.keeps;
-      tidy = are_tidy code.over_temps.selected.functions temps.functions code.over_temps.prepared;
-      allocated = are_allocated temps allocations (rooms_of u.unit) fits.code fits.fit prepared.split (fit_rooms u.unit temps allocations prepared are);
+      runs = keep u.unit vm u.lawful.typed code.lowered.code;
+      selection = selections 1 vm code.selected temps code.selection.functions code.passed.keeps code.selection.keeps;
+      called = are_called vm.functions code.selected.functions temps.functions code.selection.functions code.passed.keeps.functions;
+      allocated = are_allocated temps allocations (rooms_of u.unit) fits.code fits.fit functions.split (fit_rooms u.unit temps allocations functions are);
       placing = placement_of temps.globals allocations made.finals;
       items = subst (λ x. HasItemsOf x temps (plans_of allocations) (placement_of temps.globals allocations made.finals)) (sym made.is_gathered)
-          (have_programs temps allocations made.finals fits.names (near temps allocations are prepared.near) made.laid_out);
-      few_words = subst HasFewWords (sym made.is_gathered) (fit_images u.unit temps allocations made.finals front.light prepared are made.laid_out);
+          (have_programs temps allocations made.finals fits.names (near temps allocations are functions.near) made.laid_out);
+      few_words = subst HasFewWords (sym made.is_gathered) (fit_images u.unit temps allocations made.finals front.light functions are made.laid_out);
+      short = λ far. subst (λ (x : Assembly). text_words x.items far ≤ 2048 * unit_weight u.unit) (sym made.is_gathered)
+          (within u.unit temps allocations made.finals functions are made.laid_out far);
     }
 
 -- ---- the image
@@ -149,10 +160,12 @@ pub made_of : (text : List ℕ) (allocator : Allocator) (b : Built) → IsUnitWi
     → Made text allocator b
 made_of text allocator b front code are by assembly made words lawful = record {
   front = front;
-  code = code.code;
+  code = code.lowered.code;
   code_runs = made.runs;
   selection = made.selection;
-  tidy = made.tidy;
+  called = made.called;
+  reached = code.passed.reached;
+  split = code.passed.split;
   allocations = are;
   by = by;
   allocated = made.allocated;

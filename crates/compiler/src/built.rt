@@ -1,13 +1,13 @@
 //! What is made of a text, and how much of it is kept.
 
-ghost use Rattle.std.specs.Prelude.{◌≡◌, Some};
-ghost use Rattle.compiler.specs.model.Parts.{PartsAreWhole, parts_of_built};
+ghost use Rattle.std.specs.Prelude.{◌≡◌};
+ghost use Rattle.compiler.specs.model.Parts.{IsKept, PartsAreWhole, parts_of_built};
 
 use alloc_model::allocation::Allocation;
 use alpha_isa::image::Image;
 use alpha_items::asm::Asm;
-use c_lawful_unit::LawfulUnit;
 use c_tree::TranslationUnit;
+use c_typed_tree::c_lawful_unit::LawfulUnit;
 use suifvm_ir::program::VmProgram;
 use temp_ir::program::TempProgram;
 
@@ -42,7 +42,7 @@ pub(crate) enum WantedParts {
 impl WantedParts {
     /// What no pass reads any more is kept where everything is wanted, and else let go.
     pub(crate) fn keep<T: Drop>(self, value: T) -> Option<T>
-        ensures { self ≡ WantedParts.Everything → result ≡ Some value }
+        ensures { IsKept self value result }
     {
         match self {
             WantedParts::Everything => Some(value),
@@ -51,12 +51,11 @@ impl WantedParts {
     }
 }
 
-/// The code of a unit over temporaries, with the unit and its code over virtual registers, as far as they were kept.
+/// What a pass made, with what it was given, as far as that was kept.
 #[derive(Drop)]
-pub(crate) struct CodeParts {
-    pub(crate) typed: Option<LawfulUnit>,
-    pub(crate) vm: Option<VmProgram>,
-    pub(crate) temps: TempProgram,
+pub(crate) struct PassParts<A, B> {
+    pub(crate) given: Option<A>,
+    pub(crate) made: B,
 }
 
 /// The assembly of a program, with the program and the allocations of its functions, as far as they were kept.

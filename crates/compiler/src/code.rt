@@ -1,82 +1,74 @@
-//! The code of a unit: over virtual registers, and over temporaries.
+//! The passes from a unit to its code over temporaries, each of which keeps what it is given where that is wanted.
 
 ghost use Rattle.std.specs.Prelude.{◌^◌, ◌≤◌, All, IfOk};
 ghost use Rattle.c_typed_tree.specs.Weight.{unit_weight};
 ghost use Rattle.suifvm_ir.specs.Programs.{VmFunction, program_size};
-ghost use Rattle.compiler.specs.model.Parts.{AreCodePartsOf};
-ghost use Rattle.compiler.specs.model.Stages.{AreTempsOf};
+ghost use Rattle.compiler.specs.model.Parts.{IsKept};
+ghost use Rattle.compiler.specs.model.Stages.{IsLoweredUnit, IsSelectedProgram};
 
-use crate::built::{CodeParts, WantedParts};
+use crate::built::{PassParts, WantedParts};
 use alpha_select::{select, select_in_turn};
-use c_lawful_unit::LawfulUnit;
+use c_typed_tree::c_lawful_unit::LawfulUnit;
 use lowering::{lower, lower_in_turn};
-use program_passes::prepare;
 use std::alloc::{AllocError, Global};
 use suifvm_ir::program::VmProgram;
 use temp_ir::program::TempProgram;
 
-/// The code of a unit over temporaries. Where the image alone is wanted, each function of the unit is let go as soon as
-/// it is lowered, and its code over virtual registers as soon as instructions are selected for it.
-pub(crate) fn code_parts(
+/// The code of a unit over virtual registers. Where the image alone is wanted, each function of the unit is let go as
+/// soon as it is lowered.
+pub(crate) fn lower_unit(
     alloc: Global,
     typed: LawfulUnit,
     wanted: WantedParts,
-) -> Result<CodeParts, AllocError>
+) -> Result<PassParts<LawfulUnit, VmProgram>, AllocError>
     requires { unit_weight typed.unit ≤ 131072 }
-    ensures { IfOk result (AreCodePartsOf typed wanted) }
+    ensures kept { IfOk result (λ p. IsKept wanted typed p.given) }
+    ensures made { IfOk result (λ p. IsLoweredUnit typed.unit p.made) }
 {
     match wanted {
-        WantedParts::Everything => all_code(alloc, typed),
-        WantedParts::Image => code_alone(alloc, typed),
+        WantedParts::Everything => {
+            let vm = lower(alloc, &typed)?;
+            Ok(PassParts {
+                given: Some(typed),
+                made: vm,
+            })
+        }
+        WantedParts::Image => {
+            let vm = lower_in_turn(alloc, typed)?;
+            Ok(PassParts {
+                given: None,
+                made: vm,
+            })
+        }
     }
 }
 
-/// The code of a unit over temporaries, the unit, and its code over virtual registers.
-fn all_code(alloc: Global, typed: LawfulUnit) -> Result<CodeParts, AllocError>
-    requires { unit_weight typed.unit ≤ 131072 }
-    ensures { IfOk result (AreCodePartsOf typed WantedParts.Everything) }
-{
-    let vm = lower(alloc, &typed)?;
-    let temps = temps_of(alloc, &vm)?;
-    Ok(CodeParts {
-        typed: Some(typed),
-        vm: Some(vm),
-        temps,
-    })
-}
-
-/// The code of a unit over temporaries alone.
-fn code_alone(alloc: Global, typed: LawfulUnit) -> Result<CodeParts, AllocError>
-    requires { unit_weight typed.unit ≤ 131072 }
-    ensures { IfOk result (AreCodePartsOf typed WantedParts.Image) }
-{
-    let vm = lower_in_turn(alloc, typed)?;
-    let temps = temps_in_turn(alloc, vm)?;
-    Ok(CodeParts {
-        typed: None,
-        vm: None,
-        temps,
-    })
-}
-
-/// Selects instructions, and prepares the functions for allocation.
-fn temps_of(alloc: Global, vm: &VmProgram) -> Result<TempProgram, AllocError>
-    requires size { program_size vm.now.functions ≤ 2 ^ 24 }
-    requires registers { All (λ (f : VmFunction). f.temps ≤ 2 ^ 24) vm.now.functions }
-    ensures { IfOk result (AreTempsOf vm.now) }
-{
-    let selected = select(alloc, vm)?;
-    let temps = prepare(alloc, selected)?;
-    Ok(temps)
-}
-
-/// The same, where the code over virtual registers is let go function by function.
-fn temps_in_turn(alloc: Global, vm: VmProgram) -> Result<TempProgram, AllocError>
+/// The code over temporaries that is selected for code over virtual registers. Where the image alone is wanted, each
+/// function is let go as soon as instructions are selected for it.
+pub(crate) fn select_code(
+    alloc: Global,
+    vm: VmProgram,
+    wanted: WantedParts,
+) -> Result<PassParts<VmProgram, TempProgram>, AllocError>
     requires size { program_size vm.functions ≤ 2 ^ 24 }
     requires registers { All (λ (f : VmFunction). f.temps ≤ 2 ^ 24) vm.functions }
-    ensures { IfOk result (AreTempsOf vm) }
+    ensures kept { IfOk result (λ p. IsKept wanted vm p.given) }
+    ensures made { IfOk result (λ p. IsSelectedProgram vm p.made) }
 {
-    let selected = select_in_turn(alloc, vm)?;
-    let prepared = prepare(alloc, selected)?;
-    Ok(prepared)
+    match wanted {
+        WantedParts::Everything => {
+            let selected = select(alloc, &vm)?;
+            Ok(PassParts {
+                given: Some(vm),
+                made: selected,
+            })
+        }
+        WantedParts::Image => {
+            let selected = select_in_turn(alloc, vm)?;
+            Ok(PassParts {
+                given: None,
+                made: selected,
+            })
+        }
+    }
 }

@@ -3,40 +3,32 @@
 ghost use Rattle.std.specs.Prelude.{◌≡◌, ℕ, ◌≤◌, List, length, IfOk, IfErr};
 ghost use Rattle.bk_memory.specs.Shortage.{MemoryIsShort};
 ghost use Rattle.c_lexer.specs.Limits.{text_limit};
-ghost use Rattle.c_semantics.specs.Behaves.{meaning};
 ghost use Rattle.alpha_isa.specs.Program as image;
-ghost use Rattle.alpha_isa.specs.Behave.{IsStack};
 ghost use Rattle.alpha_items.specs.Words.{Words};
 ghost use Rattle.alpha_asm.specs.Fault.{HasFewWords};
-ghost use Rattle.plain_programs.specs.Allocations.{AreAllocationsOf};
-ghost use Rattle.same_behaviour.specs.Same.{Same};
-ghost use Rattle.front_end.specs.declared.fault.CompileFault.TheVariants.{NoMemory};
-ghost use Rattle.front_end.specs.Units.{IsUnitWithin, HasNoUnit};
-ghost use Rattle.compiler.specs.Made.{Made, AllocatesBy};
+ghost use Rattle.compiler_theorem.specs.Correct.{IsCorrectImage};
+ghost use Rattle.compiler_front_end.specs.declared.fault.CompileFault.TheVariants.{NoMemory};
+ghost use Rattle.compiler_front_end.specs.Units.{IsUnitWithin, HasNoUnit};
+ghost use Rattle.compiler.specs.Made.{Made};
 ghost use Rattle.compiler.specs.Images.{IsImageOfText};
-ghost use Rattle.compiler.specs.model.Parts.{UnitHasText, HasAllocations, AreAssemblyPartsOf, ArePartsOf};
-ghost use Rattle.compiler.specs.model.Stages.{CanBeLaidOut, ProgramCanBeAssembled, IsAssemblyOf};
+ghost use Rattle.compiler.specs.model.Parts.{UnitHasText, ArePartsOf};
 
-use crate::built::{AssemblyParts, Built, CodeParts, Parts, WantedParts};
-use crate::code::code_parts;
-use crate::laws::{assemblies_are_made, code_can_be_assembled, images_are_same};
-use alloc_model::allocation::Allocation;
+use crate::assembly::assemble_by_choice;
+use crate::built::{AssemblyParts, Built, Parts, PassParts, WantedParts};
+use crate::code::{lower_unit, select_code};
+use crate::laws::{assemblies_are_made, code_can_be_assembled, images_are_correct};
 use alpha_asm::assemble::{AsmFault, assemble};
 use alpha_isa::image::Image;
 use alpha_items::asm::Asm;
-use compile_options::{Allocator, Options};
-use front_end::{CompileFault, FrontEnd, read_unit};
-use plain_layouts::assemble_plain;
-use plain_programs::allocate;
-use program_rooms::words::words;
-use program_rooms::words::words::allocations;
-use program_rooms::words::words::allocations::assemblies;
-use program_rooms::words::words::allocations::assemblies::assembly::{gather, lay_out};
-use std::alloc::{AllocError, Global};
-use temp_ir::program::TempProgram;
+use block_passes::clean_and_split;
+use call_words::compile_options::{Allocator, Options};
+use compiler_front_end::{CompileFault, FrontEnd, read_unit};
+use image_code_bounds::program_words::laws::light_texts_fit_images;
+use std::alloc::Global;
 
 /// The image of a C text of at most 4,194,304 bytes, with what was made on the way to it. On each stack, the image does
-/// what the text means on every input of bytes on which that is defined and has room on the stack.
+/// what the text means on every input of bytes on which that is defined and has room on the stack, and it ends in few
+/// steps by the turns that the text takes.
 ///
 /// # Errors
 ///
@@ -45,13 +37,13 @@ use temp_ir::program::TempProgram;
 /// [`CompileFault::NoMemory`], also for a tree that is too high. The text of an image is never too long.
 pub fn compile(alloc: Global, text: &[u8], options: &Options) -> Result<Built, CompileFault>
     requires { length text.now ≤ text_limit }
+    ensures correct { IfOk result (λ b. IsCorrectImage text.now b.image) }
     ensures made { IfOk result (Made text.now options.now.allocator) }
-    ensures same { IfOk result (λ b. (stack : ℕ) → IsStack stack → Same (meaning b.typed.unit) b.image stack) }
     ensures fault { IfErr result (HasNoUnit text.now) }
 {
     let front = read_unit(alloc, text)?;
     let parts = make(alloc, front, options.allocator, WantedParts::Everything)?;
-    images_are_same();
+    images_are_correct();
     Ok(parts.into_built())
 }
 
@@ -63,13 +55,14 @@ pub fn compile(alloc: Global, text: &[u8], options: &Options) -> Result<Built, C
 /// Those of [`compile`], in the same order.
 pub fn compile_image(alloc: Global, text: Vec<u8>, options: &Options) -> Result<Image, CompileFault>
     requires { length text.items ≤ text_limit }
-    ensures image { IfOk result (IsImageOfText text.items options.now.allocator) }
+    ensures correct { IfOk result (IsCorrectImage text.items) }
+    ensures made { IfOk result (IsImageOfText text.items options.now.allocator) }
     ensures fault { IfErr result (HasNoUnit text.items) }
 {
     let front = read_unit(alloc, text.as_slice())?;
     drop(text);
     let parts = make(alloc, front, options.allocator, WantedParts::Image)?;
-    images_are_same();
+    images_are_correct();
     Ok(parts.image)
 }
 
@@ -87,13 +80,21 @@ fn make(
 {
     let FrontEnd { unit, typed } = front;
     let unit = wanted.keep(unit);
-    let CodeParts { typed, vm, temps } = code_parts(alloc, typed, wanted)?;
+    let PassParts {
+        given: typed,
+        made: vm,
+    } = lower_unit(alloc, typed, wanted)?;
+    let PassParts {
+        given: vm,
+        made: selected,
+    } = select_code(alloc, vm, wanted)?;
+    let cleaned = clean_and_split(alloc, selected)?;
     code_can_be_assembled();
     let AssemblyParts {
         temps,
         allocations,
         asm,
-    } = assembly_parts(alloc, temps, allocator, wanted)?;
+    } = assemble_by_choice(alloc, cleaned, allocator, wanted)?;
     assemblies_are_made();
     let image = image_of(alloc, &asm)?;
     let asm = wanted.keep(asm);
@@ -108,101 +109,6 @@ fn make(
     })
 }
 
-/// The assembly of a program, by allocations of its functions. Where the image alone is wanted, each function is let
-/// go with its allocation before the next one is allocated.
-fn assembly_parts(
-    alloc: Global,
-    temps: TempProgram,
-    allocator: Allocator,
-    wanted: WantedParts,
-) -> Result<AssemblyParts, AllocError>
-    requires { ProgramCanBeAssembled temps }
-    ensures { IfOk result (AreAssemblyPartsOf temps allocator wanted) }
-{
-    match wanted {
-        WantedParts::Everything => all_parts(alloc, temps, allocator),
-        WantedParts::Image => asm_alone(alloc, temps, allocator),
-    }
-}
-
-/// The assembly of a program, the program, and the allocations of its functions.
-fn all_parts(
-    alloc: Global,
-    temps: TempProgram,
-    allocator: Allocator,
-) -> Result<AssemblyParts, AllocError>
-    requires { ProgramCanBeAssembled temps }
-    ensures { IfOk result (AreAssemblyPartsOf temps allocator WantedParts.Everything) }
-{
-    let allocations = allocations_of(alloc, allocator, &temps)?;
-    let asm = assembly_of(alloc, &temps, allocations.as_slice())?;
-    Ok(AssemblyParts {
-        temps: Some(temps),
-        allocations: Some(allocations),
-        asm,
-    })
-}
-
-/// The assembly of a program alone.
-fn asm_alone(
-    alloc: Global,
-    temps: TempProgram,
-    allocator: Allocator,
-) -> Result<AssemblyParts, AllocError>
-    requires { ProgramCanBeAssembled temps }
-    ensures { IfOk result (AreAssemblyPartsOf temps allocator WantedParts.Image) }
-{
-    let asm = assembly_in_turn(alloc, temps, allocator)?;
-    Ok(AssemblyParts {
-        temps: None,
-        allocations: None,
-        asm,
-    })
-}
-
-/// The assembly of a program, one function after the other, each of which is let go with its allocation.
-fn assembly_in_turn(
-    alloc: Global,
-    temps: TempProgram,
-    allocator: Allocator,
-) -> Result<Asm, AllocError>
-    requires { ProgramCanBeAssembled temps }
-    ensures { IfOk result (HasAllocations temps allocator) }
-{
-    match allocator {
-        Allocator::Plain => assemble_plain(alloc, temps),
-    }
-}
-
-/// An allocation for each function.
-fn allocations_of(
-    alloc: Global,
-    allocator: Allocator,
-    temps: &TempProgram,
-) -> Result<Vec<Allocation>, AllocError>
-    ensures allocations { IfOk result (λ allocations. AreAllocationsOf temps.now.functions allocations.items) }
-    ensures allocator { IfOk result (λ allocations. AllocatesBy allocator temps.now.functions allocations.items) }
-{
-    match allocator {
-        Allocator::Plain => allocate(alloc, temps),
-    }
-}
-
-/// Lays the functions out in their frames, and gathers one assembly.
-fn assembly_of(
-    alloc: Global,
-    temps: &TempProgram,
-    allocations: &[Allocation],
-) -> Result<Asm, AllocError>
-    requires { CanBeLaidOut temps.now allocations.now }
-    ensures { IfOk result (λ asm. IsAssemblyOf temps.now allocations.now asm) }
-{
-    let finals = lay_out(alloc, allocations, temps.globals.as_slice())?;
-    allocations::laws::as_many_are_laid_out();
-    assemblies::laws::assemblies_are_whole();
-    gather(alloc, finals.as_slice(), temps.globals.as_slice())
-}
-
 /// The image of an assembly whose text is not too long.
 fn image_of(alloc: Global, asm: &Asm) -> Result<Image, CompileFault>
     requires { HasFewWords asm.now }
@@ -210,7 +116,7 @@ fn image_of(alloc: Global, asm: &Asm) -> Result<Image, CompileFault>
     ensures lawful { IfOk result (λ i. image.IsLawful i) }
     ensures fault { IfErr result (λ f. (f ≡ NoMemory) × MemoryIsShort) }
 {
-    words::laws::light_texts_fit_images();
+    light_texts_fit_images();
     match assemble(alloc, asm) {
         Ok(image) => Ok(image),
         Err(AsmFault::NoMemory) => Err(CompileFault::NoMemory),

@@ -1,42 +1,49 @@
 //! What follows of what the passes give, by the laws of the layers below: each the contract of a function that does
 //! nothing.
 
-ghost use Rattle.compiler.specs.model.Stages.{CodeCanBeAssembled, AssembliesAreMade, ImagesAreSame};
+ghost use Rattle.compiler.specs.model.Stages.{CodeCanBeAssembled, AssembliesAreMade, ImagesAreCorrect};
 
-use program_rooms::words;
-use program_rooms::words::words::allocations;
-use program_rooms::words::words::allocations::assemblies;
+use block_preparation_laws::laws::{
+    passes_keep_selections, temp_functions_fit, temp_functions_have_names,
+};
+use image_assembly_laws::allocation_laws::laws::{
+    allocations_are_near, allocations_fit, labels_are_few,
+};
+use image_assembly_laws::laws::{assemblies_have_programs, programs_are_allocated};
+use image_code_bounds::program_rooms::laws::{frames_fit_their_rooms, functions_have_frames};
+use image_code_bounds::unit_words::laws::unit_texts_fit_images;
 
 /// The code of a unit within the limits can be laid out and gathered, by any allocations of its functions.
 pub(crate) fn code_can_be_assembled()
     ensures { CodeCanBeAssembled }
 {
-    prepared_laws::laws::prepared_functions_fit();
-    prepared_laws::laws::prepared_functions_have_names();
-    program_rooms::laws::functions_have_frames();
-    allocations::laws::allocations_fit();
-    allocations::laws::labels_are_few();
+    temp_functions_fit();
+    temp_functions_have_names();
+    functions_have_frames();
+    allocations_fit();
+    labels_are_few();
 }
 
-/// The assembly of it is one of the unit, and its text is not too long.
+/// The assembly of it is one of the unit, and its text is not too long, by the weight of the unit too.
 pub(crate) fn assemblies_are_made()
     ensures { AssembliesAreMade }
 {
     lowering_theorem::laws::programs_keep_meaning();
-    prepared_laws::laws::prepared_selections_keep();
-    prepared_laws::laws::prepared_functions_fit();
-    program_rooms::laws::functions_have_frames();
-    program_rooms::laws::frames_fit_their_rooms();
-    allocations::laws::allocations_fit();
-    allocations::laws::allocations_are_near();
-    assemblies::laws::assemblies_have_programs();
-    assemblies::laws::programs_are_allocated();
-    words::laws::unit_texts_fit_images();
+    passes_keep_selections();
+    temp_functions_fit();
+    functions_have_frames();
+    frames_fit_their_rooms();
+    allocations_fit();
+    allocations_are_near();
+    assemblies_have_programs();
+    programs_are_allocated();
+    unit_texts_fit_images();
 }
 
-/// The image of it behaves as the unit does.
-pub(crate) fn images_are_same()
-    ensures { ImagesAreSame }
+/// The image of it is right for the text.
+pub(crate) fn images_are_correct()
+    ensures { ImagesAreCorrect }
 {
-    same_behaviour::laws::units_behave_alike();
+    compiler_theorem::same_behaviour::laws::units_behave_alike();
+    compiler_theorem::same_behaviour::laws::units_end_soon();
 }

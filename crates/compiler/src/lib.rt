@@ -4,11 +4,12 @@
 //! text means. `compile_image` makes the image alone, and keeps nothing else.
 #![tactic(auto)]
 
+mod assembly;
 mod built;
 mod code;
 pub mod compile;
 mod laws;
 
 pub use built::Built;
-pub use compile_options::{Allocator, Options};
-pub use front_end::CompileFault;
+pub use call_words::compile_options::{Allocator, Options};
+pub use compiler_front_end::CompileFault;

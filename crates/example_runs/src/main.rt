@@ -3,8 +3,8 @@
 #![tactic(auto)]
 
 use anyhow::Result;
-use example_endings::put_ending;
-use msc_calls::Msc;
+use row_example_endings::put_ending;
+use row_msc_calls::Msc;
 
 /// The examples, in the order in which they are run.
 const EXAMPLES: [&str; 7] = [

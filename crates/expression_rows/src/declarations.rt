@@ -2,14 +2,14 @@
 
 use crate::types::push_type;
 use anyhow::{Context, Result, bail, ensure};
-use c_checks::{NameMeaning, meaning_of};
-use c_declared_types::DeclaredType;
 use c_lexer::TEXT_LIMIT;
 use c_parser::parse;
 use c_tree::TranslationUnit;
-use c_type_faults::{Fault, Kind, least};
 use c_typed_tree::{CType, Callee};
-use c_units::{UnitState, judge};
+use c_typing_declared_types::DeclaredType;
+use c_typing_faults::{Fault, Kind, least};
+use c_typing_state::{NameMeaning, meaning_of};
+use c_typing_units::{UnitState, judge};
 use std::alloc::Global;
 
 /// A function type: that of its result, and the parameters in brackets.

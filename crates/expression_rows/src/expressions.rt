@@ -2,13 +2,13 @@
 
 use crate::types::push_type;
 use anyhow::{Context, Result, bail, ensure};
-use c_expressions::judge;
 use c_lexer::TEXT_LIMIT;
 use c_parser::parse;
 use c_tree::{Expr, External, FunctionEnd, Stmt, TranslationUnit};
-use c_type_faults::{Fault, least};
-use c_type_rules::{PlaceKind, TypedExpression};
-use c_units::{UnitState, judge as judge_unit};
+use c_typing_expressions::judge;
+use c_typing_faults::{Fault, least};
+use c_typing_rules::{LvalueKind, TypedExpression};
+use c_typing_units::{UnitState, judge as judge_unit};
 use std::alloc::Global;
 
 /// What stands between the declarations and the expression.
@@ -34,7 +34,7 @@ fn last_expression(externals: &[External]) -> Option<&Expr> {
 /// The type of an expression, and whether it is a place.
 fn push_expression(alloc: Global, text: &mut String, e: &TypedExpression) -> Result<()> {
     push_type(alloc, text, &e.ty)?;
-    if !matches!(e.place, PlaceKind::Nowhere) {
+    if !matches!(e.place, LvalueKind::Nowhere) {
         text.push_str(" place")?;
     }
     Ok(())

@@ -8,10 +8,10 @@ use Rattle.alpha_isa.specs.declared.insn.JumpOp.TheVariants.{Ret}
 use Rattle.temp_ir.specs.declared.insn.TempInsn.{TempInsn}
 use Rattle.alloc_model.specs.declared.allocation.Transfer.{Transfer}
 use Rattle.alloc_model.specs.Places.{Plan, transfers_at, registers_at}
-use Rattle.flat_frames.specs.Shapes.{FrameShape, frame_size, return_at, saved_at}
-use Rattle.frame_accesses.specs.Items.{near_size, frame_store, frame_load}
-use Rattle.frame_transfers.specs.Items.{transfer_items, items_of_transfers}
-use Rattle.call_parts.specs.Items.{lower_stack, raise_stack, save_if, save_registers, restore_if, restore_registers, entry_part, exit_part}
+use Rattle.frame_memory.specs.flat_frames.Shapes.{FrameShape, frame_size, return_at, saved_at}
+use Rattle.frame_steps.specs.frame_accesses.Items.{near_size, frame_store, frame_load}
+use Rattle.frame_steps.specs.frame_transfers.Items.{transfer_items, items_of_transfers}
+use Rattle.frame_steps.specs.call_parts.Items.{lower_stack, raise_stack, save_if, save_registers, restore_if, restore_registers, entry_part, exit_part}
 use Rattle.frame_emitter.specs.InstructionItems.{ItemSetting, function_label, insn_items}
 use Rattle.frame_emitter.specs.Items.{jump_transfers, top_transfers, end_transfers, point_items, insns_items, block_items, blocks_items, exit_items, function_items}
 

@@ -2,12 +2,12 @@
 use Rattle.std.proofs.Common.{◌≡◌, ℕ, ◌-◌, min, max, List, [], ◌∷◌, map, refl, ap, ◌∙◌, arith}
 use Rattle.std.specs.Prelude.{All}
 use Rattle.std.proofs.lemmas.List.Elements.{All-head, All-tail}
-use Rattle.suifvm_ir.specs.Functions.{AllInsns}
+use Rattle.pass_core.specs.Functions.{AllInsns}
 use Rattle.temp_ir.specs.declared.insn.TempInsn.{TempInsn}
 use Rattle.temp_ir.specs.declared.insn.TempInsn.TheVariants as i
 use Rattle.alloc_model.specs.Effect.{width_of, widest_in, widest_call}
 use Rattle.alloc_model.specs.Places.{Plan}
-use Rattle.flat_frames.specs.Shapes.{FrameShape}
+use Rattle.frame_memory.specs.flat_frames.Shapes.{FrameShape}
 use Rattle.frame_emitter.specs.Shapes.{plan_names, shape_of}
 use Rattle.frame_emitter.specs.Settings.{most_arguments, near_insn, near_blocks, with_blocks, near_plan}
 use Rattle.frame_bounds.specs.Near.{IsNear}

@@ -2,7 +2,7 @@
 use Rattle.std.proofs.Common.{◌≡◌, ℕ, zero, suc, ◌+◌, ◌*◌, ◌/◌, ◌%◌, ◌≤◌, List, [], ◌∷◌, refl, arith}
 use Rattle.alloc_model.specs.Effect.{widest_call}
 use Rattle.alloc_model.specs.Places.{Plan}
-use Rattle.flat_frames.specs.Shapes.{frame_size, bytes_before, frame_object_at, objects_size}
+use Rattle.frame_memory.specs.flat_frames.Shapes.{frame_size, bytes_before, frame_object_at, objects_size}
 use Rattle.frame_emitter.specs.Shapes.{shape_of}
 
 pub fits_room : (a : Plan) (weight bytes : ℕ) → a.temps ≤ 7 * weight + 16 → widest_call a.function.blocks ≤ weight →

@@ -1,6 +1,6 @@
 -- Argument places that are told from others.
 use Rattle.std.specs.Prelude.{◌≡◌, ◌≤◌}
-use Rattle.suifvm_ir.specs.Functions.{AllInsns}
+use Rattle.pass_core.specs.Functions.{AllInsns}
 use Rattle.temp_ir.specs.declared.insn.TempInsn.{TempInsn}
 use Rattle.temp_ir.specs.declared.insn.TempInsn.TheVariants as i
 use Rattle.alloc_model.specs.Places.{Plan}

@@ -2,7 +2,7 @@
 use Rattle.std.specs.Prelude.{◌≡◌, ℕ, ◌+◌, ◌*◌, ◌/◌, ◌%◌, ◌≤◌}
 use Rattle.alloc_model.specs.Effect.{widest_call}
 use Rattle.alloc_model.specs.Places.{Plan}
-use Rattle.flat_frames.specs.Shapes.{frame_size, frame_object_at, objects_size}
+use Rattle.frame_memory.specs.flat_frames.Shapes.{frame_size, frame_object_at, objects_size}
 use Rattle.frame_emitter.specs.Shapes.{shape_of}
 
 -- a room is 256 bytes, 64 for each unit of the weight of its function, and those of its memory locals, each up to a

@@ -3,10 +3,10 @@ use Rattle.std.proofs.Common.{◌≡◌, ℕ, suc, ◌+◌, ◌-◌, ◌<◌, �
 use Rattle.std.specs.Prelude.{◌&&◌, ◌==◌, nat_le, IsTrue, ◌↔◌, slice_get}
 use Rattle.std.proofs.lemmas.Bool.{le-leb, lt-leb, eq-eqb, ne_eqb, leb-true, eqb-true, and_parts, and_from}
 use Rattle.std.proofs.lemmas.List.{at_drop_more, at_drop_all}
-use Rattle.data_object.specs.declared.DataObject.{DataObject}
-use Rattle.data_object.specs.Layout.{place_after, ObjectsLieFrom, end_of, data_end}
-use Rattle.suifvm_ir.specs.declared.function.MemoryLocal.{MemoryLocal}
-use Rattle.flat_frames.specs.Shapes.{objects_size}
+use Rattle.mem_objects.specs.declared.DataObject.{DataObject}
+use Rattle.mem_objects.specs.Layout.{place_after, ObjectsLieFrom, end_of, data_end}
+use Rattle.pass_core.specs.declared.function.MemoryLocal.{MemoryLocal}
+use Rattle.frame_memory.specs.flat_frames.Shapes.{objects_size}
 use Rattle.frame_checks.specs.model.Storage.{lie_from, are_small_from}
 
 abbrev most : ℕ

@@ -1,14 +1,14 @@
 -- When a function with an allocation can be laid out, as far as that goes by numbers. That the allocation is faithful
 -- is no part of it.
 use Rattle.std.specs.Prelude.{ℕ, ◌+◌, ◌-◌, ◌^◌, ◌<◌, ◌≤◌, List, map, length}
-use Rattle.data_object.specs.declared.DataObject.{DataObject}
-use Rattle.data_object.specs.declared.TheConstants.{MOST_DATA}
-use Rattle.data_object.specs.Layout.{ObjectsLieFrom, data_end}
-use Rattle.suifvm_ir.specs.Functions.{AllInsns}
+use Rattle.mem_objects.specs.declared.DataObject.{DataObject}
+use Rattle.mem_objects.specs.declared.TheConstants.{MOST_DATA}
+use Rattle.mem_objects.specs.Layout.{ObjectsLieFrom, data_end}
+use Rattle.pass_core.specs.Functions.{AllInsns}
 use Rattle.alloc_model.specs.declared.allocation.Allocation.{Allocation}
 use Rattle.alloc_model.specs.Effect.{widest_call}
-use Rattle.flat_frames.specs.Shapes.{objects_size}
-use Rattle.instruction_items.specs.Items.{function_label}
+use Rattle.frame_memory.specs.flat_frames.Shapes.{objects_size}
+use Rattle.frame_steps.specs.instruction_items.Items.{function_label}
 use Rattle.frame_layout.specs.Names.{NamesObjects, CallsBelow}
 
 pub record CanBeLaidOut (a : Allocation) (globals : List DataObject) (number first_label : ℕ) : Type 0 where

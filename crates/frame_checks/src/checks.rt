@@ -2,10 +2,10 @@
 
 ghost use Rattle.std.specs.Prelude.{◌≡◌, ◌+◌, ◌-◌, ◌<◌, ◌≤◌, ◌^◌, ◌↔◌, length, map, IsTrue};
 ghost use Rattle.std.specs.Bool.{OnTrue};
-ghost use Rattle.data_object.specs.Layout.{ObjectsLieFrom, data_end};
-ghost use Rattle.suifvm_ir.specs.Functions.{AllInsns};
+ghost use Rattle.mem_objects.specs.Layout.{ObjectsLieFrom, data_end};
+ghost use Rattle.pass_core.specs.Functions.{AllInsns};
 ghost use Rattle.alloc_model.specs.Effect.{widest_call};
-ghost use Rattle.flat_frames.specs.Shapes.{objects_size};
+ghost use Rattle.frame_memory.specs.flat_frames.Shapes.{objects_size};
 ghost use Rattle.frame_layout.specs.Names.{NamesObjects, CallsBelow};
 ghost use Rattle.frame_checks.specs.Conditions.{CanBeLaidOut};
 ghost use Rattle.frame_checks.specs.model.Tests as tests;
@@ -14,7 +14,7 @@ ghost use Rattle.frame_checks.specs.model.Tests.{Numbers};
 use crate::insns::all_ask;
 use crate::objects::{are_small, lie_in_order};
 use alloc_model::allocation::Allocation;
-use data_object::{DataObject, MOST_DATA};
+use mem_objects::{DataObject, MOST_DATA};
 
 /// The most temporaries of a function.
 const MOST_TEMPORARIES: u32 = 1 << 24;

@@ -5,9 +5,9 @@ ghost use Rattle.std.specs.List.{list_all};
 ghost use Rattle.suifvm_ir.specs.Programs as programs;
 ghost use Rattle.frame_checks.specs.model.Asked.{is_asked};
 
-use data_object::DataObject;
-use suifvm_ir::block::Block;
-use suifvm_ir::function::MemoryLocal;
+use mem_objects::DataObject;
+use pass_core::block::Block;
+use pass_core::function::MemoryLocal;
 use suifvm_ir::insn::VmObject;
 use temp_ir::insn::TempInsn;
 

@@ -3,8 +3,8 @@
 ghost use Rattle.std.specs.Prelude.{◌≡◌};
 ghost use Rattle.frame_checks.specs.model.Storage as storage;
 
-use data_object::{DataObject, MOST_DATA, next_place};
-use suifvm_ir::function::MemoryLocal;
+use mem_objects::{DataObject, MOST_DATA, next_place};
+use pass_core::function::MemoryLocal;
 
 /// Whether memory locals, each up to a multiple of 8, have no more bytes than data may have.
 #[tactic(auto, using(crate::proofs::Storage::small_next, crate::proofs::Storage::small_large, crate::proofs::Storage::small_past, crate::proofs::Storage::small_end))]

@@ -3,9 +3,9 @@ use Rattle.std.proofs.Common.{◌≡◌, ℕ, zero, suc, ◌+◌, ◌-◌, ◌<�
 use Rattle.std.specs.Prelude.{get_or}
 use Rattle.alpha_items.specs.declared.item.AsmItem.{AsmItem}
 use Rattle.alloc_model.specs.declared.allocation.Transfer.{Transfer}
-use Rattle.flat_frames.specs.Shapes.{FrameShape}
-use Rattle.frame_transfers.specs.Items.{transfer_items, items_of_transfers}
-use Rattle.call_parts.specs.Items.{save_if, save_registers, restore_if, restore_registers}
+use Rattle.frame_memory.specs.flat_frames.Shapes.{FrameShape}
+use Rattle.frame_steps.specs.frame_transfers.Items.{transfer_items, items_of_transfers}
+use Rattle.frame_steps.specs.call_parts.Items.{save_if, save_registers, restore_if, restore_registers}
 
 transfer_at : (s : FrameShape) (xs : List Transfer) (k : ℕ) (x : Transfer) (rest : List AsmItem) → k < length xs → x ≡ get_or xs k x
     → transfer_items s x ++ items_of_transfers s (drop (suc k) xs) rest ≡ items_of_transfers s (drop k xs) rest

@@ -1,6 +1,6 @@
 -- The pieces of a frame lie within it, so their places are near.
 use Rattle.std.proofs.Common.{◌≡◌, ℕ, ◌+◌, ◌*◌, ◌^◌, ◌<◌, ◌≤◌, arith}
-use Rattle.flat_frames.specs.Shapes.{FrameShape, frame_size, slot_at}
+use Rattle.frame_memory.specs.flat_frames.Shapes.{FrameShape, frame_size, slot_at}
 
 pub slot_near : (s : FrameShape) (size t : ℕ) → size ≡ frame_size s → size ≤ 2 ^ 29 → t < s.temps → slot_at s t < 2147450880
 slot_near s size t is small lt = omega (arith, is, small, lt)

@@ -1,8 +1,8 @@
 -- What the layout of a function says of its items.
 use Rattle.alloc_model.specs.Places.{Plan, plan_of}
-use Rattle.flat_frames.specs.Shapes.{FrameShape}
-use Rattle.function_items.specs.InstructionItems.{ItemSetting}
-use Rattle.function_shapes.specs.Shapes.{shape_of}
+use Rattle.frame_memory.specs.flat_frames.Shapes.{FrameShape}
+use Rattle.frame_steps.specs.function_items.InstructionItems.{ItemSetting}
+use Rattle.frame_simulation.specs.function_shapes.Shapes.{shape_of}
 use Rattle.frame_emitter.specs.declared.layout.FrameLayout.{FrameLayout}
 use Rattle.frame_emitter.specs.Settings.{with_blocks, setting_of}
 

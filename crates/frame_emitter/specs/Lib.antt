@@ -1,6 +1,6 @@
 pub mod Settings
 pub mod Moves
 pub mod Layouts
-pub use Rattle.function_shapes.specs.Shapes
-pub use Rattle.function_items.specs.Items
-pub use Rattle.function_items.specs.InstructionItems
+pub use Rattle.frame_simulation.specs.function_shapes.Shapes
+pub use Rattle.frame_steps.specs.function_items.Items
+pub use Rattle.frame_steps.specs.function_items.InstructionItems

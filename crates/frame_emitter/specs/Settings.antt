@@ -1,14 +1,14 @@
 -- What the items of a function refer to, by its allocation, the objects of static storage, and the label of its first
 -- block.
 use Rattle.std.specs.Prelude.{ℕ, ◌+◌, ◌<◌, ◌≤◌, ◌^◌, min, List, map, length, slice_get, Option, Some, None}
-use Rattle.data_object.specs.declared.DataObject.{DataObject}
+use Rattle.mem_objects.specs.declared.DataObject.{DataObject}
 use Rattle.suifvm_ir.specs.declared.insn.VmObject.TheVariants.{Global, Local}
 use Rattle.temp_ir.specs.declared.insn.TempInsn.{TempInsn}
 use Rattle.temp_ir.specs.declared.insn.TempInsn.TheVariants as i
 use Rattle.alloc_model.specs.Places.{Plan}
-use Rattle.flat_frames.specs.Shapes.{frame_object_at}
-use Rattle.function_items.specs.InstructionItems.{ItemSetting, function_label}
-use Rattle.function_shapes.specs.Shapes.{shape_of}
+use Rattle.frame_memory.specs.flat_frames.Shapes.{frame_object_at}
+use Rattle.frame_steps.specs.function_items.InstructionItems.{ItemSetting, function_label}
+use Rattle.frame_simulation.specs.function_shapes.Shapes.{shape_of}
 
 -- ---- argument places
 

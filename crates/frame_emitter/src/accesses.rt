@@ -2,7 +2,7 @@
 
 ghost use Rattle.std.specs.Prelude.{◌≡◌, ◌<◌, ◌++◌, ◌*◌, pos, ◌-ℤ◌, OnOk};
 ghost use Rattle.alpha_items.specs.Words.{high_of};
-ghost use Rattle.frame_accesses.specs.Items.{frame_item, frame_load, frame_store, frame_address, register_move};
+ghost use Rattle.frame_steps.specs.frame_accesses.Items.{frame_item, frame_load, frame_store, frame_address, register_move};
 
 use crate::items::FrameItems;
 use alpha_isa::insn::{Fields, MemoryOp, Operand, OperateOp};

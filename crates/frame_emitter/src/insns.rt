@@ -8,8 +8,8 @@ ghost use Rattle.temp_ir.specs.Fixed.{register_number};
 ghost use Rattle.temp_ir.specs.declared.insn.TempInsn.TheVariants as insn;
 ghost use Rattle.temp_ir.specs.Insns.{source_reads, operand_reads};
 ghost use Rattle.alloc_model.specs.Effect.{right_index};
-ghost use Rattle.function_items.specs.InstructionItems as spec;
-ghost use Rattle.function_items.specs.InstructionItems.{insn_items, source_register};
+ghost use Rattle.frame_steps.specs.function_items.InstructionItems as spec;
+ghost use Rattle.frame_steps.specs.function_items.InstructionItems.{insn_items, source_register};
 ghost use Rattle.frame_emitter.specs.Settings.{IsFit};
 ghost use Rattle.frame_emitter.specs.Layouts.{setting_in};
 

@@ -2,13 +2,13 @@
 
 ghost use Rattle.std.specs.Prelude.{◌≡◌, ℕ, ◌+◌, ◌≤◌, ◌<◌, ◌^◌, false, get_or, length};
 ghost use Rattle.alloc_model.specs.Places.{plan_of};
-ghost use Rattle.flat_frames.specs.Shapes.{frame_object_at, frame_size};
-ghost use Rattle.function_shapes.specs.Shapes.{shape_of, plan_names};
+ghost use Rattle.frame_memory.specs.flat_frames.Shapes.{frame_object_at, frame_size};
+ghost use Rattle.frame_simulation.specs.function_shapes.Shapes.{shape_of, plan_names};
 ghost use Rattle.frame_emitter.specs.Settings.{with_blocks};
 
 use alloc_model::allocation::Allocation;
-use c_tree::Seq;
-use data_object::DataObject;
+use bk_containers::Seq;
+use mem_objects::DataObject;
 use temp_ir::insn::TempInsn;
 
 /// The frame of a function with an allocation, and its labels.

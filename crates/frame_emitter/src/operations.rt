@@ -6,7 +6,7 @@ ghost use Rattle.alpha_rt.specs.Items as routines;
 ghost use Rattle.temp_ir.specs.Operations.{address_op, load_op, store_op, branch_op, operate_op, extend_op};
 ghost use Rattle.temp_ir.specs.Fixed.{register_number};
 ghost use Rattle.alloc_model.specs.Effect.{routine_of};
-ghost use Rattle.function_items.specs.InstructionItems.{service_function};
+ghost use Rattle.frame_steps.specs.function_items.InstructionItems.{service_function};
 
 use alpha_isa::insn::{BranchOp as MachineBranch, MemoryOp, OperateOp};
 use temp_ir::insn::FixedRegister;

@@ -4,8 +4,8 @@ ghost use Rattle.std.specs.Prelude.{◌≡◌, ◌+◌, ◌*◌, ◌-◌, ◌<�
 ghost use Rattle.alpha_isa.specs.declared.insn.Fields.TheVariants as fields;
 ghost use Rattle.alpha_isa.specs.declared.insn.JumpOp.TheVariants as jump;
 ghost use Rattle.alpha_items.specs.declared.item.AsmItem.TheVariants as item;
-ghost use Rattle.call_parts.specs.Items.{high_below, lower_stack, raise_stack, save_if, save_registers, restore_if, restore_registers, entry_part, exit_part};
-ghost use Rattle.function_items.specs.Items.{exit_items};
+ghost use Rattle.frame_steps.specs.call_parts.Items.{high_below, lower_stack, raise_stack, save_if, save_registers, restore_if, restore_registers, entry_part, exit_part};
+ghost use Rattle.frame_steps.specs.function_items.Items.{exit_items};
 ghost use Rattle.frame_emitter.specs.Layouts.{setting_in, shape_in};
 
 use crate::accesses::{NEAR_SIZE, STACK, ZERO, frame_load, frame_store, high_part, low_part};

@@ -1,8 +1,8 @@
 //! The places that a layout gives.
 
 ghost use Rattle.std.specs.Prelude.{◌≡◌, ◌+◌, ◌≤◌, ◌<◌, ◌^◌};
-ghost use Rattle.flat_frames.specs.Shapes.{return_at, saved_at, slot_at, frame_object_at};
-ghost use Rattle.function_shapes.specs.Shapes.{plan_names};
+ghost use Rattle.frame_memory.specs.flat_frames.Shapes.{return_at, saved_at, slot_at, frame_object_at};
+ghost use Rattle.frame_simulation.specs.function_shapes.Shapes.{plan_names};
 ghost use Rattle.frame_emitter.specs.Layouts.{plan_in, setting_in, shape_in};
 
 use crate::layout::FrameLayout;

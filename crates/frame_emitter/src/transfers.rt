@@ -1,7 +1,7 @@
 //! The items of transfers.
 
 ghost use Rattle.std.specs.Prelude.{◌≡◌, ◌++◌, All, OnOk};
-ghost use Rattle.frame_transfers.specs.Items.{transfer_items, items_of_transfers};
+ghost use Rattle.frame_steps.specs.frame_transfers.Items.{transfer_items, items_of_transfers};
 ghost use Rattle.frame_emitter.specs.Layouts.{shape_in};
 ghost use Rattle.frame_emitter.specs.Moves.{IsMove};
 

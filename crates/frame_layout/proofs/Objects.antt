@@ -1,8 +1,8 @@
 -- One more object.
 use Rattle.std.proofs.Common.{◌≡◌, ℕ, zero, suc, ◌+◌, ◌<◌, ◌≤◌, ◌^◌, List, [], ◌∷◌, ◌++◌, length, get_or, map, take, refl, ap, sym, ◌∙◌, arith}
-use Rattle.data_object.specs.Layout.{place_after}
-use Rattle.suifvm_ir.specs.declared.function.MemoryLocal.{MemoryLocal}
-use Rattle.flat_frames.specs.Shapes.{bytes_before, objects_size}
+use Rattle.mem_objects.specs.Layout.{place_after}
+use Rattle.pass_core.specs.declared.function.MemoryLocal.{MemoryLocal}
+use Rattle.frame_memory.specs.flat_frames.Shapes.{bytes_before, objects_size}
 
 abbrev pub sizes_of : List MemoryLocal → List ℕ
 sizes_of objects = map (λ o. o.size) objects

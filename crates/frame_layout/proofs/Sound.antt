@@ -3,7 +3,7 @@ use Rattle.std.proofs.Common.{◌≡◌, ℕ, zero, suc, ◌<◌, ◌≤◌, tru
 use Rattle.std.specs.Prelude.{◌&&◌, not, slice_get, slice_index_or, All, if◌then◌else◌}
 use Rattle.std.proofs.lemmas.Bool.{cases_lt}
 use Rattle.std.proofs.lemmas.List.Elements.{All-tail}
-use Rattle.suifvm_ir.specs.Functions.{last_of}
+use Rattle.pass_core.specs.Functions.{last_of}
 use Rattle.temp_ir.specs.declared.insn.TempInsn.{TempInsn}
 use Rattle.temp_ir.specs.declared.insn.TempInsn.TheVariants as i
 use Rattle.alloc_model.specs.declared.allocation.Transfer.{Transfer}

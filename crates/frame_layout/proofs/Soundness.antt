@@ -6,12 +6,12 @@ use Rattle.std.proofs.lemmas.Bool.{cases_lt, leb-true}
 use Rattle.std.proofs.lemmas.List.Sums.{sum_by-cons}
 use Rattle.std.proofs.lemmas.Option.{slice_get-map, slice_get_within, get_or_from_slice_get}
 use Rattle.std.proofs.lemmas.List.Elements.{All-from_recursion, All-tail, All-contains}
-use Rattle.data_object.specs.declared.DataObject.{DataObject}
-use Rattle.data_object.specs.Layout.{end_of, data_end, ObjectsLieFrom}
-use Rattle.suifvm_ir.specs.declared.function.MemoryLocal.{MemoryLocal}
+use Rattle.mem_objects.specs.declared.DataObject.{DataObject}
+use Rattle.mem_objects.specs.Layout.{end_of, data_end, ObjectsLieFrom}
+use Rattle.pass_core.specs.declared.function.MemoryLocal.{MemoryLocal}
 use Rattle.suifvm_ir.specs.declared.insn.VmObject.{VmObject}
 use Rattle.suifvm_ir.specs.declared.insn.VmObject.TheVariants.{Global, Local}
-use Rattle.suifvm_ir.specs.Functions.{count_of, last_of, front_of, AllInsns, GoesToBlocks, EndsLate, IsStraight}
+use Rattle.pass_core.specs.Functions.{count_of, last_of, front_of, AllInsns, GoesToBlocks, EndsLate, IsStraight}
 use Rattle.suifvm_ir.specs.Programs.{global_reaches, local_reaches, place_reaches}
 use Rattle.temp_ir.specs.declared.insn.TempInsn.{TempInsn}
 use Rattle.temp_ir.specs.declared.insn.TempInsn.TheVariants as i
@@ -22,9 +22,9 @@ use Rattle.alloc_model.specs.declared.allocation.Transfer.TheVariants.{Store, Lo
 use Rattle.alloc_model.specs.Effect.{width_of, widest_in, widest_call}
 use Rattle.alloc_model.specs.Places.{Plan, plan_of}
 use Rattle.alloc_model.specs.Faithful.{given_registers, IsGivenRegister, IsGivenOrScratch, IsTransfer, HasLists}
-use Rattle.flat_frames.specs.Shapes.{frame_size, frame_object_at, objects_size}
-use Rattle.flat_frames.proofs.Shapes.{pieces_of}
-use Rattle.instruction_items.specs.Items.{ItemSetting}
+use Rattle.frame_memory.specs.flat_frames.Shapes.{frame_size, frame_object_at, objects_size}
+use Rattle.frame_memory.proofs.FlatFrames.Shapes.{pieces_of}
+use Rattle.frame_steps.specs.instruction_items.Items.{ItemSetting}
 use Rattle.frame_emitter.specs.Shapes.{shape_of}
 use Rattle.frame_emitter.specs.declared.layout.FrameLayout.{FrameLayout}
 use Rattle.frame_emitter.specs.Settings.{global_offset, near_insn, near_blocks, with_blocks, setting_of, IsFit}

@@ -1,11 +1,11 @@
 -- What is asked of the numbers in a function.
 use Rattle.std.specs.Prelude.{ℕ, ◌<◌, IsTrue, List}
-use Rattle.data_object.specs.declared.DataObject.{DataObject}
-use Rattle.suifvm_ir.specs.declared.function.MemoryLocal.{MemoryLocal}
+use Rattle.mem_objects.specs.declared.DataObject.{DataObject}
+use Rattle.pass_core.specs.declared.function.MemoryLocal.{MemoryLocal}
 use Rattle.suifvm_ir.specs.Programs.{place_reaches}
 use Rattle.temp_ir.specs.declared.insn.TempInsn.{TempInsn}
 use Rattle.temp_ir.specs.declared.insn.TempInsn.TheVariants.{ObjectAddress, Call}
-use Rattle.instruction_items.specs.Items.{function_label}
+use Rattle.frame_steps.specs.instruction_items.Items.{function_label}
 
 -- an object that is named is there, and the number added to its address is from 0 to its size
 abbrev pub NamesObjects : List DataObject → List MemoryLocal → TempInsn → Type 0

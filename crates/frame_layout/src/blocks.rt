@@ -2,7 +2,7 @@
 
 ghost use Rattle.std.specs.Prelude.{◌≡◌, ◌+◌, ◌<◌, ◌^◌, ◌∷◌, take, length, slice_get, Some, OnOk};
 ghost use Rattle.alpha_items.specs.declared.item.AsmItem.TheVariants as item;
-ghost use Rattle.suifvm_ir.specs.Functions.{count_of};
+ghost use Rattle.pass_core.specs.Functions.{count_of};
 ghost use Rattle.frame_emitter.specs.Items.{point_items, insns_items, block_items, blocks_items};
 ghost use Rattle.frame_emitter.specs.Layouts.{plan_in, setting_in};
 ghost use Rattle.frame_emitter.specs.Settings.{IsFit};

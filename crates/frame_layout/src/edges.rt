@@ -2,13 +2,13 @@
 
 ghost use Rattle.std.specs.Prelude.{◌≡◌, ◌≢◌, ℕ, ◌+◌, ◌<◌, ◌^◌, ◌==◌, [], get_or, length, map, slice_get, slice_index_or, None, Some, IfOk};
 ghost use Rattle.std.specs.List.{position_or_len};
-ghost use Rattle.suifvm_ir.specs.Functions.{last_of};
+ghost use Rattle.pass_core.specs.Functions.{last_of};
 ghost use Rattle.alloc_model.specs.Places.{code_in};
 ghost use Rattle.frame_emitter.specs.Items.{ends_with_branch};
 ghost use Rattle.frame_layout.specs.model.Edges.{next_after, next_in, top_key, end_key};
 
 use alloc_model::allocation::{EdgeCode, Transfer};
-use c_tree::Seq;
+use bk_containers::Seq;
 use std::alloc::{AllocError, Global};
 use temp_ir::insn::TempInsn;
 

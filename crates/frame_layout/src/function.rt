@@ -2,12 +2,12 @@
 
 ghost use Rattle.std.specs.Prelude.{◌≡◌, ◌+◌, ◌-◌, ◌<◌, ◌≤◌, ◌^◌, [], ◌∷◌, length, map, IfOk};
 ghost use Rattle.alpha_items.specs.declared.item.AsmItem.TheVariants as item;
-ghost use Rattle.data_object.specs.Layout.{ObjectsLieFrom, data_end};
-ghost use Rattle.suifvm_ir.specs.Functions.{AllInsns, count_of};
+ghost use Rattle.mem_objects.specs.Layout.{ObjectsLieFrom, data_end};
+ghost use Rattle.pass_core.specs.Functions.{AllInsns, count_of};
 ghost use Rattle.alloc_model.specs.Effect.{widest_call};
 ghost use Rattle.alloc_model.specs.Places.{plan_of};
 ghost use Rattle.alloc_model.specs.Faithful.{Faithful};
-ghost use Rattle.flat_frames.specs.Shapes.{frame_size, objects_size};
+ghost use Rattle.frame_memory.specs.flat_frames.Shapes.{frame_size, objects_size};
 ghost use Rattle.frame_emitter.specs.Items.{function_items};
 ghost use Rattle.frame_emitter.specs.Shapes.{shape_of};
 ghost use Rattle.frame_emitter.specs.Settings.{near_plan, near_blocks, setting_of, with_blocks};
@@ -23,11 +23,11 @@ use alloc_model::allocation::Allocation;
 use alpha_items::final_fn::FinalFn;
 use alpha_items::item::AsmItem;
 use alpha_items::name::FunctionName;
-use c_tree::Seq;
-use data_object::{DataObject, MOST_DATA};
+use bk_containers::Seq;
 use frame_emitter::items::FrameItems;
 use frame_emitter::layout::FrameLayout;
 use frame_emitter::parts::{entry_part, exit_items};
+use mem_objects::{DataObject, MOST_DATA};
 use std::alloc::{AllocError, Global};
 use temp_ir::insn::TempInsn;
 

@@ -8,7 +8,7 @@ ghost use Rattle.alloc_model.specs.Places.{plan_of};
 ghost use Rattle.frame_emitter.specs.Shapes.{names_in, plan_names};
 
 use alloc_model::allocation::{Allocation, EdgeCode, Transfer};
-use c_tree::Seq;
+use bk_containers::Seq;
 
 /// Whether a transfer names a register.
 fn is_in_transfer(transfer: &Transfer, register: u8) -> bool

@@ -3,9 +3,9 @@
 ghost use Rattle.std.specs.Prelude.{◌≡◌, ◌++◌, map, IfOk};
 ghost use Rattle.frame_emitter.specs.Settings.{near_insn, near_blocks};
 
-use c_tree::Seq;
+use bk_containers::Seq;
+use pass_core::block::Block;
 use std::alloc::{AllocError, Global};
-use suifvm_ir::block::Block;
 use temp_ir::insn::TempInsn;
 
 /// The greatest number of an argument place that is told from others: a greater one counts as

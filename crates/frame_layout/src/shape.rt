@@ -1,18 +1,18 @@
 //! The frame of a function: its argument places, its objects, and the registers that it saves.
 
 ghost use Rattle.std.specs.Prelude.{◌≡◌, ℕ, ◌+◌, ◌*◌, ◌-◌, ◌/◌, ◌≤◌, ◌<◌, ◌^◌, false, get_or, length, map, IfOk};
-ghost use Rattle.data_object.specs.Layout.{place_after};
+ghost use Rattle.mem_objects.specs.Layout.{place_after};
 ghost use Rattle.alloc_model.specs.Effect.{width_of, widest_in, widest_call};
 ghost use Rattle.alloc_model.specs.Places.{plan_of};
-ghost use Rattle.flat_frames.specs.Shapes.{bytes_before, objects_size};
+ghost use Rattle.frame_memory.specs.flat_frames.Shapes.{bytes_before, objects_size};
 ghost use Rattle.frame_emitter.specs.Shapes.{plan_names};
 
 use crate::names::is_named;
 use alloc_model::allocation::Allocation;
-use c_tree::Seq;
-use data_object::next_place;
+use bk_containers::Seq;
+use mem_objects::next_place;
+use pass_core::function::MemoryLocal;
 use std::alloc::{AllocError, Global};
-use suifvm_ir::function::MemoryLocal;
 use temp_ir::insn::TempInsn;
 
 /// The arguments of a call; of other instructions none.

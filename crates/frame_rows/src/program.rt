@@ -8,17 +8,17 @@ use alloc_model::allocation::Allocation;
 use alloc_plain::plain;
 use alpha_items::final_fn::FinalFn;
 use anyhow::{Context, Result, bail, ensure};
-use c_tree::{Name, Seq};
-use data_object::{DataObject, MOST_DATA, data_end, next_place};
+use bk_containers::{Name, Seq};
+use callee_saved_rows::{KeptRegister, kept_over_call};
 use frame_checks::can_be_laid_out;
 use frame_layout::finalise;
-use kept_allocations::{KeptRegister, kept_over_call};
+use mem_objects::{DataObject, MOST_DATA, data_end, next_place};
+use pass_core::function::Func;
 use row_sheets::number::{number, numbers};
+use row_temp_texts::reader::TempReader;
 use std::alloc::Global;
-use suifvm_ir::function::Func;
 use temp_checks::is_settled;
 use temp_ir::insn::TempInsn;
-use temp_texts::reader::TempReader;
 
 /// The label of the first block of the first function. The functions themselves have those from 256 on.
 const FIRST_LABEL: u32 = 300;

@@ -12,7 +12,7 @@ use alpha_run::machine::Machine;
 use alpha_text::read::read_asm;
 use anyhow::{Result, bail, ensure};
 use bk_io::memory::{MemSink, MemSource};
-use data_object::data_end;
+use mem_objects::data_end;
 use row_sheets::escape::unescape;
 use row_sheets::number::number;
 use std::alloc::Global;

@@ -24,9 +24,9 @@ use Rattle.lowering_expressions.specs.Levels.{register_levels, levels_above, lev
 use Rattle.lowering_statements.specs.Levels.{optional_levels, locals_levels, first_levels, stmt_levels, else_levels, stmts_levels, sections_levels}
 use Rattle.lowering_functions.specs.Parts.{locals_parts, first_parts, stmt_parts, else_parts, stmts_parts, sections_parts}
 use Rattle.lowering_functions.specs.Scopes.{LocalHasSize}
-use Rattle.c_layout_laws.specs.Laws.{is_alignment}
-use Rattle.c_layout_laws.proofs.Truth.{no_true, front, back, either}
-use Rattle.c_layout_laws.proofs.Layouts.{aligned_type}
+use Rattle.c_typing_struct_layout.specs.c_layout_laws.Laws.{is_alignment}
+use Rattle.c_typing_struct_layout.proofs.CLayoutLaws.Truth.{no_true, front, back, either}
+use Rattle.c_typing_struct_layout.proofs.CLayoutLaws.Layouts.{aligned_type}
 use Rattle.lowering_bounds.specs.model.Depths.{depths, depths_above, depths_of_each, optional_depths, locals_depths, first_depths, stmt_depths, else_depths, stmts_depths, sections_depths, stmt_locals}
 use Rattle.lowering_bounds.proofs.Typing.{one, two, three}
 use Rattle.lowering_bounds.proofs.Statements.{pair, triple, four, defaults, one_default}

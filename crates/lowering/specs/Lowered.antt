@@ -3,7 +3,7 @@ use Rattle.std.specs.Prelude.{◌≡◌, ◌≤◌, ◌+◌, ◌*◌, max, List,
 use Rattle.c_typed_tree.specs.declared.types.StructDef.{StructDef}
 use Rattle.c_typed_tree.specs.declared.units.TypedFn.{TypedFn}
 use Rattle.c_typed_tree.specs.Weight.{function_weight}
-use Rattle.suifvm_ir.specs.Functions.{AllInsns}
+use Rattle.pass_core.specs.Functions.{AllInsns}
 use Rattle.suifvm_ir.specs.Programs.{VmFunction}
 use Rattle.suifvm_ir.specs.Cost.{cost}
 use Rattle.lowering_code.specs.Functions.{objects_of, function_blocks}

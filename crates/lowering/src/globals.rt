@@ -2,8 +2,8 @@
 
 ghost use Rattle.std.specs.Prelude.{◌≡◌, IfOk};
 
-use c_tree::Seq;
-use data_object::{DataCell, DataObject};
+use bk_containers::Seq;
+use mem_objects::{DataCell, DataObject};
 use std::alloc::{AllocError, Global};
 
 fn copy_cells(alloc: Global, list: &Seq<DataCell>) -> Result<Seq<DataCell>, AllocError>

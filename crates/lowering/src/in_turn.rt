@@ -7,11 +7,11 @@ ghost use Rattle.lowering.specs.Lowered.{AreLowered, AreWithinWeight};
 ghost use Rattle.lowering.specs.model.Premises.{CanBeLowered};
 
 use crate::units::one;
-use c_lawful_unit::LawfulUnit;
-use c_tree::Seq;
+use bk_containers::Seq;
+use c_typed_tree::c_lawful_unit::LawfulUnit;
 use c_typed_tree::{StructDef, TypedFn, TypedUnit};
+use pass_core::function::Func;
 use std::alloc::{AllocError, Global};
-use suifvm_ir::function::Func;
 use suifvm_ir::insn::VmInsn;
 use suifvm_ir::program::VmProgram;
 

@@ -7,8 +7,8 @@ ghost use Rattle.c_typed_tree.specs.View.{type_view, stmt_view};
 ghost use Rattle.c_typed_tree.specs.Weight.{unit_weight};
 
 use crate::lower;
-use c_lawful_unit::LawfulUnit;
-use c_tree::{Name, Seq};
+use bk_containers::{Name, Seq};
+use c_typed_tree::c_lawful_unit::LawfulUnit;
 use c_typed_tree::{CType, TStmt, TypedFn, TypedUnit};
 use std::alloc::{AllocError, Global};
 use std::test::Fail;

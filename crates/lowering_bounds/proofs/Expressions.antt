@@ -25,7 +25,7 @@ use Rattle.c_typed_tree.specs.Typing.{is_same_type, is_scalar, is_fit, Context, 
 use Rattle.c_typed_tree.specs.Lawful.{IsLawfulStruct, is_lawful_local}
 use Rattle.c_typed_tree.specs.Weight.{expr_weight, exprs_weight, copy_weight, assign_weight, exprs_count}
 use Rattle.c_semantics.specs.Operators.{operator_of}
-use Rattle.suifvm_ir.specs.declared.function.MemoryLocal.{MemoryLocal}
+use Rattle.pass_core.specs.declared.function.MemoryLocal.{MemoryLocal}
 use Rattle.suifvm_ir.specs.declared.insn.VmBranchOp.{VmBranchOp}
 use Rattle.suifvm_ir.specs.declared.insn.VmBranchOp.TheVariants.{IfTrue, IfFalse}
 use Rattle.suifvm_ir.specs.declared.insn.VmUnaryOp.TheVariants.{Negate, Complement}
@@ -40,7 +40,7 @@ use Rattle.lowering_code.specs.Registers.{object_index}
 use Rattle.lowering_code.specs.Functions.{objects_of}
 use Rattle.lowering_code.specs.Expressions as code
 use Rattle.lowering_layout.specs.Tops.{registers_top}
-use Rattle.c_layout_laws.proofs.Truth.{no_true, front, back}
+use Rattle.c_typing_struct_layout.proofs.CLayoutLaws.Truth.{no_true, front, back}
 use Rattle.lowering_bounds.specs.model.Costs.{items_cost}
 use Rattle.lowering_bounds.specs.model.Fits.{Fits, IsNarrow}
 use Rattle.lowering_bounds.specs.Laws.{TakesArguments}

@@ -1,8 +1,8 @@
 -- Pieces of code in front of other code: their registers are few, they name what is there, and they cost no more than a
 -- number says.
 use Rattle.std.proofs.Common.{◌≡◌, ◌≤◌, ◌<◌, ℕ, zero, suc, ◌+◌, ◌*◌, ◌%◌, ◌==◌, Bool, true, false, if◌then◌else◌, IsTrue, List, ◌∷◌, Option, Some, None, length, refl, arith}
-use Rattle.c_arithmetic.specs.declared.integer_type.IntegerType.{IntegerType}
-use Rattle.c_arithmetic.specs.IntegerTypes.{is_signed}
+use Rattle.bk_arithmetic.specs.declared.integer_type.IntegerType.{IntegerType}
+use Rattle.bk_arithmetic.specs.IntegerTypes.{is_signed}
 use Rattle.c_tree.specs.declared.expressions.BinaryOp.{BinaryOp}
 use Rattle.c_tree.specs.declared.expressions.BinaryOp.TheVariants as b
 use Rattle.c_tree.specs.declared.expressions.StepOp.{StepOp}
@@ -22,8 +22,8 @@ use Rattle.suifvm_ir.specs.declared.insn.VmObject.{VmObject}
 use Rattle.suifvm_ir.specs.declared.insn.TypedRegister.{TypedRegister}
 use Rattle.suifvm_ir.specs.declared.insn.VmInsn as vm
 use Rattle.suifvm_ir.specs.declared.insn.VmInsn.TheVariants as n
-use Rattle.data_object.specs.declared.DataObject.{DataObject}
-use Rattle.suifvm_ir.specs.declared.function.MemoryLocal.{MemoryLocal}
+use Rattle.mem_objects.specs.declared.DataObject.{DataObject}
+use Rattle.pass_core.specs.declared.function.MemoryLocal.{MemoryLocal}
 use Rattle.suifvm_ir.specs.Insns.{returned_register}
 use Rattle.suifvm_ir.specs.Programs.{VmFunction, names_what_is_there, place_reaches, alignment_bytes}
 use Rattle.lowering_code.specs.declared.operation.RegisterOperation.{RegisterOperation}

@@ -4,7 +4,7 @@ use Rattle.std.specs.Prelude.{All, slice_get, sum_by}
 use Rattle.std.specs.List.{list_all}
 use Rattle.std.proofs.lemmas.Option.{slice_get_within}
 use Rattle.std.proofs.lemmas.List.Sums.{sum_by-cons}
-use Rattle.c_arithmetic.specs.declared.integer_type.IntegerType.{IntegerType}
+use Rattle.bk_arithmetic.specs.declared.integer_type.IntegerType.{IntegerType}
 use Rattle.c_typed_tree.specs.declared.statements.TLabel.{TLabel}
 use Rattle.c_typed_tree.specs.declared.statements.TLabel.TheVariants.{Case, Default}
 use Rattle.c_typed_tree.specs.declared.units.Local.{Local}
@@ -23,7 +23,7 @@ use Rattle.suifvm_ir.specs.declared.insn.VmBranchOp.TheVariants.{IfTrue, IfFalse
 use Rattle.suifvm_ir.specs.declared.insn.CompareOp.TheVariants.{Equal}
 use Rattle.suifvm_ir.specs.declared.insn.VmObject.TheVariants as p
 use Rattle.suifvm_ir.specs.declared.insn.VmInsn.TheVariants as n
-use Rattle.suifvm_ir.specs.declared.function.MemoryLocal.{MemoryLocal}
+use Rattle.pass_core.specs.declared.function.MemoryLocal.{MemoryLocal}
 use Rattle.suifvm_ir.specs.Programs.{VmFunction, place_reaches}
 use Rattle.lowering_code.specs.declared.item.CodeItem.{CodeItem}
 use Rattle.lowering_code.specs.declared.item.CodeItem.TheVariants.{Start, Jump, Loop, Enter, Again}
@@ -33,7 +33,7 @@ use Rattle.lowering_code.specs.Expressions as x
 use Rattle.lowering_code.specs.Statements as code
 use Rattle.lowering_code.specs.Statements.{Target}
 use Rattle.lowering_code.specs.Functions as f
-use Rattle.c_layout_laws.proofs.Truth.{no_true, front, back}
+use Rattle.c_typing_struct_layout.proofs.CLayoutLaws.Truth.{no_true, front, back}
 use Rattle.lowering_bounds.specs.Laws.{TakesArguments}
 use Rattle.lowering_bounds.specs.model.Depths.{depths, optional_depths, declared_depths, locals_depths, first_depths, stmt_depths, stmts_depths, sections_depths}
 use Rattle.lowering_bounds.proofs.Typing.{same, local_there, struct_whole, copy_paid}

@@ -8,8 +8,8 @@ use Rattle.std.proofs.lemmas.Option.{slice_get-map}
 use Rattle.std.proofs.lemmas.List.Sums.{sum_by-cons}
 use Rattle.std.proofs.lemmas.Grind.{div_ceil_times}
 use Rattle.std.proofs.lemmas.Nat.{mod-mul-add}
-use Rattle.data_object.specs.declared.TheConstants.{MOST_DATA}
-use Rattle.data_object.specs.declared.DataObject.{DataObject}
+use Rattle.mem_objects.specs.declared.TheConstants.{MOST_DATA}
+use Rattle.mem_objects.specs.declared.DataObject.{DataObject}
 use Rattle.c_typed_tree.specs.declared.types.StructDef.{StructDef}
 use Rattle.c_typed_tree.specs.declared.types.Member.{Member}
 use Rattle.c_typed_tree.specs.declared.units.Local as l
@@ -24,15 +24,15 @@ use Rattle.c_typed_tree.specs.Weight.{expr_weight, copy_weight, exprs_count}
 use Rattle.c_semantics.specs.Objects.{members_of, member_place}
 use Rattle.suifvm_ir.specs.declared.types.Alignment.{Alignment}
 use Rattle.suifvm_ir.specs.declared.types.Alignment.TheVariants.{One, Two, Four, Eight}
-use Rattle.suifvm_ir.specs.declared.function.MemoryLocal.{MemoryLocal}
+use Rattle.pass_core.specs.declared.function.MemoryLocal.{MemoryLocal}
 use Rattle.suifvm_ir.specs.declared.insn.VmObject.TheVariants as p
 use Rattle.suifvm_ir.specs.Programs.{place_reaches, global_reaches, local_reaches, alignment_bytes}
 use Rattle.lowering_code.specs.Registers.{object_index}
 use Rattle.lowering_code.specs.Functions.{object_for, objects_of}
 use Rattle.lowering_code.specs.Expressions as code
-use Rattle.c_layout_laws.specs.Laws.{is_alignment}
-use Rattle.c_layout_laws.proofs.Truth.{no_true, front, back, either, none_some, all_at}
-use Rattle.c_layout_laws.proofs.Layouts.{complete_at, struct_multiple, members_within, struct_aligned_at}
+use Rattle.c_typing_struct_layout.specs.c_layout_laws.Laws.{is_alignment}
+use Rattle.c_typing_struct_layout.proofs.CLayoutLaws.Truth.{no_true, front, back, either, none_some, all_at}
+use Rattle.c_typing_struct_layout.proofs.CLayoutLaws.Layouts.{complete_at, struct_multiple, members_within, struct_aligned_at}
 
 -- ---- truth values
 

@@ -14,7 +14,7 @@ use Rattle.c_typed_tree.specs.Typing.{is_same_type, is_void, is_array, is_scalar
 use Rattle.c_typed_tree.specs.TypingStatements.{Jumps, in_loop, in_switch, is_condition, is_optional_value, is_optional_condition, has_initialised_type, is_initialiser, is_declared, is_first, is_returned, are_labels, is_typed_stmt, is_typed_else, are_typed_stmts, are_typed_sections}
 use Rattle.c_typed_tree.specs.Lawful.{is_block}
 use Rattle.c_typed_tree.specs.Weight.{expr_weight, exprs_weight, optional_weight, init_weight, declared_weight, first_weight, stmt_weight, else_weight, stmts_weight, sections_weight, exprs_count}
-use Rattle.c_layout_laws.proofs.Truth.{no_true, back}
+use Rattle.c_typing_struct_layout.proofs.CLayoutLaws.Truth.{no_true, back}
 use Rattle.lowering_bounds.specs.model.Depths.{depths, depths_above, depths_of_each, optional_depths, declared_depths, locals_depths, first_depths, stmt_depths, else_depths, stmts_depths, sections_depths, first_locals, stmt_locals, else_locals, stmts_locals, sections_locals}
 use Rattle.lowering_bounds.proofs.Typing.{one, two, three, positive}
 use Rattle.lowering_bounds.proofs.Statements.{pair, triple, four}

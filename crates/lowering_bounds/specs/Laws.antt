@@ -8,7 +8,7 @@ use Rattle.c_typed_tree.specs.Lawful.{IsLawfulStruct, IsTypedFn, signature_of}
 use Rattle.suifvm_ir.specs.declared.insn.VmInsn.{VmInsn}
 use Rattle.suifvm_ir.specs.declared.insn.VmInsn.TheVariants.{Call}
 use Rattle.suifvm_ir.specs.Insns.{targets_of, flows_on_of}
-use Rattle.suifvm_ir.specs.Functions.{AllInsns, count_of, edge_count}
+use Rattle.pass_core.specs.Functions.{AllInsns, count_of, edge_count}
 use Rattle.suifvm_ir.specs.Programs.{VmFunction, names_what_is_there, function_takes, weight_of}
 use Rattle.suifvm_ir.specs.Cost.{insn_cost}
 use Rattle.lowering_code.specs.Functions.{objects_of, items_of, function_blocks}

@@ -2,8 +2,8 @@
 --
 -- A value comes into the register of its type at a depth, and what stands at lower depths stays.
 use Rattle.std.specs.Prelude.{ℕ, zero, suc, ◌+◌, ◌-◌, ◌^◌, min, ◌==◌, pos, Bool, true, false, ◌&&◌, not, List, [], ◌∷◌, slice_get, Option, Some, None, if◌then◌else◌, unwrap_or}
-use Rattle.c_arithmetic.specs.declared.integer_type.IntegerType.{IntegerType}
-use Rattle.c_arithmetic.specs.IntegerTypes.{bytes, is_signed}
+use Rattle.bk_arithmetic.specs.declared.integer_type.IntegerType.{IntegerType}
+use Rattle.bk_arithmetic.specs.IntegerTypes.{bytes, is_signed}
 use Rattle.c_tree.specs.declared.expressions.UnaryOp.{UnaryOp}
 use Rattle.c_tree.specs.declared.expressions.UnaryOp.TheVariants as u
 use Rattle.c_tree.specs.declared.expressions.BinaryOp.{BinaryOp}

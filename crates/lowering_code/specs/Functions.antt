@@ -11,7 +11,7 @@ use Rattle.suifvm_ir.specs.declared.types.VmType.TheVariants.{S32}
 use Rattle.suifvm_ir.specs.declared.insn.VmObject.TheVariants as p
 use Rattle.suifvm_ir.specs.declared.insn.VmInsn as vm
 use Rattle.suifvm_ir.specs.declared.insn.VmInsn.TheVariants as n
-use Rattle.suifvm_ir.specs.declared.function.MemoryLocal.{MemoryLocal}
+use Rattle.pass_core.specs.declared.function.MemoryLocal.{MemoryLocal}
 use Rattle.lowering_code.specs.declared.item.CodeItem.{CodeItem}
 use Rattle.lowering_code.specs.Registers.{temporary, address_register, object_index}
 use Rattle.lowering_code.specs.Expressions.{constant_code, store_code, address_code}

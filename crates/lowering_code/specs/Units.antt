@@ -7,7 +7,7 @@ use Rattle.c_typed_tree.specs.declared.types.StructDef.{StructDef}
 use Rattle.c_typed_tree.specs.declared.units.TypedFn.{TypedFn}
 use Rattle.c_typed_tree.specs.declared.units.TypedUnit.{TypedUnit}
 use Rattle.c_semantics.specs.Behaves.{behaviour_of, main_of, rooms_of}
-use Rattle.vm_meaning.specs.Behave.{FunctionCode, Registers, vm_run, start_world}
+use Rattle.suifvm_meaning.specs.Behave.{FunctionCode, Registers, vm_run, start_world}
 use Rattle.lowering_code.specs.Functions.{objects_of, function_blocks}
 
 -- a function as a run sees it

@@ -6,7 +6,7 @@ ghost use Rattle.c_semantics.specs.Objects.{integer_or_word};
 ghost use Rattle.c_semantics.specs.Operators.{operator_of, operation_type, step_operator, one_type};
 ghost use Rattle.lowering_code.specs.Expressions.{operation_of, right_shift_kind, operation_insn, element_of, is_signed_type, plain_of, alignment_of};
 
-use c_arithmetic::integer_type::IntegerType;
+use bk_arithmetic::integer_type::IntegerType;
 use c_tree::{AssignOp, BinaryOp, StepOp};
 use c_typed_tree::CType;
 use lowering_code::RegisterOperation;

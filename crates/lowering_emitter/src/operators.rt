@@ -11,7 +11,7 @@ use crate::operations::{
 };
 use crate::registers::{Registers, register_type};
 use crate::sizes::stride;
-use c_arithmetic::integer_type::IntegerType;
+use bk_arithmetic::integer_type::IntegerType;
 use c_tree::{BinaryOp, StepOp};
 use c_typed_tree::layout::align_of;
 use c_typed_tree::{CType, StructDef};

@@ -9,10 +9,10 @@ use Rattle.mem_model.specs.Ending.{Evaluation}
 use Rattle.mem_model.specs.Pointers as pointers
 use Rattle.mem_model.specs.Related.{Names, IsValueOf, IsMemoryOf}
 use Rattle.machine_model.specs.Machine.{Config}
-use Rattle.c_arithmetic.specs.declared.integer_type.IntegerType.{IntegerType}
-use Rattle.c_arithmetic.specs.declared.integer_type.IntegerType.TheVariants as i
-use Rattle.c_arithmetic.specs.Operations.{truth}
-use Rattle.c_arithmetic.specs.Words.{is_word}
+use Rattle.bk_arithmetic.specs.declared.integer_type.IntegerType.{IntegerType}
+use Rattle.bk_arithmetic.specs.declared.integer_type.IntegerType.TheVariants as i
+use Rattle.bk_arithmetic.specs.Operations.{truth}
+use Rattle.bk_arithmetic.specs.Words.{is_word}
 use Rattle.c_tree.specs.declared.expressions.BinaryOp.TheVariants as b
 use Rattle.c_typed_tree.specs.Types.{PlainType, Pointer}
 use Rattle.c_typed_tree.specs.Expressions.{Expr, Binary, Conditional, type_of}
@@ -24,10 +24,10 @@ use Rattle.c_semantics.specs.Evaluates.{eval, choose}
 use Rattle.suifvm_ir.specs.declared.insn.VmBranchOp.{VmBranchOp}
 use Rattle.suifvm_ir.specs.declared.insn.VmBranchOp.TheVariants.{IfTrue, IfFalse}
 use Rattle.suifvm_ir.specs.declared.insn.VmInsn.TheVariants as n
-use Rattle.vm_meaning.specs.declared.answer.Answer.TheVariants.{Gives, Fails}
-use Rattle.vm_meaning.specs.Operations as vm
-use Rattle.vm_meaning.specs.Effect.{writes, is_branch_taken}
-use Rattle.vm_meaning.specs.Behave.{Registers, set_register}
+use Rattle.suifvm_meaning.specs.declared.answer.Answer.TheVariants.{Gives, Fails}
+use Rattle.suifvm_meaning.specs.Operations as vm
+use Rattle.suifvm_meaning.specs.Effect.{writes, is_branch_taken}
+use Rattle.suifvm_meaning.specs.Behave.{Registers, set_register}
 use Rattle.lowering_code.specs.declared.item.CodeItem.{CodeItem}
 use Rattle.lowering_code.specs.declared.item.CodeItem.TheVariants.{Start, Jump}
 use Rattle.lowering_code.specs.Items as items
@@ -39,9 +39,9 @@ use Rattle.lowering_states.specs.model.Opens.{opens}
 use Rattle.lowering_states.specs.States.{IsHeld, IsInRegister, KeepsLower}
 use Rattle.lowering_states.proofs.Steps.{meets_anything, meets_same, fall, jump, branch_taken, branch_passed}
 use Rattle.lowering_states.proofs.States.{kept_on, kept_temporary, value_at, after_on, fits_temporary}
-use Rattle.lowering_values.proofs.Accesses.{memories_correspond}
-use Rattle.lowering_expression_places.specs.Behind.{Somewhere}
-use Rattle.lowering_expression_places.proofs.Behind.{at_plain, at_start, at_jump, at_branch, left_expr}
+use Rattle.lowering_states.proofs.LoweringValues.Accesses.{memories_correspond}
+use Rattle.lowering_states.specs.lowering_expression_places.Behind.{Somewhere}
+use Rattle.lowering_states.proofs.LoweringExpressionPlaces.Behind.{at_plain, at_start, at_jump, at_branch, left_expr}
 use Rattle.lowering_expression_laws.specs.Parts.{Setting, first_depth, EndsSo, Stands, Fit, Aft, Follows, ExprMeets}
 use Rattle.lowering_expression_laws.specs.Laws.{IsScalarType}
 use Rattle.lowering_expression_laws.proofs.Forms.{held_word, word_held, value_of_word, insn_on, bound_run}

@@ -8,15 +8,15 @@ use Rattle.mem_model.specs.World.{World, Outer, outer_with_memory}
 use Rattle.mem_model.specs.Ending.{Evaluation}
 use Rattle.mem_model.specs.Related.{Names}
 use Rattle.machine_model.specs.Code.{Writes, Stops, Traps}
-use Rattle.c_arithmetic.specs.declared.integer_type.IntegerType.{IntegerType}
-use Rattle.c_arithmetic.specs.declared.integer_type.IntegerType.TheVariants as i
-use Rattle.c_arithmetic.specs.declared.outcome.ArithmeticOutcome.{ArithmeticOutcome}
-use Rattle.c_arithmetic.specs.declared.outcome.ArithmeticOutcome.TheVariants as a
-use Rattle.c_arithmetic.specs.IntegerTypes.{is_signed, promote}
-use Rattle.c_arithmetic.specs.Words.{is_word}
-use Rattle.c_arithmetic.specs.Outcomes.{IsWordOf}
-use Rattle.c_arithmetic.specs.Operations.{conversion, negation, complement, truth}
-use Rattle.c_arithmetic.proofs.Results.{is_word-extension, sum-word, difference-word, product-word, negation-word, quotient-word, remainder-word, left_shift-word, right_shift-word}
+use Rattle.bk_arithmetic.specs.declared.integer_type.IntegerType.{IntegerType}
+use Rattle.bk_arithmetic.specs.declared.integer_type.IntegerType.TheVariants as i
+use Rattle.bk_arithmetic.specs.declared.outcome.ArithmeticOutcome.{ArithmeticOutcome}
+use Rattle.bk_arithmetic.specs.declared.outcome.ArithmeticOutcome.TheVariants as a
+use Rattle.bk_arithmetic.specs.IntegerTypes.{is_signed, promote}
+use Rattle.bk_arithmetic.specs.Words.{is_word}
+use Rattle.bk_arithmetic.specs.Outcomes.{IsWordOf}
+use Rattle.bk_arithmetic.specs.Operations.{conversion, negation, complement, truth}
+use Rattle.bk_arithmetic.proofs.Results.{is_word-extension, sum-word, difference-word, product-word, negation-word, quotient-word, remainder-word, left_shift-word, right_shift-word}
 use Rattle.c_tree.specs.declared.expressions.UnaryOp.TheVariants as u
 use Rattle.c_tree.specs.declared.expressions.BinaryOp.{BinaryOp}
 use Rattle.c_tree.specs.declared.expressions.BinaryOp.TheVariants as b
@@ -34,10 +34,10 @@ use Rattle.suifvm_ir.specs.declared.insn.VmInsn.TheVariants as n
 use Rattle.suifvm_ir.specs.declared.insn.VmUnaryOp.{VmUnaryOp}
 use Rattle.suifvm_ir.specs.declared.insn.VmUnaryOp.TheVariants.{Negate, Complement}
 use Rattle.suifvm_ir.specs.Insns.{writes_of}
-use Rattle.vm_meaning.specs.declared.answer.Answer.TheVariants.{Gives, Fails}
-use Rattle.vm_meaning.specs.Operations as vm
-use Rattle.vm_meaning.specs.Effect.{writes, takes_turn}
-use Rattle.vm_meaning.specs.Behave.{Registers, set_register, set_registers}
+use Rattle.suifvm_meaning.specs.declared.answer.Answer.TheVariants.{Gives, Fails}
+use Rattle.suifvm_meaning.specs.Operations as vm
+use Rattle.suifvm_meaning.specs.Effect.{writes, takes_turn}
+use Rattle.suifvm_meaning.specs.Behave.{Registers, set_register, set_registers}
 use Rattle.lowering_code.specs.declared.item.CodeItem.{CodeItem}
 use Rattle.lowering_code.specs.declared.item.CodeItem.TheVariants.{Plain}
 use Rattle.lowering_code.specs.Registers.{register_type, value_register, temporary}
@@ -48,10 +48,10 @@ use Rattle.lowering_states.specs.model.Opens.{opens}
 use Rattle.lowering_states.specs.States.{IsHeld, IsInRegister, KeepsLower}
 use Rattle.lowering_states.proofs.Steps.{finish-bind, meets_same, plain, traps, used_meets, number_meets, outcome_meets}
 use Rattle.lowering_states.proofs.States.{kept_all, kept_on, kept_temporary, kept_reads, value_at, after_same, after_on, fits_temporary}
-use Rattle.lowering_values.specs.Laws.{is_shift_operator, does_in}
-use Rattle.lowering_values.proofs.Integers.{kept_is, register-promoted, integer_of-plain, register-plain, promoted_word, kept_conversion, made_conversion}
-use Rattle.lowering_values.proofs.Operators.{word_true, unary_is, operators_correspond}
-use Rattle.lowering_expression_places.proofs.Behind.{at_plain}
+use Rattle.lowering_states.specs.lowering_values.Laws.{is_shift_operator, does_in}
+use Rattle.lowering_states.proofs.LoweringValues.Integers.{kept_is, register-promoted, integer_of-plain, register-plain, promoted_word, kept_conversion, made_conversion}
+use Rattle.lowering_states.proofs.LoweringValues.Operators.{word_true, unary_is, operators_correspond}
+use Rattle.lowering_states.proofs.LoweringExpressionPlaces.Behind.{at_plain}
 use Rattle.lowering_expression_laws.specs.Parts.{Setting, first_depth, EndsSo, Stands, Fit, Aft, Follows, ExprMeets}
 use Rattle.lowering_expression_laws.specs.Laws.{is_logical_operator, result_type}
 

@@ -1,2 +1,13 @@
 pub mod Forms
 pub mod Choices
+pub mod LoweringConstantLaws
+pub mod LoweringAccessLaws
+pub mod LoweringPlaceLaws
+pub mod LoweringAssignmentLaws
+pub mod LoweringStructLaws
+pub mod LoweringPointerLaws
+pub mod LoweringOperandLaws
+pub mod LoweringChangeLaws
+pub mod LoweringCallLaws
+pub mod LoweringBuiltinLaws
+pub mod LoweringExpressionTheorem

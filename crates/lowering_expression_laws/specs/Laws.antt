@@ -1,16 +1,16 @@
 -- What is said of the code of forms of expression.
 use Rattle.std.specs.Prelude.{◌≡◌, ◌⊎◌, ℕ, Bool, true, false, slice_get, Some}
-use Rattle.c_arithmetic.specs.declared.integer_type.IntegerType.{IntegerType}
-use Rattle.c_arithmetic.specs.declared.integer_type.IntegerType.TheVariants as i
-use Rattle.c_arithmetic.specs.IntegerTypes.{promote}
-use Rattle.c_arithmetic.specs.Words.{is_word}
+use Rattle.bk_arithmetic.specs.declared.integer_type.IntegerType.{IntegerType}
+use Rattle.bk_arithmetic.specs.declared.integer_type.IntegerType.TheVariants as i
+use Rattle.bk_arithmetic.specs.IntegerTypes.{promote}
+use Rattle.bk_arithmetic.specs.Words.{is_word}
 use Rattle.c_tree.specs.declared.expressions.UnaryOp.TheVariants as u
 use Rattle.c_tree.specs.declared.expressions.BinaryOp.{BinaryOp}
 use Rattle.c_tree.specs.declared.expressions.BinaryOp.TheVariants as b
 use Rattle.c_typed_tree.specs.Types.{PlainType, Pointer}
 use Rattle.c_typed_tree.specs.Expressions.{Expr, Number, Unary, Binary, Conditional, Cast, Convert, type_of}
 use Rattle.lowering_code.specs.Expressions.{plain_of}
-use Rattle.lowering_values.specs.Laws.{is_shift_operator}
+use Rattle.lowering_states.specs.lowering_values.Laws.{is_shift_operator}
 use Rattle.lowering_expression_laws.specs.Parts.{Setting, ExprMeets}
 
 -- a scalar type: an integer type or a pointer

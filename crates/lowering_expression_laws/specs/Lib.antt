@@ -1,2 +1,13 @@
 pub mod Parts
 pub mod Laws
+pub mod lowering_constant_laws
+pub mod lowering_access_laws
+pub mod lowering_place_laws
+pub mod lowering_assignment_laws
+pub mod lowering_struct_laws
+pub mod lowering_pointer_laws
+pub mod lowering_operand_laws
+pub mod lowering_change_laws
+pub mod lowering_call_laws
+pub mod lowering_builtin_laws
+pub mod lowering_expression_theorem

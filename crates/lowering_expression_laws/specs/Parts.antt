@@ -10,7 +10,7 @@ use Rattle.mem_model.specs.World.{World, Rooms}
 use Rattle.mem_model.specs.Related.{Names}
 use Rattle.machine_model.specs.Machine.{Frame}
 use Rattle.suifvm_ir.specs.declared.insn.VmInsn.{VmInsn}
-use Rattle.vm_meaning.specs.Behave.{FunctionCode, Registers}
+use Rattle.suifvm_meaning.specs.Behave.{FunctionCode, Registers}
 use Rattle.c_typed_tree.specs.declared.types.StructDef.{StructDef}
 use Rattle.c_typed_tree.specs.declared.units.Local.{Local}
 use Rattle.c_typed_tree.specs.Types.{PlainType}

@@ -2,3 +2,14 @@
 #![tactic(auto)]
 
 pub mod laws;
+pub mod lowering_access_laws;
+pub mod lowering_assignment_laws;
+pub mod lowering_builtin_laws;
+pub mod lowering_call_laws;
+pub mod lowering_change_laws;
+pub mod lowering_constant_laws;
+pub mod lowering_expression_theorem;
+pub mod lowering_operand_laws;
+pub mod lowering_place_laws;
+pub mod lowering_pointer_laws;
+pub mod lowering_struct_laws;

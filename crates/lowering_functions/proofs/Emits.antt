@@ -1,7 +1,7 @@
 -- Code in front of other code: it is good where that is, it is no longer than a number says, and no fewer blocks begin.
 use Rattle.std.proofs.Common.{◌≤◌, ◌<◌, ℕ, zero, suc, ◌+◌, ◌*◌, ◌==◌, Bool, true, false, if◌then◌else◌, List, ◌∷◌, Option, Some, None, length, refl, arith}
-use Rattle.c_arithmetic.specs.declared.integer_type.IntegerType.{IntegerType}
-use Rattle.c_arithmetic.specs.IntegerTypes.{is_signed}
+use Rattle.bk_arithmetic.specs.declared.integer_type.IntegerType.{IntegerType}
+use Rattle.bk_arithmetic.specs.IntegerTypes.{is_signed}
 use Rattle.c_tree.specs.declared.expressions.BinaryOp.{BinaryOp}
 use Rattle.c_tree.specs.declared.expressions.BinaryOp.TheVariants as b
 use Rattle.c_tree.specs.declared.expressions.StepOp.{StepOp}
@@ -19,7 +19,7 @@ use Rattle.suifvm_ir.specs.declared.insn.TypedRegister.{TypedRegister}
 use Rattle.suifvm_ir.specs.declared.insn.VmInsn as vm
 use Rattle.suifvm_ir.specs.declared.insn.VmInsn.TheVariants as n
 use Rattle.suifvm_ir.specs.Insns.{targets_of, flows_on_of, returned_register}
-use Rattle.suifvm_ir.specs.Functions.{IsStraight}
+use Rattle.pass_core.specs.Functions.{IsStraight}
 use Rattle.lowering_code.specs.declared.operation.RegisterOperation.{RegisterOperation}
 use Rattle.lowering_code.specs.declared.operation.RegisterOperation.TheVariants.{Calculates, Shifts, Compares, ComparesBack}
 use Rattle.lowering_code.specs.declared.item.CodeItem.{CodeItem}

@@ -19,8 +19,8 @@ use lowering_emitter::code::EmittedCode;
 use lowering_expressions::{LoweringScope, local_place};
 use lowering_layout::function;
 use lowering_statements::stmt;
+use pass_core::function::Func;
 use std::alloc::{AllocError, Global};
-use suifvm_ir::function::Func;
 use suifvm_ir::insn::VmInsn;
 
 /// An argument comes in the first registers; that of a parameter in memory is stored.

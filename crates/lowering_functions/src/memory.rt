@@ -4,11 +4,11 @@ ghost use Rattle.std.specs.Prelude.{◌≡◌, [], ◌∷◌, ◌++◌, All, OnO
 ghost use Rattle.lowering_code.specs.Functions.{object_for, objects_of};
 ghost use Rattle.lowering_functions.specs.Scopes.{LocalHasSize};
 
-use c_tree::Seq;
+use bk_containers::Seq;
 use c_typed_tree::layout::{align_of, size_of};
 use c_typed_tree::{Local, StructDef};
+use pass_core::function::MemoryLocal;
 use std::alloc::{AllocError, Global};
-use suifvm_ir::function::MemoryLocal;
 
 fn object(structs: &[StructDef], local: &Local) -> MemoryLocal
     requires { LocalHasSize structs.now local.now }

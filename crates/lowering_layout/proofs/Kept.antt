@@ -8,7 +8,7 @@ use Rattle.suifvm_ir.specs.declared.types.VmType.TheVariants.{S32}
 use Rattle.suifvm_ir.specs.declared.insn.VmInsn as vm
 use Rattle.suifvm_ir.specs.declared.insn.VmInsn.TheVariants as n
 use Rattle.suifvm_ir.specs.Insns.{reads_of, writes_of, targets_of, flows_on_of}
-use Rattle.suifvm_ir.specs.Functions.{AllInsns, GoesToBlocks, UsesRegisters, EndsLate, insn_stops, block_stops, stops, count_of}
+use Rattle.pass_core.specs.Functions.{AllInsns, GoesToBlocks, UsesRegisters, EndsLate, insn_stops, block_stops, stops, count_of}
 use Rattle.lowering_code.specs.declared.item.CodeItem.{CodeItem}
 use Rattle.lowering_code.specs.Items.{block_total}
 use Rattle.lowering_code.specs.Registers.{temporary}

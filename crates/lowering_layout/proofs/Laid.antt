@@ -9,7 +9,7 @@ use Rattle.suifvm_ir.specs.declared.insn.VmBranchOp.TheVariants.{IfTrue}
 use Rattle.suifvm_ir.specs.declared.insn.VmInsn as vm
 use Rattle.suifvm_ir.specs.declared.insn.VmInsn.TheVariants as n
 use Rattle.suifvm_ir.specs.Insns.{targets_of, flows_on_of}
-use Rattle.suifvm_ir.specs.Functions.{GoesToBlocks, IsStraight, EndsLate, last_of, front_of}
+use Rattle.pass_core.specs.Functions.{GoesToBlocks, IsStraight, EndsLate, last_of, front_of}
 use Rattle.suifvm_ir.specs.Programs.{begins_with_mark, goes_back_to_marks}
 use Rattle.lowering_code.specs.declared.item.CodeItem.{CodeItem}
 use Rattle.lowering_code.specs.declared.item.CodeItem.TheVariants.{Start, Plain, Jump, Branch, Loop, Enter, Again, Repeat, Return}

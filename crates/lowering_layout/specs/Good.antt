@@ -1,7 +1,7 @@
 -- Code whose jumps lead on, whose loops are closed, and whose registers are below a number.
 use Rattle.std.specs.Prelude.{◌≡◌, ◌≤◌, ◌<◌, ℕ, zero, suc, List, [], ◌∷◌}
 use Rattle.suifvm_ir.specs.Insns.{targets_of, flows_on_of, returned_register}
-use Rattle.suifvm_ir.specs.Functions.{IsStraight}
+use Rattle.pass_core.specs.Functions.{IsStraight}
 use Rattle.lowering_code.specs.declared.item.CodeItem.{CodeItem}
 use Rattle.lowering_code.specs.declared.item.CodeItem.TheVariants.{Start, Plain, Jump, Branch, Loop, Enter, Again, Repeat, Return}
 use Rattle.lowering_code.specs.Items.{block_total}

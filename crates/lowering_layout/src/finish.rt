@@ -10,11 +10,11 @@ ghost use Rattle.lowering_layout.specs.Views.{layout_view, CountsRegisters, Goes
 ghost use Rattle.lowering_layout.specs.model.Ends.{with_end};
 
 use crate::layout::BlockLayout;
-use c_tree::{Name, Seq};
+use bk_containers::{Name, Seq};
 use lowering_emitter::code::EmittedCode;
+use pass_core::block::Block;
+use pass_core::function::{Func, MemoryLocal};
 use std::alloc::{AllocError, Global};
-use suifvm_ir::block::Block;
-use suifvm_ir::function::{Func, MemoryLocal};
 use suifvm_ir::insn::{TypedRegister, VmInsn};
 use suifvm_ir::types::VmType;
 

@@ -1,8 +1,8 @@
 //! How far a layout has come.
 
 use crate::heads::Heads;
-use c_tree::Seq;
-use suifvm_ir::block::Block;
+use bk_containers::Seq;
+use pass_core::block::Block;
 use suifvm_ir::insn::VmInsn;
 
 /// How far the layout has come.

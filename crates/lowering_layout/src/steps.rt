@@ -7,11 +7,11 @@ ghost use Rattle.lowering_layout.specs.Views.{layout_view, CountsRegisters};
 use crate::heads::Heads;
 use crate::layout::BlockLayout;
 use crate::tops::insn_top;
-use c_tree::Seq;
+use bk_containers::Seq;
 use lowering_code::CodeItem;
+use pass_core::block::Block;
 use std::alloc::{AllocError, Global};
 use std::mem;
-use suifvm_ir::block::Block;
 use suifvm_ir::insn::{VmBranchOp, VmInsn};
 
 impl BlockLayout {

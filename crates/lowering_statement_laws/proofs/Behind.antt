@@ -19,8 +19,8 @@ use Rattle.lowering_code.specs.declared.item.CodeItem.TheVariants.{Start, Plain,
 use Rattle.lowering_code.specs.Items.{block_total}
 use Rattle.lowering_code.specs.Statements.{Target, value_code, default_name, put_code, put_local_code, initialise_code, declares_code, first_code, again_code, test_code, after_code, label_code, labels_code, return_code, stmt_code, stmts_code, sections_code, switch_targets}
 use Rattle.lowering_states.specs.Places.{CodePlace, next_place, next_block, At}
-use Rattle.lowering_expression_places.specs.Behind.{Somewhere, IsLeft}
-use Rattle.lowering_expression_places.proofs.Behind.{at_plain, at_start, at_jump, at_branch, left_expr}
+use Rattle.lowering_states.specs.lowering_expression_places.Behind.{Somewhere, IsLeft}
+use Rattle.lowering_states.proofs.LoweringExpressionPlaces.Behind.{at_plain, at_start, at_jump, at_branch, left_expr}
 
 module _ (blocks : List (List VmInsn)) (last : ℕ) (end : List VmInsn) where
   pub at_loop : {heads : List ℕ} {p : CodePlace} {is : List CodeItem} (name : ℕ) → At blocks last end heads p (Loop name ∷ is) → At blocks last end (suc p.block ∷ heads) (next_place (next_block p)) is

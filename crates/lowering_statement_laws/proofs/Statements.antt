@@ -20,8 +20,8 @@ use Rattle.c_semantics.specs.Executes.{StatementFlow, Goes, Returns, and_next, e
 use Rattle.suifvm_ir.specs.declared.insn.VmBranchOp.TheVariants.{IfFalse}
 use Rattle.suifvm_ir.specs.declared.insn.TypedRegister.{TypedRegister}
 use Rattle.suifvm_ir.specs.declared.insn.VmInsn.TheVariants as n
-use Rattle.vm_meaning.specs.Operations as vm
-use Rattle.vm_meaning.specs.Behave.{Registers}
+use Rattle.suifvm_meaning.specs.Operations as vm
+use Rattle.suifvm_meaning.specs.Behave.{Registers}
 use Rattle.lowering_code.specs.declared.item.CodeItem.{CodeItem}
 use Rattle.lowering_code.specs.declared.item.CodeItem.TheVariants.{Start, Jump, Return}
 use Rattle.lowering_code.specs.Items as items
@@ -34,8 +34,8 @@ use Rattle.lowering_states.specs.model.Opens.{opens}
 use Rattle.lowering_states.specs.States.{IsHeld, IsInRegister}
 use Rattle.lowering_states.proofs.Steps.{fall, jump, returning_step, used_meets}
 use Rattle.lowering_states.proofs.States.{after_same, after_on}
-use Rattle.lowering_expression_places.specs.Behind.{Somewhere}
-use Rattle.lowering_expression_places.proofs.Behind.{at_start, at_jump, at_branch}
+use Rattle.lowering_states.specs.lowering_expression_places.Behind.{Somewhere}
+use Rattle.lowering_states.proofs.LoweringExpressionPlaces.Behind.{at_start, at_jump, at_branch}
 use Rattle.lowering_expression_laws.specs.Parts.{Setting, first_depth, EndsSo, Stands, Fit, Aft, ExprMeets}
 use Rattle.lowering_expression_laws.specs.Laws.{IsScalarType}
 use Rattle.lowering_expression_laws.proofs.Forms.{word_held, value_of_word, bound_run}

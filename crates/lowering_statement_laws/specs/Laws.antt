@@ -10,7 +10,7 @@ use Rattle.c_semantics.specs.Runs.{Run}
 use Rattle.c_semantics.specs.Objects.{Scope}
 use Rattle.c_semantics.specs.Executes.{StatementFlow}
 use Rattle.lowering_code.specs.Statements.{stmt_code}
-use Rattle.lowering_expression_places.specs.Behind.{IsLeft}
+use Rattle.lowering_states.specs.lowering_expression_places.Behind.{IsLeft}
 use Rattle.lowering_expression_laws.specs.Parts.{Setting, ExprMeets}
 use Rattle.lowering_expression_laws.specs.Laws.{IsScalarType}
 use Rattle.lowering_statement_laws.specs.Parts.{StmtMeets, StmtsMeet}

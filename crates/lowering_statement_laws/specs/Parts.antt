@@ -7,7 +7,7 @@ use Rattle.mem_model.specs.declared.value.Value.{Value}
 use Rattle.mem_model.specs.Memory.{Memory, end_objects}
 use Rattle.mem_model.specs.World.{World, with_memory, with_meter, leave_call}
 use Rattle.mem_model.specs.Related.{Names, IsValueOf}
-use Rattle.vm_meaning.specs.Behave.{Registers}
+use Rattle.suifvm_meaning.specs.Behave.{Registers}
 use Rattle.c_typed_tree.specs.Types.{PlainType, Void}
 use Rattle.c_typed_tree.specs.Statements.{Stmt, Declare, Stmts, no_stmts, more_stmts}
 use Rattle.c_typed_tree.specs.Declarations.{declarations}

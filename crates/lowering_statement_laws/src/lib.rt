@@ -2,3 +2,8 @@
 #![tactic(auto)]
 
 pub mod laws;
+pub mod lowering_declaration_laws;
+pub mod lowering_for_laws;
+pub mod lowering_loop_laws;
+pub mod lowering_statement_theorem;
+pub mod lowering_switch_laws;

@@ -8,7 +8,7 @@ ghost use Rattle.lowering_statements.specs.Levels.{optional_levels, declared_lev
 ghost use Rattle.lowering_statements.specs.Scopes.{declare_code, first_code, again_code, test_code, after_code, return_code};
 ghost use Rattle.lowering_statements.specs.model.Scopes.{put_code, put_scalar_code, put_local_code, initialise_code, declares_code};
 
-use c_tree::Box;
+use bk_containers::Box;
 use c_typed_tree::{CType, TExpr, TFirst, TLocal};
 use lowering_emitter::code::EmittedCode;
 use lowering_emitter::registers::register_type;

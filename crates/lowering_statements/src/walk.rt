@@ -11,7 +11,7 @@ ghost use Rattle.lowering_statements.specs.model.Scopes.{else_code, else_name, s
 
 use crate::labels::{LabelTarget, default_name, labels};
 use crate::values::{after, again, declare, first, give, test};
-use c_tree::Box;
+use bk_containers::Box;
 use c_typed_tree::{TSection, TStmt};
 use lowering_emitter::code::EmittedCode;
 use lowering_expressions::{LoweringScope, expr};

@@ -8,7 +8,7 @@ use Rattle.mem_model.specs.Memory.{Memory}
 use Rattle.mem_model.specs.Related.{Names, IsValueOf, IsMemoryOf}
 use Rattle.mem_model.specs.RelatedLaws.{MoreNames}
 use Rattle.mem_model.proofs.RelatedRows.{values_stay}
-use Rattle.data_object.specs.declared.TheConstants.{MOST_DATA}
+use Rattle.mem_objects.specs.declared.TheConstants.{MOST_DATA}
 use Rattle.suifvm_ir.specs.declared.types.VmType.{VmType}
 use Rattle.suifvm_ir.specs.declared.types.VmType.TheVariants as v
 use Rattle.c_typed_tree.specs.declared.types.StructDef.{StructDef}
@@ -19,7 +19,7 @@ use Rattle.c_typed_tree.specs.Layout.{size_of}
 use Rattle.c_semantics.specs.Runs.{with_local_value}
 use Rattle.c_semantics.specs.Runs as c
 use Rattle.c_semantics.specs.Objects.{Scope}
-use Rattle.vm_meaning.specs.Behave.{Registers, set_register}
+use Rattle.suifvm_meaning.specs.Behave.{Registers, set_register}
 use Rattle.lowering_code.specs.Registers.{type_place, temporary, object_index}
 use Rattle.lowering_states.specs.States.{IsHeld, IsInRegister, is_live, type_at, Fits, KeepsLower, After}
 

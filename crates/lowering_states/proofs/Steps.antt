@@ -11,16 +11,16 @@ use Rattle.mem_model.specs.Ending.{Ending, Trap, More, Evaluation, Gives, Ends}
 use Rattle.machine_model.specs.Code.{Stop, Traps, Writes, Jumps, Calls, Returns, Stops, Site}
 use Rattle.machine_model.specs.Machine as machine
 use Rattle.machine_model.specs.Machine.{Frame, Config, Next, Goes, Over, go_on, step_at, step_with, act_on, turn_if, whole_world, stop_ending}
-use Rattle.c_arithmetic.specs.declared.outcome.ArithmeticOutcome.{ArithmeticOutcome}
-use Rattle.c_arithmetic.specs.declared.outcome.ArithmeticOutcome.TheVariants as o
+use Rattle.bk_arithmetic.specs.declared.outcome.ArithmeticOutcome.{ArithmeticOutcome}
+use Rattle.bk_arithmetic.specs.declared.outcome.ArithmeticOutcome.TheVariants as o
 use Rattle.suifvm_ir.specs.declared.types.VmType.{VmType}
 use Rattle.suifvm_ir.specs.declared.insn.VmBranchOp.{VmBranchOp}
 use Rattle.suifvm_ir.specs.declared.insn.VmInsn.{VmInsn}
 use Rattle.suifvm_ir.specs.declared.insn.VmInsn.TheVariants as n
 use Rattle.suifvm_ir.specs.Insns.{reads_of, writes_of}
-use Rattle.vm_meaning.specs.Operations.{is_set, value_holds}
-use Rattle.vm_meaning.specs.Behave.{FunctionCode, Registers, vm_code, registers_of, sizes_in, set_registers, insn_site, next_site, site_or_next, site_in_block, site_in_function}
-use Rattle.vm_meaning.specs.Effect.{is_branch_taken, branches, does, takes_turn}
+use Rattle.suifvm_meaning.specs.Operations.{is_set, value_holds}
+use Rattle.suifvm_meaning.specs.Behave.{FunctionCode, Registers, vm_code, registers_of, sizes_in, set_registers, insn_site, next_site, site_or_next, site_in_block, site_in_function}
+use Rattle.suifvm_meaning.specs.Effect.{is_branch_taken, branches, does, takes_turn}
 use Rattle.c_semantics.specs.Runs.{CallState, Run, and_then, in_world, use_value, or_undefined, use_number, spend_turn, turn}
 use Rattle.c_semantics.specs.Objects.{access}
 use Rattle.c_semantics.specs.Operators.{outcome}

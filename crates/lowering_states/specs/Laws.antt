@@ -9,8 +9,8 @@ use Rattle.machine_model.specs.Machine.{Frame}
 use Rattle.suifvm_ir.specs.declared.insn.VmInsn.{VmInsn}
 use Rattle.suifvm_ir.specs.declared.insn.VmInsn.TheVariants as n
 use Rattle.suifvm_ir.specs.Insns.{reads_of, writes_of}
-use Rattle.vm_meaning.specs.Effect.{does, takes_turn}
-use Rattle.vm_meaning.specs.Behave.{FunctionCode, Registers, set_registers, set_register}
+use Rattle.suifvm_meaning.specs.Effect.{does, takes_turn}
+use Rattle.suifvm_meaning.specs.Behave.{FunctionCode, Registers, set_registers, set_register}
 use Rattle.c_typed_tree.specs.declared.types.StructDef.{StructDef}
 use Rattle.c_typed_tree.specs.declared.units.Local.{Local}
 use Rattle.c_semantics.specs.Runs as c

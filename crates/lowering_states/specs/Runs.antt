@@ -6,7 +6,7 @@ use Rattle.mem_model.specs.World.{World, Rooms, with_memory}
 use Rattle.mem_model.specs.Ending.{Ending, Done, Trap, Undefined, More, Evaluation, Gives, Ends}
 use Rattle.machine_model.specs.Machine as machine
 use Rattle.machine_model.specs.Machine.{Frame, Config, Next, Goes, Over, go_on, exec}
-use Rattle.vm_meaning.specs.Behave.{FunctionCode, Registers, vm_code}
+use Rattle.suifvm_meaning.specs.Behave.{FunctionCode, Registers, vm_code}
 use Rattle.c_semantics.specs.Runs.{CallState}
 use Rattle.lowering_states.specs.Places.{CodePlace}
 

@@ -5,8 +5,8 @@ use Rattle.mem_model.specs.declared.value.Value.TheVariants.{Word, Address, Unse
 use Rattle.mem_model.specs.Memory.{Memory, object_at}
 use Rattle.mem_model.specs.Related.{Names, IsValueOf, IsMemoryOf, IsLocal}
 use Rattle.mem_model.specs.RelatedLaws.{MoreNames}
-use Rattle.data_object.specs.declared.TheConstants.{MOST_DATA}
-use Rattle.c_arithmetic.specs.Words.{is_word}
+use Rattle.mem_objects.specs.declared.TheConstants.{MOST_DATA}
+use Rattle.bk_arithmetic.specs.Words.{is_word}
 use Rattle.c_typed_tree.specs.declared.types.StructDef.{StructDef}
 use Rattle.c_typed_tree.specs.declared.units.Local.{Local}
 use Rattle.c_typed_tree.specs.Types.{PlainType, Void, Int, Pointer, Array, Struct}
@@ -14,7 +14,7 @@ use Rattle.c_typed_tree.specs.View.{type_view}
 use Rattle.c_typed_tree.specs.Layout.{size_of}
 use Rattle.c_semantics.specs.Runs as c
 use Rattle.c_semantics.specs.Objects.{Scope, integer_or_word}
-use Rattle.vm_meaning.specs.Behave.{Registers}
+use Rattle.suifvm_meaning.specs.Behave.{Registers}
 use Rattle.lowering_code.specs.Registers.{object_index}
 
 -- ---- values

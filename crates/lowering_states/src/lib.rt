@@ -3,3 +3,6 @@
 #![tactic(auto)]
 
 pub mod laws;
+pub mod lowering_expression_places;
+pub mod lowering_object_laws;
+pub mod lowering_values;

@@ -7,8 +7,8 @@ use Rattle.mem_model.specs.Ending.{Ending, Done, Trap, Undefined, More, EndsAs, 
 use Rattle.suifvm_ir.specs.declared.insn.VmInsn.{VmInsn}
 use Rattle.suifvm_ir.specs.Programs as program
 use Rattle.suifvm_ir.specs.Programs.{VmFunction}
-use Rattle.vm_meaning.specs.Behave as vm
-use Rattle.vm_meaning.specs.Behave.{FunctionCode, code_of}
+use Rattle.suifvm_meaning.specs.Behave as vm
+use Rattle.suifvm_meaning.specs.Behave.{FunctionCode, code_of}
 use Rattle.c_mean.specs.Behaviour as b
 use Rattle.c_typed_tree.specs.declared.types.StructDef.{StructDef}
 use Rattle.c_typed_tree.specs.declared.units.TypedFn.{TypedFn}
@@ -18,9 +18,9 @@ use Rattle.c_typed_tree.specs.Lawful.{IsTypedUnit}
 use Rattle.c_semantics.specs.Behaves as c
 use Rattle.c_semantics.specs.Behaves.{place_of_main, behaviour_of, rooms_of, run_main}
 use Rattle.lowering.specs.Lowered.{IsLowered, AreLowered}
-use Rattle.lowering_unit_theorem.specs.LoweringFunctionLaws.{code_for}
-use Rattle.lowering_unit_theorem.specs.Laws.{RunsTo}
-use Rattle.lowering_unit_theorem.proofs.Units.{code_keeps_meaning}
+use Rattle.lowering_theorem.specs.lowering_unit_theorem.LoweringFunctionLaws.{code_for}
+use Rattle.lowering_theorem.specs.lowering_unit_theorem.Laws.{RunsTo}
+use Rattle.lowering_theorem.proofs.LoweringUnitTheorem.Units.{code_keeps_meaning}
 use Rattle.lowering_theorem.specs.Laws.{VmRunsTo, ProgramsKeepMeaning, BehavioursAreKept}
 
 -- ---- functions

@@ -2,3 +2,5 @@
 #![tactic(auto)]
 
 pub mod laws;
+pub mod lowering_function_laws;
+pub mod lowering_unit_theorem;

@@ -1,10 +1,10 @@
 //! The code of constants.
 
-use alpha_forms::constants::put_constant;
 use anyhow::{Result, bail};
+use pass_core::block::Block;
 use row_sheets::number::quad;
+use selection_forms::alpha_forms::constants::put_constant;
 use std::alloc::Global;
-use suifvm_ir::block::Block;
 use temp_ir::insn::{FirstOperand, SecondOperand, TempInsn};
 use temp_ir::operation::{AddressOp, Operation};
 

@@ -6,16 +6,16 @@ use Rattle.bk_io.specs.Outside.{Traffic}
 use Rattle.call_outcomes.specs.declared.outcome.Outcome.{Outcome}
 use Rattle.call_outcomes.specs.declared.outcome.Outcome.TheVariants.{Usage, FileFault, NoMemory}
 use Rattle.call_outcomes.specs.FromFile.{file_bytes}
-use Rattle.compile_options.specs.declared.Allocator.{Allocator}
-use Rattle.compile_options.specs.declared.Allocator.TheVariants.{Plain}
+use Rattle.call_words.specs.declared.compile_options.Allocator.{Allocator}
+use Rattle.call_words.specs.declared.compile_options.Allocator.TheVariants.{Plain}
 use Rattle.call_words.specs.declared.request.Command.{Command}
 use Rattle.call_words.specs.declared.request.Command.TheVariants.{Build, Run, Vm, Exec, Migrate, Assemble, Print}
-use Rattle.compile_calls.specs.Build.{Builds}
-use Rattle.compile_calls.specs.Run.{Runs}
+use Rattle.compile_calls.specs.Build.{Builds, BuildsMade}
+use Rattle.compile_calls.specs.Run.{Runs, EndsWithEnoughSteps, RunsMade}
 use Rattle.compile_calls.specs.Vm.{RunsText}
 use Rattle.compile_calls.specs.Print.{Prints}
-use Rattle.image_calls.specs.RunImage.{Executes}
-use Rattle.image_calls.specs.MigrateImage.{Migrates}
+use Rattle.call_images.specs.RunImage.{Executes}
+use Rattle.call_images.specs.MigrateImage.{Migrates}
 use Rattle.msc_cli.specs.AssembleText.{Assembles}
 
 -- what is asked for: a command and the name of its file
@@ -26,18 +26,38 @@ Call = Option (Command × List ℕ)
 abbrev pub LeavesInput : Traffic → Traffic → Type 0
 LeavesInput before after = (after.left ≡ before.left) × (after.made ≡ before.made)
 
+-- ---- what a text means
+
+-- What `build` and `run` answer by what the text of the file means, however its image is made: an image is written that
+-- is right for the text, or is run, and ends where it has enough steps. Of the other commands nothing is said.
+abbrev pub AnswersByMeaning : Call → Option Shelf → Outcome → Traffic → Traffic → Type 0
+AnswersByMeaning (Some (Build options, file)) told answer before after =
+    Builds (file_bytes told file) answer before.taken after.taken × LeavesInput before after
+AnswersByMeaning (Some (Run options limits, file)) told answer before after =
+    Runs limits (file_bytes told file) answer before after
+    × EndsWithEnoughSteps limits (file_bytes told file) answer before
+AnswersByMeaning _ told answer before after = Unit {0}
+
+-- Memory is short for the words, and nothing is read or put; or what they ask for is answered so.
+abbrev pub AnswersWordsByMeaning : Call → Outcome → (told : Option Shelf) → (before after : Traffic) → Type 0
+AnswersWordsByMeaning call answer told before after =
+    ((answer ≡ NoMemory) × (after ≡ before) × MemoryIsShort) ⊎ AnswersByMeaning call told answer before after
+
+-- ---- what is made of it
+
 -- the allocator of a compile by a command that does not ask for one
 abbrev pub default_allocator : Allocator
 default_allocator = Plain
 
 -- What is answered by what is asked for, with the bytes of the file where they are told, and what that did to the input
--- and the output. Where nothing is asked for, that is all.
+-- and the output: of a text that is compiled by what is made of it, pass by pass. Where nothing is asked for, that is
+-- all.
 abbrev pub AnswersCall : Call → Option Shelf → Outcome → Traffic → Traffic → Type 0
 AnswersCall None told answer before after = (answer ≡ Usage) × (after ≡ before)
 AnswersCall (Some (Build options, file)) told answer before after =
-    Builds options.allocator (file_bytes told file) answer before.taken after.taken × LeavesInput before after
+    BuildsMade options.allocator (file_bytes told file) answer before.taken after.taken × LeavesInput before after
 AnswersCall (Some (Run options limits, file)) told answer before after =
-    Runs options.allocator limits (file_bytes told file) answer before after
+    RunsMade options.allocator limits (file_bytes told file) answer before after
 AnswersCall (Some (Vm turns, file)) told answer before after =
     RunsText default_allocator turns (file_bytes told file) answer before after
 AnswersCall (Some (Exec limits, file)) told answer before after =

@@ -17,13 +17,13 @@ use alpha_items::asm::Asm;
 use alpha_text::fault::TextFault;
 use alpha_text::read::read_asm;
 use bk_io::outside::{Files, Sink};
+use call_images::write_image;
 use call_outcomes::files::read_file;
 use call_outcomes::outcome::{Outcome, Which};
-use image_calls::write_image;
 use std::alloc::Global;
 
 /// How many bytes of an assembly text are read: one more than it may have.
-const ASSEMBLY_LIMIT: u64 = 67_108_865;
+const ASSEMBLY_LIMIT: u64 = 268_435_457;
 
 /// The outcome where a text is not read as an assembly.
 fn outcome_of_text_fault(fault: TextFault) -> Outcome

@@ -4,19 +4,19 @@ ghost use Rattle.std.specs.Prelude.{◌≡◌, ◌≢◌, Some, None, map, strin
 ghost use Rattle.call_outcomes.specs.Outcome.{line_of};
 ghost use Rattle.call_outcomes.specs.Output.{TookUnlessFault, file_faults_after, input_faults_after, output_faults_after};
 ghost use Rattle.call_words.specs.Request.{request_of, HasStack};
-ghost use Rattle.msc_cli.specs.Call.{AnswersCall, FailsWhereDue, told_after, AnswersWords};
+ghost use Rattle.msc_cli.specs.Call.{AnswersByMeaning, AnswersCall, FailsWhereDue, told_after, AnswersWordsByMeaning, AnswersWords};
 
 use crate::assemble::assemble;
 use bk_io::outside::{Files, Sink, Source};
+use call_images::exec::exec;
+use call_images::migrate::migrate;
 use call_outcomes::outcome::{Outcome, put_line};
+use call_words::compile_options::{Allocator, Options};
 use call_words::{Command, Request, WordsFault, read_words};
 use compile_calls::build::build;
 use compile_calls::print::print;
 use compile_calls::run::run;
 use compile_calls::vm::vm;
-use compile_options::{Allocator, Options};
-use image_calls::exec::exec;
-use image_calls::migrate::migrate;
 use std::alloc::Global;
 
 /// How a text is compiled by a command that does not ask for it.
@@ -25,7 +25,8 @@ const DEFAULT_OPTIONS: Options = Options {
 };
 
 /// Does what the words ask for, and writes the outcome's line to `err`. `words[0]` is the program's name. The file
-/// that is named is read once, and no other. A failed write to `err` changes no outcome.
+/// that is named is read once, and no other. A failed write to `err` changes no outcome. What `out` holds is let go
+/// before the line; where that fails, `finish` reports it.
 ///
 /// The commands are `build`, `run`, `vm`, `exec`, `migrate`, `assemble` and `print`, each with the options that
 /// [`read_words`] takes. Where nothing is asked for, the answer is [`Outcome::Usage`].
@@ -37,8 +38,14 @@ pub fn msc_main<F: Files, I: Source, O: Sink, E: Sink>(
     out: &mut O,
     err: &mut E,
 ) -> Outcome
-    // Which outcomes there are by the words, the file and the input, what was done to the input and the output, and
-    // that the file that is named is read once.
+    // What `build` and `run` answer by what the text means: an image that is right for it is written, or is run, and
+    // ends where it has enough steps.
+    ensures meaning { AnswersWordsByMeaning (request_of (map string_bytes words.now)) result (F.told files.old)
+        (record { left = I.left input.old; made = I.made input.old; taken = O.taken out.old })
+        (record { left = I.left input.new; made = I.made input.new; taken = O.taken out.new }) }
+
+    // Which outcomes there are by the words, the file and the input, with what is made of a text pass by pass, what was
+    // done to the input and the output, and that the file that is named is read once.
     ensures answer { AnswersWords (request_of (map string_bytes words.now)) result (F.told files.old) (F.told files.new)
         (record { left = I.left input.old; made = I.made input.old; taken = O.taken out.old })
         (record { left = I.left input.new; made = I.made input.new; taken = O.taken out.new }) }
@@ -53,6 +60,7 @@ pub fn msc_main<F: Files, I: Source, O: Sink, E: Sink>(
         (E.faults err.new) }
 {
     let outcome = perform(alloc, words, files, input, out);
+    out.flush();
     put_line(err, &outcome);
     outcome
 }
@@ -65,6 +73,9 @@ fn perform<F: Files, I: Source, O: Sink>(
     input: &mut I,
     out: &mut O,
 ) -> Outcome
+    ensures meaning { AnswersWordsByMeaning (request_of (map string_bytes words.now)) result (F.told files.old)
+        (record { left = I.left input.old; made = I.made input.old; taken = O.taken out.old })
+        (record { left = I.left input.new; made = I.made input.new; taken = O.taken out.new }) }
     ensures answer { AnswersWords (request_of (map string_bytes words.now)) result (F.told files.old) (F.told files.new)
         (record { left = I.left input.old; made = I.made input.old; taken = O.taken out.old })
         (record { left = I.left input.new; made = I.made input.new; taken = O.taken out.new }) }
@@ -89,6 +100,9 @@ fn answer_request<F: Files, I: Source, O: Sink>(
     out: &mut O,
 ) -> Outcome
     requires { HasStack request.command }
+    ensures meaning { AnswersByMeaning (Some (request.entry.command, request.entry.file.now)) (F.told files.old) result
+        (record { left = I.left input.old; made = I.made input.old; taken = O.taken out.old })
+        (record { left = I.left input.new; made = I.made input.new; taken = O.taken out.new }) }
     ensures answer { AnswersCall (Some (request.entry.command, request.entry.file.now)) (F.told files.old) result
         (record { left = I.left input.old; made = I.made input.old; taken = O.taken out.old })
         (record { left = I.left input.new; made = I.made input.new; taken = O.taken out.new }) }

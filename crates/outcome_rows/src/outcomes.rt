@@ -2,9 +2,9 @@
 
 use anyhow::{Result, bail};
 use bk_io::memory::MemSink;
-use c_type_faults::Kind;
+use c_typing_faults::Kind;
 use call_outcomes::outcome::{Outcome, SourceFault, Which, exit_code, put_line};
-use memory_calls::part::push_part;
+use row_calls::part::push_part;
 use row_sheets::number::number;
 use std::alloc::Global;
 

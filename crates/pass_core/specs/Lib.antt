@@ -1,2 +1,4 @@
 pub mod Insns
+pub mod Functions
+pub mod Live
 pub mod Passes

@@ -3,7 +3,7 @@
 use anyhow::{Result, bail, ensure};
 use bk_io::memory::{MemSink, MemSource};
 use c_lexer::TEXT_LIMIT;
-use front_end::read_unit;
+use compiler_front_end::read_unit;
 use lowering::lower;
 use row_sheets::escape::unescape;
 use row_sheets::number::number;

@@ -9,4 +9,4 @@ pub mod number;
 mod sheet;
 pub mod table;
 
-pub use table::{Table, check_tables};
+pub use table::{Table, check_tables, end_of_checks};

@@ -17,8 +17,8 @@ pub trait Table {
 }
 
 /// Checks the tables that the words of the command line name, or all of them where there are no words, and
-/// prints a line for each. It fails where one of them differs.
-pub fn check_tables<T: Table>(rt: &HostRuntime, tables: &mut [T]) -> Result<()> {
+/// prints a line for each. It answers how many differ.
+pub fn check_tables<T: Table>(rt: &HostRuntime, tables: &mut [T]) -> Result<u32> {
     let words: Vec<String> = env::args(rt)?.collect(rt.alloc())?;
     let mut differing = 0u32;
     for table in tables {
@@ -29,18 +29,19 @@ pub fn check_tables<T: Table>(rt: &HostRuntime, tables: &mut [T]) -> Result<()> 
             differing = differing.saturating_add(1);
         }
     }
-    ends_well(differing)
+    Ok(differing)
 }
 
 /// The path of a file, if it is to be checked: its own name where there are no words behind that of the
-/// program, else the first word that ends with it.
+/// program, else the first word that is a path of a file with this name.
 fn path_of<'a>(words: &'a [String], file: &'a str) -> Option<&'a str> {
     let (_program, paths) = words.split_first()?;
     if paths.is_empty() {
         return Some(file);
     }
     for path in paths {
-        if path.ends_with(file) {
+        let (_folder, name) = path.rsplit_once('/').unwrap_or(("", path.as_str()));
+        if name == file {
             return Some(path.as_str());
         }
     }
@@ -82,10 +83,14 @@ fn first_difference<T: Table>(
     Ok(None)
 }
 
-/// The end of a program of rows: a failure where files differ.
-fn ends_well(differing: u32) -> Result<()> {
-    if differing > 0 {
-        bail!("rows differ in {differing} files");
+/// The end of a program of rows, of which each check found so many files that differ: a failure where one did.
+pub fn end_of_checks(differing: &[u32]) -> Result<()> {
+    let mut files = 0u32;
+    for count in differing {
+        files = files.saturating_add(*count);
+    }
+    if files > 0 {
+        bail!("rows differ in {files} files");
     }
     Ok(())
 }

@@ -1,12 +1,12 @@
 -- A turn of the loop over the blocks of a function.
 use Rattle.std.proofs.Common.{◌≡◌, ℕ, zero, suc, ◌+◌, ◌<◌, List, [], ◌∷◌, ◌++◌, length, take, map, get_or, All, refl, sym, ap, ◌∙◌, subst, arith}
 use Rattle.std.proofs.lemmas.List.{length-map}
-use Rattle.suifvm_ir.specs.Functions.{AllInsns}
+use Rattle.pass_core.specs.Functions.{AllInsns}
 use Rattle.suifvm_ir.specs.declared.insn.VmInsn.{VmInsn}
 use Rattle.temp_ir.specs.declared.insn.TempInsn.{TempInsn}
 use Rattle.selection_code.specs.Functions.{selected_insns, parameter_items, selected_blocks}
 use Rattle.selection_code.specs.Fields.{HasFields}
-use Rattle.value_tests.specs.Tests.{tested_block}
+use Rattle.suifvm_zero_branches.specs.Tests.{tested_block}
 
 -- how many parameters wait for their code in front of the block with a number
 abbrev pub waiting_at : (params i : ℕ) → ℕ

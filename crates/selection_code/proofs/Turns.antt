@@ -8,10 +8,10 @@ use Rattle.temp_ir.specs.declared.insn.TempInsn.{TempInsn}
 use Rattle.selection_code.specs.Instructions.{temp_of, pass_item, pass_items, take_item, take_items, selected_insn}
 use Rattle.selection_code.specs.Functions.{selected_insns}
 use Rattle.selection_code.specs.Fields.{HasFields, HasNumbers}
-use Rattle.value_tests.specs.declared.known.RegisterFact.{RegisterFact}
-use Rattle.value_tests.specs.Tests.{facts_after, tested_insn, tested_from}
-use Rattle.value_tests.specs.model.Registers.{KnownIsBelow}
-use Rattle.value_tests.proofs.Functions.{after_below}
+use Rattle.suifvm_zero_branches.specs.declared.known.RegisterFact.{RegisterFact}
+use Rattle.suifvm_zero_branches.specs.Tests.{facts_after, tested_insn, tested_from}
+use Rattle.suifvm_zero_branches.specs.model.Registers.{KnownIsBelow}
+use Rattle.suifvm_zero_branches.proofs.Functions.{after_below}
 
 append_nil : (xs : List TempInsn) → xs ++ [] ≡ xs
 append_nil [] = refl

@@ -13,11 +13,11 @@ use Rattle.temp_ir.specs.declared.insn.FixedRegister.{FixedRegister}
 use Rattle.temp_ir.specs.declared.insn.FixedRegister.TheVariants.{Value, Argument0, Argument1, Argument2, Argument3, Argument4, Argument5}
 use Rattle.temp_ir.specs.declared.insn.TempInsn.{TempInsn}
 use Rattle.temp_ir.specs.declared.insn.TempInsn.TheVariants as i
-use Rattle.alpha_forms.specs.Registers.{scratch_count}
-use Rattle.alpha_forms.specs.Constants.{constant_items}
-use Rattle.alpha_forms.specs.Accesses.{load_items, store_items}
-use Rattle.alpha_forms.specs.Operations.{on_literal, unary_items, binary_items, shift_items, convert_items, compare_items, temp_branch}
-use Rattle.alpha_copies.specs.Copies.{copy_items}
+use Rattle.selection_forms.specs.alpha_forms.Registers.{scratch_count}
+use Rattle.selection_forms.specs.alpha_forms.Constants.{constant_items}
+use Rattle.selection_forms.specs.alpha_forms.Accesses.{load_items, store_items}
+use Rattle.selection_forms.specs.alpha_forms.Operations.{on_literal, unary_items, binary_items, shift_items, convert_items, compare_items, temp_branch}
+use Rattle.selection_forms.specs.alpha_copies.Copies.{copy_items}
 
 -- the temporary that stands for a register
 abbrev pub temp_of : (register : ℕ) → ℕ

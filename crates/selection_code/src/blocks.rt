@@ -1,19 +1,19 @@
 //! The code of blocks and functions.
 
 ghost use Rattle.std.specs.Prelude.{◌≡◌, ◌-◌, ◌^◌, ◌<◌, All, ◌++◌, map, OnOk, IfOk};
-ghost use Rattle.suifvm_ir.specs.Functions.{AllInsns};
+ghost use Rattle.pass_core.specs.Functions.{AllInsns};
 ghost use Rattle.selection_code.specs.Functions as functions;
 ghost use Rattle.selection_code.specs.Fields.{HasFields, HasNumbers};
-ghost use Rattle.value_tests.specs.Tests.{tested_block};
+ghost use Rattle.suifvm_zero_branches.specs.Tests.{tested_block};
 
 use crate::calls::put_parameters;
 use crate::instructions::put_insn;
-use c_tree::Seq;
+use bk_containers::Seq;
+use pass_core::block::Block;
 use std::alloc::{AllocError, Global};
-use suifvm_ir::block::Block;
 use suifvm_ir::insn::VmInsn;
+use suifvm_zero_branches::RegisterFact;
 use temp_ir::insn::TempInsn;
-use value_tests::RegisterFact;
 
 /// Puts the code of the instructions of a block. A branch on what a comparison with zero found tests the value.
 #[tactic(auto, using(crate::proofs::Turns::insn_turn, crate::proofs::Turns::numbers_here, crate::proofs::Turns::numbers_left, crate::proofs::Turns::fields_turn))]

@@ -7,8 +7,8 @@ ghost use Rattle.selection_code.specs.Instructions as code;
 ghost use Rattle.selection_code.specs.Fields.{IsNumbered};
 
 use crate::temporaries::temp_of;
+use pass_core::block::Block;
 use std::alloc::AllocError;
-use suifvm_ir::block::Block;
 use suifvm_ir::insn::{TypedRegister, VmBuiltin, VmCallee};
 use temp_ir::insn::{FirstOperand, FixedRegister, SecondOperand, TempInsn};
 use temp_ir::operation::{Operation, Service};

@@ -3,22 +3,22 @@
 ghost use Rattle.std.specs.Prelude.{◌≡◌, ◌++◌, ◌-◌, ◌^◌, OnOk};
 ghost use Rattle.selection_code.specs.Instructions as code;
 ghost use Rattle.selection_code.specs.Fields.{HasFields, HasNumbers};
-ghost use Rattle.value_tests.specs.Tests.{tested_insn};
-ghost use Rattle.value_tests.specs.model.Registers.{KnownIsBelow};
+ghost use Rattle.suifvm_zero_branches.specs.Tests.{tested_insn};
+ghost use Rattle.suifvm_zero_branches.specs.model.Registers.{KnownIsBelow};
 
 use crate::calls::{put_call, put_return};
 use crate::temporaries::temp_of;
-use alpha_copies::copies::put_copy;
-use alpha_forms::accesses::{put_load, put_store};
-use alpha_forms::constants::put_constant;
-use alpha_forms::operations::{
+use pass_core::block::Block;
+use selection_forms::alpha_copies::copies::put_copy;
+use selection_forms::alpha_forms::accesses::{put_load, put_store};
+use selection_forms::alpha_forms::constants::put_constant;
+use selection_forms::alpha_forms::operations::{
     branch_op, put_binary, put_compare, put_convert, put_shift, put_unary,
 };
 use std::alloc::AllocError;
-use suifvm_ir::block::Block;
 use suifvm_ir::insn::VmInsn;
+use suifvm_zero_branches::RegisterFact;
 use temp_ir::insn::TempInsn;
-use value_tests::RegisterFact;
 
 /// Puts the code of an instruction, where this is known of registers. Where memory is short a part of it may have been
 /// put.

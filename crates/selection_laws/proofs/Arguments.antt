@@ -8,8 +8,8 @@ use Rattle.mem_model.specs.declared.value.Value.{Value}
 use Rattle.mem_model.specs.declared.value.Value.TheVariants.{Word, Address, Unset}
 use Rattle.mem_model.specs.World.{Outer}
 use Rattle.machine_model.specs.Code.{Writes}
-use Rattle.vm_meaning.specs.Operations.{is_set}
-use Rattle.vm_meaning.specs.Behave.{registers_of}
+use Rattle.suifvm_meaning.specs.Operations.{is_set}
+use Rattle.suifvm_meaning.specs.Behave.{registers_of}
 use Rattle.temp_ir.specs.declared.insn.TempInsn.{TempInsn}
 use Rattle.temp_ir.specs.declared.insn.TempInsn.TheVariants as i
 use Rattle.temp_ir.specs.Fixed.{register_number}
@@ -18,8 +18,8 @@ use Rattle.alloc_model.specs.Contents.{Content, Plain, Gives, unset_content}
 use Rattle.alloc_model.specs.Stores.{without, put, put_all, empty}
 use Rattle.alloc_model.specs.Effect.{Holder, Temp, Fixed, Incoming, Outgoing, holder_eq, argument_places, entry_holders, argument_answer, writes, fails, holders_read, holders_written, calls_function, is_emptied, does, takes_turn}
 use Rattle.alloc_model.specs.Temporaries.{Temps}
-use Rattle.alpha_forms.specs.Straight.{NotStraight, goes_with, runs}
-use Rattle.alpha_forms.proofs.Runs.{without_plain}
+use Rattle.selection_forms.specs.alpha_forms.Straight.{NotStraight, goes_with, runs}
+use Rattle.selection_forms.proofs.AlphaForms.Runs.{without_plain}
 use Rattle.selection_code.specs.Instructions.{temp_of, argument_register, pass_item, pass_items, take_item, take_items}
 
 -- ---- one instruction

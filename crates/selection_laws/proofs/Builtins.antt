@@ -19,9 +19,9 @@ use Rattle.suifvm_ir.specs.declared.insn.VmInsn.{VmInsn}
 use Rattle.suifvm_ir.specs.declared.insn.VmInsn.TheVariants as x
 use Rattle.suifvm_ir.specs.Insns.{named_register}
 use Rattle.suifvm_ir.specs.Programs.{VmFunction}
-use Rattle.vm_meaning.specs.Operations.{is_set, value_holds}
-use Rattle.vm_meaning.specs.Effect.{is_branch_taken, branches, input_word, puts_char, exits_with, fails}
-use Rattle.vm_meaning.specs.Behave.{Registers, set_registers, code_of, insn_site, vm_code}
+use Rattle.suifvm_meaning.specs.Operations.{is_set, value_holds}
+use Rattle.suifvm_meaning.specs.Effect.{is_branch_taken, branches, input_word, puts_char, exits_with, fails}
+use Rattle.suifvm_meaning.specs.Behave.{Registers, set_registers, code_of, insn_site, vm_code}
 use Rattle.temp_ir.specs.declared.operation.Service.TheVariants as service
 use Rattle.temp_ir.specs.declared.insn.FixedRegister.TheVariants as fixed
 use Rattle.temp_ir.specs.declared.insn.TempInsn.{TempInsn}
@@ -31,11 +31,11 @@ use Rattle.alloc_model.specs.Stores.{put, without}
 use Rattle.alloc_model.specs.Effect.{Temp, Fixed, holder_eq, holders_read, is_emptied, widest_call}
 use Rattle.alloc_model.specs.Effect as temps
 use Rattle.alloc_model.specs.Temporaries.{Temps, temp_site, temp_code}
-use Rattle.alpha_forms.specs.Straight.{runs}
-use Rattle.alpha_forms.specs.Registers.{IsHeldWord, PutsValue}
-use Rattle.alpha_forms.specs.Operations.{temp_branch}
-use Rattle.alpha_forms.proofs.Done.{conversions_done}
-use Rattle.alpha_forms.proofs.Others.{branches_taken}
+use Rattle.selection_forms.specs.alpha_forms.Straight.{runs}
+use Rattle.selection_forms.specs.alpha_forms.Registers.{IsHeldWord, PutsValue}
+use Rattle.selection_forms.specs.alpha_forms.Operations.{temp_branch}
+use Rattle.selection_forms.proofs.AlphaForms.Done.{conversions_done}
+use Rattle.selection_forms.proofs.AlphaForms.Others.{branches_taken}
 use Rattle.selection_code.specs.Instructions.{temp_of, result_items, byte_items}
 use Rattle.selection_code.specs.Functions.{selected_insns, selected_blocks}
 use Rattle.selection_laws.proofs.Plain.{plain_code}

@@ -15,9 +15,9 @@ use Rattle.suifvm_ir.specs.declared.insn.TypedRegister.{TypedRegister}
 use Rattle.suifvm_ir.specs.declared.insn.VmInsn.{VmInsn}
 use Rattle.suifvm_ir.specs.declared.insn.VmInsn.TheVariants as x
 use Rattle.suifvm_ir.specs.Programs.{VmFunction}
-use Rattle.vm_meaning.specs.Operations.{is_set, is_value_of}
-use Rattle.vm_meaning.specs.Effect.{return_act, fails}
-use Rattle.vm_meaning.specs.Behave.{Registers, first_or_unset, registers_of, value_status, code_of, insn_site, sizes_in, site_in_function, site_in_block, vm_code}
+use Rattle.suifvm_meaning.specs.Operations.{is_set, is_value_of}
+use Rattle.suifvm_meaning.specs.Effect.{return_act, fails}
+use Rattle.suifvm_meaning.specs.Behave.{Registers, first_or_unset, registers_of, value_status, code_of, insn_site, sizes_in, site_in_function, site_in_block, vm_code}
 use Rattle.temp_ir.specs.declared.insn.FixedRegister.TheVariants as fixed
 use Rattle.temp_ir.specs.declared.insn.TempInsn.{TempInsn}
 use Rattle.temp_ir.specs.declared.insn.TempInsn.TheVariants as i
@@ -27,8 +27,8 @@ use Rattle.alloc_model.specs.Stores.{put, put_all, without, empty}
 use Rattle.alloc_model.specs.Effect.{Temp, Fixed, Outgoing, holder_eq, holders_read, is_emptied, entry_holders, width_of, widest_in, widest_call}
 use Rattle.alloc_model.specs.Temporaries.{Temps, temp_site, temp_code}
 use Rattle.alloc_model.specs.Temporaries as alloc
-use Rattle.alpha_forms.specs.Straight.{After, runs}
-use Rattle.alpha_forms.specs.Registers.{IsHeldWord}
+use Rattle.selection_forms.specs.alpha_forms.Straight.{After, runs}
+use Rattle.selection_forms.specs.alpha_forms.Registers.{IsHeldWord}
 use Rattle.selection_code.specs.Instructions.{temp_of, pass_items, take_items, result_items}
 use Rattle.selection_code.specs.Functions.{selected_insns, parameter_items, selected_blocks}
 use Rattle.selection_laws.proofs.Plain.{plain_code}

@@ -17,10 +17,10 @@ use Rattle.suifvm_ir.specs.declared.insn.VmCallee.TheVariants as callee
 use Rattle.suifvm_ir.specs.declared.insn.VmInsn.{VmInsn}
 use Rattle.suifvm_ir.specs.declared.insn.VmInsn.TheVariants as x
 use Rattle.suifvm_ir.specs.Insns.{targets_of}
-use Rattle.suifvm_ir.specs.Functions.{AllInsns, GoesToBlocks}
+use Rattle.pass_core.specs.Functions.{AllInsns, GoesToBlocks}
 use Rattle.suifvm_ir.specs.Programs.{VmFunction, is_main, main_count, function_takes, callee_takes, names_what_is_there, IsLawfulFunction}
-use Rattle.data_object.specs.declared.DataObject.{DataObject}
-use Rattle.vm_meaning.specs.Behave.{Registers, registers_of, code_of, sizes_in, site_in_function, vm_code, vm_run, start_world, main_of}
+use Rattle.mem_objects.specs.declared.DataObject.{DataObject}
+use Rattle.suifvm_meaning.specs.Behave.{Registers, registers_of, code_of, sizes_in, site_in_function, vm_code, vm_run, start_world, main_of}
 use Rattle.temp_ir.specs.Programs as temps
 use Rattle.alloc_model.specs.Effect.{holder_eq, entry_holders}
 use Rattle.alloc_model.specs.Stores.{put_all, empty}
@@ -28,9 +28,9 @@ use Rattle.alloc_model.specs.Contents.{Content}
 use Rattle.alloc_model.specs.Temporaries.{Temps, TempsEnd, temp_run}
 use Rattle.alloc_model.specs.Temporaries as alloc
 use Rattle.selection_code.specs.Fields.{HasFields}
-use Rattle.value_tests.proofs.Lockstep.{tests_keep}
-use Rattle.value_tests.proofs.Functions.{tested_function, all_mapped, insns_kept}
-use Rattle.value_tests.proofs.Lawful.{all_lawful, codes_same, names_stay, mains_stay}
+use Rattle.suifvm_zero_branches.proofs.Lockstep.{tests_keep}
+use Rattle.suifvm_zero_branches.proofs.Functions.{tested_function, all_mapped, insns_kept}
+use Rattle.suifvm_zero_branches.proofs.Lawful.{all_lawful, codes_same, names_stay, mains_stay}
 use Rattle.selection_laws.proofs.Plain.{plain_code, selected_plain, fields_kept, has_meaning}
 use Rattle.selection_laws.specs.Laws.{SelectedPrograms}
 use Rattle.selection_laws.proofs.Memories.{bytes_begins, start_has_bytes}

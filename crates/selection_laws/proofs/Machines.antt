@@ -11,7 +11,7 @@ use Rattle.mem_model.specs.World.{Outer, Meter, World, Rooms}
 use Rattle.machine_model.specs.Code.{Stop, Act, Writes, Jumps, Calls, Returns, Stops, Code}
 use Rattle.machine_model.specs.Machine.{Frame, Config, Next, Goes, Over, whole_world, turn_if, stop_ending, act_on, step_with, step_at, step, go_on, exec}
 use Rattle.machine_model.proofs.Runs.{steps_add_up}
-use Rattle.suifvm_ir.specs.Functions.{last_of}
+use Rattle.pass_core.specs.Functions.{last_of}
 use Rattle.temp_ir.specs.declared.insn.TempInsn.{TempInsn}
 use Rattle.temp_ir.specs.declared.insn.TempInsn.TheVariants as i
 use Rattle.temp_ir.specs.Insns.{flows_on_of}
@@ -19,7 +19,7 @@ use Rattle.alloc_model.specs.Contents.{Content}
 use Rattle.alloc_model.specs.Stores.{without, put_all}
 use Rattle.alloc_model.specs.Effect.{holder_eq, holders_read, holders_written, is_emptied, widest_call, does, takes_turn}
 use Rattle.alloc_model.specs.Temporaries.{TemporaryCode, Temps, blocks_in, temp_site, next_site, flows_out, goes_on, is_left_at, next_if, site_or_next, site_in, temp_site_at, temp_code}
-use Rattle.alpha_forms.specs.Straight.{Ran, After, Halted, NotStraight, goes_with, runs}
+use Rattle.selection_forms.specs.alpha_forms.Straight.{Ran, After, Halted, NotStraight, goes_with, runs}
 
 -- ---- lists
 

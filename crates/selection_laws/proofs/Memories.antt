@@ -16,16 +16,16 @@ use Rattle.mem_model.specs.Cells.{cells_of}
 use Rattle.mem_model.specs.Memory.{Memory, Object, object_at, no_object, fresh_object, begin_object, begin_objects, end_object, end_objects, store_at, copy_at, row_at, IsStorable}
 use Rattle.mem_model.proofs.Changes.{store_at-ok, copy_is, outside-stands, length-bytes_of}
 use Rattle.mem_model.proofs.RowValues.{length-parts_of}
-use Rattle.data_object.specs.declared.DataObject.{DataObject}
-use Rattle.data_object.specs.declared.DataCell.{DataCell}
-use Rattle.data_object.specs.declared.DataCell.TheVariants.{Byte, AddressPart}
-use Rattle.data_object.specs.Globals.{IsLawfulCell, IsLawfulObject, AreLawful}
-use Rattle.data_object.specs.Start.{memory_cell, start_object, start_memory}
-use Rattle.c_arithmetic.specs.declared.integer_type.IntegerType.{IntegerType}
+use Rattle.mem_objects.specs.declared.DataObject.{DataObject}
+use Rattle.mem_objects.specs.declared.DataCell.{DataCell}
+use Rattle.mem_objects.specs.declared.DataCell.TheVariants.{Byte, AddressPart}
+use Rattle.mem_objects.specs.Globals.{IsLawfulCell, IsLawfulObject, AreLawful}
+use Rattle.mem_objects.specs.Start.{memory_cell, start_object, start_memory}
+use Rattle.bk_arithmetic.specs.declared.integer_type.IntegerType.{IntegerType}
 use Rattle.suifvm_ir.specs.declared.types.MemoryType.{MemoryType}
-use Rattle.vm_meaning.specs.Operations.{ok_of, access_bytes, store_through, stored_memory, copied_memory, memory_integer}
-use Rattle.alpha_forms.specs.Registers.{IsCell, AreCells, MemoryHasBytes}
-use Rattle.alpha_copies.proofs.Bytes.{are_append, are_cells_of, are_empty, are_row, bytes_with_row}
+use Rattle.suifvm_meaning.specs.Operations.{ok_of, access_bytes, store_through, stored_memory, copied_memory, memory_integer}
+use Rattle.selection_forms.specs.alpha_forms.Registers.{IsCell, AreCells, MemoryHasBytes}
+use Rattle.selection_forms.proofs.AlphaCopies.Bytes.{are_append, are_cells_of, are_empty, are_row, bytes_with_row}
 
 -- where there is a memory, its bytes are bytes
 abbrev pub AnyMemoryHasBytes : Option Memory → Type 0

@@ -24,20 +24,20 @@ use Rattle.suifvm_ir.specs.declared.insn.CompareOp.TheVariants.{Equal, NotEqual,
 use Rattle.suifvm_ir.specs.declared.insn.VmInsn.{VmInsn}
 use Rattle.suifvm_ir.specs.declared.insn.VmInsn.TheVariants as x
 use Rattle.suifvm_ir.specs.Programs.{VmFunction, alignment_bytes}
-use Rattle.vm_meaning.specs.declared.answer.Answer.TheVariants.{Gives}
-use Rattle.vm_meaning.specs.Operations.{when_value, place_address, loaded_answer, stored_memory, copied_memory, unary_answer, convert_answer, binary_answer, shift_answer, compare_answer}
-use Rattle.vm_meaning.specs.Behave.{Registers, code_of, vm_code}
+use Rattle.suifvm_meaning.specs.declared.answer.Answer.TheVariants.{Gives}
+use Rattle.suifvm_meaning.specs.Operations.{when_value, place_address, loaded_answer, stored_memory, copied_memory, unary_answer, convert_answer, binary_answer, shift_answer, compare_answer}
+use Rattle.suifvm_meaning.specs.Behave.{Registers, code_of, vm_code}
 use Rattle.alloc_model.specs.Effect.{widest_call}
 use Rattle.alloc_model.specs.Temporaries.{Temps}
-use Rattle.alpha_forms.specs.Registers.{IsHeldWord}
-use Rattle.alpha_forms.specs.Laws.{UnaryIsDone, BinaryIsDone, ShiftIsDone, CompareIsDone}
-use Rattle.alpha_forms.proofs.Reading.{loads_done}
-use Rattle.alpha_forms.proofs.Storing.{stores_done}
-use Rattle.alpha_forms.proofs.Done.{moves_done, negations_done, complements_done, sums_done, differences_done, products_done, conjunctions_done, disjunctions_done, exclusive_disjunctions_done, equalities_done, inequalities_done, less_done, at_most_done, conversions_done}
-use Rattle.alpha_forms.proofs.Dividing.{quotients_done, remainders_done}
-use Rattle.alpha_forms.proofs.Moving.{arithmetic_shifts_done, left_shifts_done, logical_shifts_done}
-use Rattle.alpha_forms.proofs.Others.{constants_loaded, addresses_loaded}
-use Rattle.alpha_copies.proofs.Copying.{copies_done}
+use Rattle.selection_forms.specs.alpha_forms.Registers.{IsHeldWord}
+use Rattle.selection_forms.specs.alpha_forms.Laws.{UnaryIsDone, BinaryIsDone, ShiftIsDone, CompareIsDone}
+use Rattle.selection_forms.proofs.AlphaForms.Reading.{loads_done}
+use Rattle.selection_forms.proofs.AlphaForms.Storing.{stores_done}
+use Rattle.selection_forms.proofs.AlphaForms.Done.{moves_done, negations_done, complements_done, sums_done, differences_done, products_done, conjunctions_done, disjunctions_done, exclusive_disjunctions_done, equalities_done, inequalities_done, less_done, at_most_done, conversions_done}
+use Rattle.selection_forms.proofs.AlphaForms.Dividing.{quotients_done, remainders_done}
+use Rattle.selection_forms.proofs.AlphaForms.Moving.{arithmetic_shifts_done, left_shifts_done, logical_shifts_done}
+use Rattle.selection_forms.proofs.AlphaForms.Others.{constants_loaded, addresses_loaded}
+use Rattle.selection_forms.proofs.AlphaCopies.Copying.{copies_done}
 use Rattle.selection_code.specs.Instructions.{temp_of}
 use Rattle.selection_code.specs.Functions.{selected_blocks}
 use Rattle.selection_laws.proofs.Values.{value_held, unary_held, convert_held, binary_held, shift_held, compare_held, load_held}

@@ -5,9 +5,9 @@ use Rattle.suifvm_ir.specs.Programs.{VmFunction}
 use Rattle.suifvm_ir.specs.declared.insn.VmInsn.{VmInsn}
 use Rattle.suifvm_ir.specs.declared.insn.VmInsn.TheVariants as x
 use Rattle.alloc_model.specs.Temporaries.{TemporaryCode}
-use Rattle.value_tests.specs.declared.known.RegisterFact.{RegisterFact}
-use Rattle.value_tests.specs.Tests.{tested_insn, HasMeaning}
-use Rattle.value_tests.proofs.Functions.{tested_function}
+use Rattle.suifvm_zero_branches.specs.declared.known.RegisterFact.{RegisterFact}
+use Rattle.suifvm_zero_branches.specs.Tests.{tested_insn, HasMeaning}
+use Rattle.suifvm_zero_branches.proofs.Functions.{tested_function}
 use Rattle.selection_code.specs.Fields.{HasFields}
 use Rattle.selection_code.specs.Functions.{selected_blocks}
 use Rattle.selection_laws.specs.Selected.{selected_code}

@@ -15,10 +15,10 @@ use Rattle.suifvm_ir.specs.declared.insn.VmInsn.{VmInsn}
 use Rattle.suifvm_ir.specs.declared.insn.VmInsn.TheVariants as x
 use Rattle.suifvm_ir.specs.Insns.{named_register, reads_of, writes_of}
 use Rattle.suifvm_ir.specs.Programs.{VmFunction}
-use Rattle.vm_meaning.specs.declared.answer.Answer.{Answer}
-use Rattle.vm_meaning.specs.declared.answer.Answer.TheVariants.{Gives, TrapsWith, Fails}
-use Rattle.vm_meaning.specs.Effect.{does, takes_turn, writes, changes}
-use Rattle.vm_meaning.specs.Behave.{Registers, first_or_unset, set_register, set_registers, code_of, insn_site, next_site, site_or_next, site_in_block, site_in_function, vm_code}
+use Rattle.suifvm_meaning.specs.declared.answer.Answer.{Answer}
+use Rattle.suifvm_meaning.specs.declared.answer.Answer.TheVariants.{Gives, TrapsWith, Fails}
+use Rattle.suifvm_meaning.specs.Effect.{does, takes_turn, writes, changes}
+use Rattle.suifvm_meaning.specs.Behave.{Registers, first_or_unset, set_register, set_registers, code_of, insn_site, next_site, site_or_next, site_in_block, site_in_function, vm_code}
 use Rattle.temp_ir.specs.declared.insn.TempInsn.{TempInsn}
 use Rattle.temp_ir.specs.declared.insn.TempInsn.TheVariants as i
 use Rattle.alloc_model.specs.Contents.{Content, Plain}
@@ -27,9 +27,9 @@ use Rattle.alloc_model.specs.Stores.{put, without}
 use Rattle.alloc_model.specs.Effect.{Temp, Fixed, holder_eq, holders_read, is_emptied, widest_call}
 use Rattle.alloc_model.specs.Effect as temps
 use Rattle.alloc_model.specs.Temporaries.{Temps, temp_site, temp_code}
-use Rattle.alpha_forms.specs.Straight.{Ran, After, Halted, runs}
-use Rattle.alpha_forms.proofs.Runs.{put_here, put_beside}
-use Rattle.alpha_forms.specs.Registers.{IsOfRegister, IsHeldWord, MemoryHasBytes, PutsValue, CodeAnswers, ComesToMemory}
+use Rattle.selection_forms.specs.alpha_forms.Straight.{Ran, After, Halted, runs}
+use Rattle.selection_forms.proofs.AlphaForms.Runs.{put_here, put_beside}
+use Rattle.selection_forms.specs.alpha_forms.Registers.{IsOfRegister, IsHeldWord, MemoryHasBytes, PutsValue, CodeAnswers, ComesToMemory}
 use Rattle.selection_code.specs.Instructions.{temp_of, selected_insn, result_items}
 use Rattle.selection_code.specs.Functions.{selected_insns, parameter_items, selected_blocks}
 use Rattle.selection_laws.proofs.Plain.{plain_code}

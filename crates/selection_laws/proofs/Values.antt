@@ -10,15 +10,15 @@ use Rattle.mem_model.specs.declared.value.MemFault.{MemFault}
 use Rattle.mem_model.specs.declared.value.MemFault.TheVariants.{Never, PartPointer}
 use Rattle.mem_model.specs.Memory.{Memory, load_at}
 use Rattle.mem_model.specs.Pointers.{pointer_plus, pointer_minus, is_live, is_offset, size_at, ptr_plus}
-use Rattle.c_arithmetic.specs.declared.integer_type.IntegerType.{IntegerType}
-use Rattle.c_arithmetic.specs.declared.integer_type.IntegerType.TheVariants.{Int, UnsignedInt, Long, UnsignedLong}
-use Rattle.c_arithmetic.specs.declared.outcome.ArithmeticOutcome.{ArithmeticOutcome}
-use Rattle.c_arithmetic.specs.declared.outcome.ArithmeticOutcome.TheVariants as o
-use Rattle.c_arithmetic.specs.Words.{extension, is_word, residue}
-use Rattle.c_arithmetic.specs.Operations as c
-use Rattle.c_arithmetic.specs.Outcomes.{IsWordOf}
-use Rattle.c_arithmetic.proofs.LowBits.{extension-below}
-use Rattle.c_arithmetic.proofs.Results.{sum-word, difference-word, product-word, negation-word, quotient-word, remainder-word, left_shift-word, right_shift-word}
+use Rattle.bk_arithmetic.specs.declared.integer_type.IntegerType.{IntegerType}
+use Rattle.bk_arithmetic.specs.declared.integer_type.IntegerType.TheVariants.{Int, UnsignedInt, Long, UnsignedLong}
+use Rattle.bk_arithmetic.specs.declared.outcome.ArithmeticOutcome.{ArithmeticOutcome}
+use Rattle.bk_arithmetic.specs.declared.outcome.ArithmeticOutcome.TheVariants as o
+use Rattle.bk_arithmetic.specs.Words.{extension, is_word, residue}
+use Rattle.bk_arithmetic.specs.Operations as c
+use Rattle.bk_arithmetic.specs.Outcomes.{IsWordOf}
+use Rattle.bk_arithmetic.proofs.LowBits.{extension-below}
+use Rattle.bk_arithmetic.proofs.Results.{sum-word, difference-word, product-word, negation-word, quotient-word, remainder-word, left_shift-word, right_shift-word}
 use Rattle.suifvm_ir.specs.declared.types.VmType.{VmType}
 use Rattle.suifvm_ir.specs.declared.types.VmType.TheVariants.{S32, U32, S64, U64, P64}
 use Rattle.suifvm_ir.specs.declared.types.MemoryType.{MemoryType}
@@ -29,10 +29,10 @@ use Rattle.suifvm_ir.specs.declared.insn.VmBinaryOp.TheVariants.{Add, Subtract, 
 use Rattle.suifvm_ir.specs.declared.insn.ShiftOp.{ShiftOp}
 use Rattle.suifvm_ir.specs.declared.insn.ShiftOp.TheVariants.{ArithmeticRight, Left, LogicalRight}
 use Rattle.suifvm_ir.specs.declared.insn.CompareOp.{CompareOp}
-use Rattle.vm_meaning.specs.declared.answer.Answer.{Answer}
-use Rattle.vm_meaning.specs.declared.answer.Answer.TheVariants.{Gives, TrapsWith, Fails}
-use Rattle.vm_meaning.specs.Operations.{is_value_of, when_value, outcome_answer, value_answer, distance_answer, test_answer, on_number, on_numbers, unary_number, unary_answer, unary_pointer, conversion_answer, convert_answer, memory_integer, integer_of, binary_number, pointer_answer, binary_answer, signed_type, without_sign, shift_number, shift_by, shift_answer, comparison_answer, compare_answer, compare_number, extended_value, load_answer, load_through, loaded_answer, access_bytes}
-use Rattle.alpha_forms.specs.Registers.{IsHeldWord}
+use Rattle.suifvm_meaning.specs.declared.answer.Answer.{Answer}
+use Rattle.suifvm_meaning.specs.declared.answer.Answer.TheVariants.{Gives, TrapsWith, Fails}
+use Rattle.suifvm_meaning.specs.Operations.{is_value_of, when_value, outcome_answer, value_answer, distance_answer, test_answer, on_number, on_numbers, unary_number, unary_answer, unary_pointer, conversion_answer, convert_answer, memory_integer, integer_of, binary_number, pointer_answer, binary_answer, signed_type, without_sign, shift_number, shift_by, shift_answer, comparison_answer, compare_answer, compare_number, extended_value, load_answer, load_through, loaded_answer, access_bytes}
+use Rattle.selection_forms.specs.alpha_forms.Registers.{IsHeldWord}
 use Rattle.mem_model.specs.Cells.{pointer_of, first_pointer, cells_eq, bytes_of, parts_of, is_empty, value_of, value_or_fault}
 use Rattle.mem_model.specs.Memory.{read_fault, fault_or, row_at}
 use Rattle.mem_model.specs.declared.value.Cell.{Cell}

@@ -4,7 +4,7 @@ use Rattle.mem_model.specs.World.{Rooms}
 use Rattle.mem_model.specs.Ending.{Ending, IsDefined}
 use Rattle.suifvm_ir.specs.declared.program.VmProgram.{VmProgram}
 use Rattle.temp_ir.specs.declared.program.TempProgram.{TempProgram}
-use Rattle.vm_meaning.specs.Behave.{behave_vm}
+use Rattle.suifvm_meaning.specs.Behave.{behave_vm}
 use Rattle.alloc_model.specs.Temporaries.{TempsEnd}
 use Rattle.selection_laws.specs.Selected.{IsSelected}
 

@@ -1,11 +1,11 @@
 -- When a program over temporaries is the selected one of a program over virtual registers.
 use Rattle.std.specs.Prelude.{◌≡◌, map, All}
-use Rattle.suifvm_ir.specs.Functions.{AllInsns}
+use Rattle.pass_core.specs.Functions.{AllInsns}
 use Rattle.suifvm_ir.specs.Programs.{VmFunction}
 use Rattle.suifvm_ir.specs.declared.program.VmProgram.{VmProgram}
 use Rattle.temp_ir.specs.declared.program.TempProgram.{TempProgram}
 use Rattle.alloc_model.specs.Temporaries.{TemporaryCode, code_of}
-use Rattle.value_tests.specs.Tests.{tested_block}
+use Rattle.suifvm_zero_branches.specs.Tests.{tested_block}
 use Rattle.selection_code.specs.Fields.{HasFields}
 use Rattle.selection_code.specs.Functions.{selected_blocks}
 

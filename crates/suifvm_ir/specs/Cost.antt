@@ -7,7 +7,7 @@ use Rattle.suifvm_ir.specs.declared.insn.VmBinaryOp.TheVariants.{Divide, Remaind
 use Rattle.suifvm_ir.specs.declared.insn.VmInsn.{VmInsn}
 use Rattle.suifvm_ir.specs.declared.insn.VmInsn.TheVariants.{LoadConstant, LoadAddress, Load, Store, Copy, Unary, Binary, Shift, Convert, Compare, Branch, Jump, Call, Return, Mark, Nop}
 use Rattle.suifvm_ir.specs.Insns.{targets_of, flows_on_of}
-use Rattle.suifvm_ir.specs.Functions.{edge_count}
+use Rattle.pass_core.specs.Functions.{edge_count}
 use Rattle.suifvm_ir.specs.Programs.{VmFunction}
 
 -- the most Alpha instructions that an operator becomes: a division is the call of a routine, with what moves its

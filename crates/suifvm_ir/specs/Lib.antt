@@ -1,6 +1,4 @@
 pub mod Insns
-pub mod Functions
-pub mod Live
 pub mod Programs
 pub mod Cost
 pub mod Text

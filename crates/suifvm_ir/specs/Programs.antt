@@ -1,7 +1,7 @@
 -- What every program keeps, and its size.
 use Rattle.std.specs.Prelude.{◌≡◌, ℕ, ◌+◌, ◌*◌, ◌%◌, ◌<◌, ◌≤◌, ◌==◌, ◌||◌, nat_lt, nat_le, Bool, true, false, List, [], All, IsTrue, length, sum_by, count_by, slice_get, slice_index_or, Option, Some, None, codes, bytes_eq}
 use Rattle.std.specs.List.{list_all}
-use Rattle.data_object.specs.declared.DataObject.{DataObject}
+use Rattle.mem_objects.specs.declared.DataObject.{DataObject}
 use Rattle.suifvm_ir.specs.declared.types.Alignment.{Alignment}
 use Rattle.suifvm_ir.specs.declared.types.Alignment.TheVariants.{One, Two, Four, Eight}
 use Rattle.suifvm_ir.specs.declared.insn.VmObject.{VmObject}
@@ -12,11 +12,11 @@ use Rattle.suifvm_ir.specs.declared.insn.VmCallee.{VmCallee}
 use Rattle.suifvm_ir.specs.declared.insn.VmCallee.TheVariants as c
 use Rattle.suifvm_ir.specs.declared.insn.VmInsn.{VmInsn}
 use Rattle.suifvm_ir.specs.declared.insn.VmInsn.TheVariants.{LoadAddress, Copy, Call, Mark}
-use Rattle.suifvm_ir.specs.declared.function.MemoryLocal.{MemoryLocal}
-use Rattle.suifvm_ir.specs.declared.function.Func.{Func}
+use Rattle.pass_core.specs.declared.function.MemoryLocal.{MemoryLocal}
+use Rattle.pass_core.specs.declared.function.Func.{Func}
 use Rattle.suifvm_ir.specs.contracts.references.VmInsnInsn.TheImpl.{ghosts}
 use Rattle.suifvm_ir.specs.Insns.{targets_of}
-use Rattle.suifvm_ir.specs.Functions.{AllInsns, count_of}
+use Rattle.pass_core.specs.Functions.{AllInsns, count_of}
 
 -- a function over these instructions
 abbrev pub VmFunction : Type 0

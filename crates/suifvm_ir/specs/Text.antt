@@ -25,7 +25,7 @@ use Rattle.suifvm_ir.specs.declared.insn.VmCallee.TheVariants as callee
 use Rattle.suifvm_ir.specs.declared.insn.TypedRegister.{TypedRegister}
 use Rattle.suifvm_ir.specs.declared.insn.VmInsn.{VmInsn}
 use Rattle.suifvm_ir.specs.declared.insn.VmInsn.TheVariants.{LoadConstant, LoadAddress, Load, Store, Copy, Unary, Binary, Shift, Convert, Compare, Branch, Jump, Call, Return, Mark, Nop}
-use Rattle.suifvm_ir.specs.Functions.{count_of}
+use Rattle.pass_core.specs.Functions.{count_of}
 use Rattle.suifvm_ir.specs.Programs.{VmFunction, alignment_bytes}
 
 -- ---- words

@@ -1,13 +1,13 @@
 //! Programs.
 
 ghost use Rattle.std.specs.Prelude.{◌≡◌, ◌<◌, ◌^◌, All, length};
-ghost use Rattle.data_object.specs.Globals.{AreLawful};
+ghost use Rattle.mem_objects.specs.Globals.{AreLawful};
 ghost use Rattle.suifvm_ir.specs.Programs.{main_count, IsLawfulFunction};
 
-use crate::function::Func;
 use crate::insn::VmInsn;
-use c_tree::Seq;
-use data_object::DataObject;
+use bk_containers::Seq;
+use mem_objects::DataObject;
+use pass_core::function::Func;
 
 /// A program: its functions and its objects of static storage, by their numbers.
 #[derive(Drop)]

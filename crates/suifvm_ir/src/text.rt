@@ -2,15 +2,15 @@
 
 ghost use Rattle.std.specs.Prelude.{◌≡◌, ◌+◌, ◌<◌, ◌^◌, ◌++◌, IfOk, OnOk, length};
 ghost use Rattle.bk_ilist.specs.Listing.{items};
-ghost use Rattle.suifvm_ir.specs.Functions.{count_of};
+ghost use Rattle.pass_core.specs.Functions.{count_of};
 ghost use Rattle.suifvm_ir.specs.Text as text;
 
-use crate::block::Block;
-use crate::function::Func;
 use crate::insn::VmInsn;
 use crate::program::VmProgram;
 use crate::text_parts::{put, put_block, put_insn, put_number};
 use bk_ilist::IndexList;
+use pass_core::block::Block;
+use pass_core::function::Func;
 use std::alloc::{AllocError, Global};
 
 /// Puts the line of an instruction.

@@ -4,13 +4,13 @@ ghost use Rattle.std.specs.Prelude.{◌≡◌, ◌++◌, OnOk, decimal, codes};
 ghost use Rattle.std.specs.Fmt.{signed_decimal};
 ghost use Rattle.suifvm_ir.specs.Text as text;
 
-use crate::function::Func;
 use crate::insn::{TypedRegister, VmCallee, VmInsn, VmObject};
 use crate::words::{
     binary_word, branch_word, builtin_word, compare_word, memory_word, shift_word, type_word,
     unary_word,
 };
 use itoa::Buffer;
+use pass_core::function::Func;
 use std::alloc::AllocError;
 
 /// Puts a word.

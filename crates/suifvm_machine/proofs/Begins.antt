@@ -8,15 +8,15 @@ use Rattle.mem_model.specs.Ending.{Undefined}
 use Rattle.mem_model.specs.declared.value.Value.{Value}
 use Rattle.mem_model.proofs.Objects.{begins_change}
 use Rattle.machine_model.specs.Machine.{Config, Over, Goes, go_on, step_at}
-use Rattle.suifvm_ir.specs.declared.function.MemoryLocal.{MemoryLocal}
-use Rattle.vm_meaning.specs.Behave.{Registers, registers_of, sizes_in, vm_code}
+use Rattle.pass_core.specs.declared.function.MemoryLocal.{MemoryLocal}
+use Rattle.suifvm_meaning.specs.Behave.{Registers, registers_of, sizes_in, vm_code}
 use Rattle.suifvm_machine.specs.declared.machine.Call.{Call}
 use Rattle.suifvm_machine.specs.declared.machine.Machine.{Machine}
 use Rattle.suifvm_machine.specs.declared.machine.Stop.TheVariants as stop
-use Rattle.suifvm_machine.specs.declared.machine.NoStart.TheVariants as no_start
+use Rattle.suifvm_machine.specs.declared.machine.StartError.TheVariants as no_start
 use Rattle.suifvm_machine.specs.declared.tables.FunctionTable.{FunctionTable}
 use Rattle.suifvm_machine.specs.declared.tables.ProgramTable.{ProgramTable}
-use Rattle.vm_operations.specs.Tidy.{MemoryIsTidy}
+use Rattle.suifvm_operations.specs.Tidy.{MemoryIsTidy}
 use Rattle.suifvm_machine.specs.Begin.{start_at, first_hidden, Begins, HasNoStart}
 use Rattle.suifvm_machine.specs.Config.{Wait, config_of, frames_of}
 use Rattle.suifvm_machine.specs.Tables.{program_code, FunctionsAreNumbered}

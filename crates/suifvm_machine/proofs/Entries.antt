@@ -10,16 +10,16 @@ use Rattle.mem_model.specs.Ending.{Undefined}
 use Rattle.mem_model.proofs.Objects.{begins_change}
 use Rattle.machine_model.specs.Code.{Calls}
 use Rattle.machine_model.specs.Machine.{Frame, Config, Next, Goes, Over, go_on, step_at}
-use Rattle.suifvm_ir.specs.declared.function.MemoryLocal.{MemoryLocal}
+use Rattle.pass_core.specs.declared.function.MemoryLocal.{MemoryLocal}
 use Rattle.suifvm_ir.specs.declared.insn.VmInsn.{VmInsn}
-use Rattle.vm_meaning.specs.Behave.{Registers, registers_of, vm_code}
+use Rattle.suifvm_meaning.specs.Behave.{Registers, registers_of, vm_code}
 use Rattle.suifvm_machine.specs.declared.machine.Call.{Call}
 use Rattle.suifvm_machine.specs.declared.machine.Machine.{Machine}
 use Rattle.suifvm_machine.specs.declared.machine.Stop.TheVariants as stop
-use Rattle.suifvm_machine.specs.declared.machine.Turn.TheVariants as turn
+use Rattle.suifvm_machine.specs.declared.machine.StepResult.TheVariants as turn
 use Rattle.suifvm_machine.specs.Config.{HiddenState, Wait, IsSound, TurnIs, config_of, frame_of_call, frames_of, program_of, world_in}
 use Rattle.suifvm_machine.specs.model.Acts.{act_there}
-use Rattle.vm_operations.specs.Tidy.{MemoryIsTidy}
+use Rattle.suifvm_operations.specs.Tidy.{MemoryIsTidy}
 use Rattle.suifvm_machine.specs.declared.tables.FunctionTable.{FunctionTable}
 use Rattle.suifvm_machine.proofs.Turns.{unwaited_case}
 use Rattle.suifvm_machine.proofs.Sites.{sizes_are, site_past, site_missing, number_past, number_missing}

@@ -19,18 +19,18 @@ use Rattle.suifvm_ir.specs.declared.insn.VmInsn.{VmInsn}
 use Rattle.suifvm_ir.specs.declared.insn.VmInsn.TheVariants.{LoadConstant, LoadAddress, Load, Store, Copy, Unary, Binary, Shift, Convert, Compare, Branch, Call, Return}
 use Rattle.suifvm_ir.specs.Insns.{returned_register}
 use Rattle.suifvm_ir.specs.Programs.{alignment_bytes}
-use Rattle.vm_meaning.specs.declared.answer.Answer.{Answer}
-use Rattle.vm_meaning.specs.declared.answer.Answer.TheVariants.{Gives}
-use Rattle.vm_meaning.specs.Operations.{when_value, place_address, loaded_answer, stored_memory, copied_memory, unary_answer, binary_answer, shift_answer, convert_answer, compare_answer, value_holds}
-use Rattle.vm_meaning.specs.Effect.{writes, changes, branches, call_act, return_act}
-use Rattle.vm_meaning.specs.Behave.{Registers, registers_of}
+use Rattle.suifvm_meaning.specs.declared.answer.Answer.{Answer}
+use Rattle.suifvm_meaning.specs.declared.answer.Answer.TheVariants.{Gives}
+use Rattle.suifvm_meaning.specs.Operations.{when_value, place_address, loaded_answer, stored_memory, copied_memory, unary_answer, binary_answer, shift_answer, convert_answer, compare_answer, value_holds}
+use Rattle.suifvm_meaning.specs.Effect.{writes, changes, branches, call_act, return_act}
+use Rattle.suifvm_meaning.specs.Behave.{Registers, registers_of}
 use Rattle.suifvm_machine.specs.declared.machine.Machine.{Machine}
-use Rattle.suifvm_machine.specs.declared.machine.Turn.{Turn}
+use Rattle.suifvm_machine.specs.declared.machine.StepResult.{StepResult}
 use Rattle.suifvm_machine.specs.Config.{TurnIs, world_in}
 use Rattle.suifvm_machine.specs.model.Acts.{act_there}
 use Rattle.suifvm_machine.proofs.Effects.{done_as, done_there}
 
-module _ (m new : Machine) (r : Turn) (insn : VmInsn) where
+module _ (m new : Machine) (r : StepResult) (insn : VmInsn) where
   abbrev rs : Registers
   rs = registers_of (drop m.here.base m.stack.items)
 

@@ -4,7 +4,7 @@ use Rattle.std.proofs.lemmas.List.{map-append, at_drop_more, at_drop_all}
 use Rattle.bk_ilist.specs.Listing.{items}
 use Rattle.suifvm_ir.specs.declared.insn.VmInsn.{VmInsn}
 use Rattle.suifvm_ir.specs.Programs.{VmFunction}
-use Rattle.vm_meaning.specs.Behave.{FunctionCode, code_of}
+use Rattle.suifvm_meaning.specs.Behave.{FunctionCode, code_of}
 use Rattle.suifvm_machine.specs.declared.tables.BlockTable.{BlockTable}
 use Rattle.suifvm_machine.specs.declared.tables.FunctionTable.{FunctionTable}
 use Rattle.suifvm_machine.specs.Tables.{block_insns, table_code}

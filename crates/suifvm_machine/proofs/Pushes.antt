@@ -4,8 +4,8 @@ use Rattle.std.specs.Prelude.{◌&&◌}
 use Rattle.std.specs.List.{list_all}
 use Rattle.std.proofs.lemmas.List.{map-append, take_more, take-append-le, at_drop_more, at_drop_all, take_all}
 use Rattle.mem_model.specs.declared.value.Value.{Value}
-use Rattle.vm_meaning.specs.Behave.{Registers, registers_of}
-use Rattle.vm_meaning.specs.Operations.{is_set}
+use Rattle.suifvm_meaning.specs.Behave.{Registers, registers_of}
+use Rattle.suifvm_meaning.specs.Operations.{is_set}
 
 -- the front of a stack that grew is what it was
 front : (old more stack : List Value) (end : ℕ) → stack ≡ old ++ more → end ≡ length old → take end stack ≡ old

@@ -9,17 +9,17 @@ use Rattle.mem_model.specs.World.{World, Rooms, room_of}
 use Rattle.mem_model.proofs.Objects.{ends_change}
 use Rattle.machine_model.specs.Code.{Code, Returns}
 use Rattle.machine_model.specs.Machine.{Frame, Next, Goes, Over, go_on, status_ending, resume, return_to}
-use Rattle.suifvm_ir.specs.declared.function.MemoryLocal.{MemoryLocal}
+use Rattle.pass_core.specs.declared.function.MemoryLocal.{MemoryLocal}
 use Rattle.suifvm_ir.specs.declared.insn.VmInsn.{VmInsn}
 use Rattle.suifvm_ir.specs.Insns.{writes_of, named_register}
-use Rattle.vm_meaning.specs.Behave.{Registers, registers_of, set_registers, first_or_unset, value_status, sizes_in, insn_site, site_or_next, vm_code}
+use Rattle.suifvm_meaning.specs.Behave.{Registers, registers_of, set_registers, first_or_unset, value_status, sizes_in, insn_site, site_or_next, vm_code}
 use Rattle.suifvm_machine.specs.declared.machine.Machine.{Machine}
 use Rattle.suifvm_machine.specs.declared.machine.Stop.{Stop}
-use Rattle.suifvm_machine.specs.declared.machine.Turn.TheVariants as turn
+use Rattle.suifvm_machine.specs.declared.machine.StepResult.TheVariants as turn
 use Rattle.suifvm_machine.specs.Config.{HiddenState, Wait, IsSound, TurnIs, Wrote, config_of, frame_of_call, frames_of, point_of, program_of, world_in, wrote, ending_by}
 use Rattle.suifvm_machine.specs.model.Acts.{act_there, ends_with}
 use Rattle.suifvm_machine.specs.Tables.{block_insns}
-use Rattle.vm_operations.specs.Tidy.{MemoryIsTidy}
+use Rattle.suifvm_operations.specs.Tidy.{MemoryIsTidy}
 use Rattle.suifvm_machine.proofs.Sites.{sizes_are, site_there}
 use Rattle.suifvm_machine.proofs.Turns.{number_here}
 

@@ -5,8 +5,8 @@ use Rattle.std.proofs.Math.Nat.{zero-add}
 use Rattle.std.proofs.lemmas.Option.{slice_get-map}
 use Rattle.std.proofs.lemmas.List.Sums.{sum_by-cons}
 use Rattle.suifvm_ir.specs.declared.insn.VmInsn.{VmInsn}
-use Rattle.suifvm_ir.specs.Functions.{count_of}
-use Rattle.vm_meaning.specs.Behave.{FunctionCode, site_in_function, site_in_block, site_or_next, blocks_in, sizes_in, point_number, vm_code}
+use Rattle.pass_core.specs.Functions.{count_of}
+use Rattle.suifvm_meaning.specs.Behave.{FunctionCode, site_in_function, site_in_block, site_or_next, blocks_in, sizes_in, point_number, vm_code}
 use Rattle.suifvm_machine.specs.declared.tables.BlockTable.{BlockTable}
 use Rattle.suifvm_machine.specs.declared.tables.FunctionTable.{FunctionTable}
 use Rattle.suifvm_machine.specs.declared.tables.ProgramTable.{ProgramTable}

@@ -11,17 +11,17 @@ use Rattle.mem_model.specs.Ending.{Undefined}
 use Rattle.machine_model.specs.Machine.{Config, Next, Goes, Over, go_on, exec, step_at}
 use Rattle.suifvm_ir.specs.declared.insn.VmInsn.{VmInsn}
 use Rattle.suifvm_ir.specs.Insns.{writes_of}
-use Rattle.vm_meaning.specs.Effect.{writes, changes}
-use Rattle.vm_meaning.specs.declared.answer.Answer.{Answer}
-use Rattle.vm_meaning.specs.declared.answer.Answer.TheVariants.{Gives, TrapsWith, Fails}
-use Rattle.vm_meaning.specs.Behave.{Registers, registers_of, set_register, set_registers, point_number, vm_code}
+use Rattle.suifvm_meaning.specs.Effect.{writes, changes}
+use Rattle.suifvm_meaning.specs.declared.answer.Answer.{Answer}
+use Rattle.suifvm_meaning.specs.declared.answer.Answer.TheVariants.{Gives, TrapsWith, Fails}
+use Rattle.suifvm_meaning.specs.Behave.{Registers, registers_of, set_register, set_registers, point_number, vm_code}
 use Rattle.suifvm_machine.specs.declared.machine.Machine.{Machine}
 use Rattle.suifvm_machine.specs.declared.machine.Stop.TheVariants as stop
-use Rattle.suifvm_machine.specs.declared.machine.Turn.{Turn}
-use Rattle.suifvm_machine.specs.declared.machine.Turn.TheVariants as turn
+use Rattle.suifvm_machine.specs.declared.machine.StepResult.{StepResult}
+use Rattle.suifvm_machine.specs.declared.machine.StepResult.TheVariants as turn
 use Rattle.suifvm_machine.specs.Config.{HiddenState, Wait, IsSound, SameTraffic, ShowsAs, Comes, TurnIs, Wrote, config_of, world_in, frames_of, point_of, program_of, ending_by, wrote}
 use Rattle.suifvm_machine.specs.model.Acts.{act_there, at_block}
-use Rattle.vm_operations.specs.Tidy.{MemoryIsTidy}
+use Rattle.suifvm_operations.specs.Tidy.{MemoryIsTidy}
 use Rattle.suifvm_machine.proofs.Sites.{number_there, number_past, site_past}
 
 pub unwaited_case : (let b : Bool = false in b ≡ true) → ⊥
@@ -33,7 +33,7 @@ same_traffic h = record { input = refl; takings = refl; output = refl }
 shows : (m : Machine) (h : HiddenState) → ShowsAs (world_in m h) h
 shows m h = record { input = refl; takings = refl; output = refl }
 
-pub turn_as : (old new : Machine) (r : Turn) (f g : Rooms → HiddenState → Next Registers) → ((rooms : Rooms) (h : HiddenState) → f rooms h ≡ g rooms h) → TurnIs old new r f → TurnIs old new r g
+pub turn_as : (old new : Machine) (r : StepResult) (f g : Rooms → HiddenState → Next Registers) → ((rooms : Rooms) (h : HiddenState) → f rooms h ≡ g rooms h) → TurnIs old new r f → TurnIs old new r g
 turn_as old new r f g same t = record {
   sound = t.sound;
   program = t.program;
@@ -125,12 +125,12 @@ exits_turn m status i = stops_there m (stop.Exits status) _ (λ rooms h. refl)
 pub number_here : (m : Machine) → IsSound m → point_number (program_of m) (point_of m.here) ≡ m.here.row.now.first + m.here.at
 number_here m sound = number_there m.program.now m.here.function m.here.table.now sound.here.table sound.numbers m.here.block m.here.at m.here.row.now sound.here.row
 
-pub fails_turn : (m : Machine) (r : Turn) (i : VmInsn) → IsSound m → r ≡ turn.Over (stop.Undefined (m.here.row.now.first + m.here.at)) → TurnIs m m r (λ rooms h. act_there rooms m h i (Stops HasNoMeaning (world_in m h).outer))
+pub fails_turn : (m : Machine) (r : StepResult) (i : VmInsn) → IsSound m → r ≡ turn.Over (stop.Undefined (m.here.row.now.first + m.here.at)) → TurnIs m m r (λ rooms h. act_there rooms m h i (Stops HasNoMeaning (world_in m h).outer))
 fails_turn m r i sound is =
     subst (λ x. TurnIs m m x (λ rooms h. act_there rooms m h i (Stops HasNoMeaning (world_in m h).outer))) (sym is)
     (stops_there m (stop.Undefined (m.here.row.now.first + m.here.at)) (λ rooms h. act_there rooms m h i (Stops HasNoMeaning (world_in m h).outer)) (λ rooms h. ap (λ k. Over (Undefined (world_in m h) k)) (number_here m sound)))
 
-by_answer : (m new : Machine) (r : Turn) (i : VmInsn) (a b : Answer) → b ≡ a → TurnIs m new r (λ rooms h. act_there rooms m h i (writes a (world_in m h).outer)) → TurnIs m new r (λ rooms h. act_there rooms m h i (writes b (world_in m h).outer))
+by_answer : (m new : Machine) (r : StepResult) (i : VmInsn) (a b : Answer) → b ≡ a → TurnIs m new r (λ rooms h. act_there rooms m h i (writes a (world_in m h).outer)) → TurnIs m new r (λ rooms h. act_there rooms m h i (writes b (world_in m h).outer))
 by_answer m new r i a b is t = subst (λ x. TurnIs m new r (λ rooms h. act_there rooms m h i (writes x (world_in m h).outer))) (sym is) t
 
 pub give_value : (m new : Machine) (destination : ℕ) (v : Value) (answer : Answer) (i : VmInsn) → answer ≡ Gives v → Wrote m new (destination ∷ []) v → writes_of i ≡ destination ∷ [] → TurnIs m new turn.Goes (λ rooms h. act_there rooms m h i (writes answer (world_in m h).outer))
@@ -139,7 +139,7 @@ give_value m new destination v answer i is w written = by_answer m new turn.Goes
 pub give_trap : (m : Machine) (code : ℕ) (answer : Answer) (i : VmInsn) → answer ≡ TrapsWith code → TurnIs m m (turn.Over (stop.Traps code)) (λ rooms h. act_there rooms m h i (writes answer (world_in m h).outer))
 give_trap m code answer i is = by_answer m m (turn.Over (stop.Traps code)) i (TrapsWith code) answer is (traps_turn m code i)
 
-pub give_failure : (m : Machine) (r : Turn) (answer : Answer) (i : VmInsn) → answer ≡ Fails → IsSound m → r ≡ turn.Over (stop.Undefined (m.here.row.now.first + m.here.at)) → TurnIs m m r (λ rooms h. act_there rooms m h i (writes answer (world_in m h).outer))
+pub give_failure : (m : Machine) (r : StepResult) (answer : Answer) (i : VmInsn) → answer ≡ Fails → IsSound m → r ≡ turn.Over (stop.Undefined (m.here.row.now.first + m.here.at)) → TurnIs m m r (λ rooms h. act_there rooms m h i (writes answer (world_in m h).outer))
 give_failure m r answer i is sound failed = by_answer m m r i Fails answer is (fails_turn m r i sound failed)
 
 pub no_memory : (m new : Machine) (f : Rooms → HiddenState → Next Registers) → MemoryIsShort → TurnIs m new turn.NoMemory f
@@ -227,7 +227,7 @@ changed_turn m mid new i memory sound place tidy count mid_is new_is is none =
       world = world_in next h;
     }
 
-pub unchanged_turn : (m mid : Machine) (r : Turn) (i : VmInsn) (memory : Option Memory) → IsSound m → mid ≡ record m { memory = mid.memory } → mid.memory ≡ m.memory → memory ≡ None → r ≡ turn.Over (stop.Undefined (m.here.row.now.first + m.here.at)) → TurnIs m mid r (λ rooms h. act_there rooms m h i (changes memory (world_in m h).outer))
+pub unchanged_turn : (m mid : Machine) (r : StepResult) (i : VmInsn) (memory : Option Memory) → IsSound m → mid ≡ record m { memory = mid.memory } → mid.memory ≡ m.memory → memory ≡ None → r ≡ turn.Over (stop.Undefined (m.here.row.now.first + m.here.at)) → TurnIs m mid r (λ rooms h. act_there rooms m h i (changes memory (world_in m h).outer))
 unchanged_turn m mid r i memory sound mid_is kept is number =
     subst (λ (k : Machine). TurnIs m k r (λ rooms h. act_there rooms m h i (changes memory (world_in m h).outer))) (sym (mid_is ∙ ap (λ x. record m { memory = x }) kept))
     (turn_as m m r (λ rooms h. act_there rooms m h i (Stops HasNoMeaning (world_in m h).outer)) (λ rooms h. act_there rooms m h i (changes memory (world_in m h).outer))

@@ -7,7 +7,7 @@ use Rattle.std.proofs.lemmas.List.{get_or-drop, get_or-set_same, get_or-set_othe
 use Rattle.mem_model.specs.declared.value.Value.{Value}
 use Rattle.mem_model.specs.declared.value.Value.TheVariants.{Unset}
 use Rattle.suifvm_machine.specs.model.Windows.{Grows}
-use Rattle.vm_meaning.specs.Behave.{registers_of, set_register}
+use Rattle.suifvm_meaning.specs.Behave.{registers_of, set_register}
 
 -- unset values behind a list change none of its registers
 pub get_unset : (vs : List Value) (n k : ℕ) → get_or (vs ++ replicate n Unset) k Unset ≡ get_or vs k Unset

@@ -5,11 +5,11 @@ use Rattle.mem_model.specs.declared.value.Value.{Value}
 use Rattle.mem_model.specs.Memory.{Memory}
 use Rattle.mem_model.specs.World.{World, Rooms, room_of, meter_of}
 use Rattle.machine_model.specs.Machine.{Config, Over, exec, start_config}
-use Rattle.vm_meaning.specs.Behave.{Registers, vm_code}
+use Rattle.suifvm_meaning.specs.Behave.{Registers, vm_code}
 use Rattle.suifvm_machine.specs.declared.machine.Machine.{Machine}
 use Rattle.suifvm_machine.specs.declared.machine.Stop.{Stop}
-use Rattle.suifvm_machine.specs.declared.machine.NoStart.{NoStart}
-use Rattle.suifvm_machine.specs.declared.machine.NoStart.TheVariants as no_start
+use Rattle.suifvm_machine.specs.declared.machine.StartError.{StartError}
+use Rattle.suifvm_machine.specs.declared.machine.StartError.TheVariants as no_start
 use Rattle.suifvm_machine.specs.declared.tables.ProgramTable.{ProgramTable}
 use Rattle.suifvm_machine.specs.Config.{HiddenState, IsSound, ShowsAs, ending_by, config_of}
 use Rattle.suifvm_machine.specs.Tables.{program_code}
@@ -47,7 +47,7 @@ pub record IsOverAtOnce (rooms : Rooms) (p : ProgramTable) (main : ℕ) (memory 
   pub shows : ShowsAs last (first_hidden rooms main input)
 
 -- why no machine stands at the start: the first step ends the run, or memory is short
-abbrev pub HasNoStart : ProgramTable → (main : ℕ) → Memory → (turns : ℕ) → NoStart → Type 0
+abbrev pub HasNoStart : ProgramTable → (main : ℕ) → Memory → (turns : ℕ) → StartError → Type 0
 HasNoStart p main memory turns (no_start.Over s) =
     (rooms : Rooms) (input : List ℕ) → IsOverAtOnce rooms p main memory turns input s
 HasNoStart p main memory turns no_start.NoMemory = MemoryIsShort

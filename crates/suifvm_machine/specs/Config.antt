@@ -8,17 +8,17 @@ use Rattle.mem_model.specs.Ending.{Ending, Done, Trap, Undefined, More}
 use Rattle.machine_model.specs.Code.{Point}
 use Rattle.machine_model.specs.Machine.{Frame, Config, Next, Goes, Over, go_on, exec, step}
 use Rattle.suifvm_ir.specs.Insns.{named_register}
-use Rattle.vm_meaning.specs.Effect.{input_word}
-use Rattle.vm_meaning.specs.Behave.{FunctionCode, Registers, registers_of, set_registers, vm_code}
+use Rattle.suifvm_meaning.specs.Effect.{input_word}
+use Rattle.suifvm_meaning.specs.Behave.{FunctionCode, Registers, registers_of, set_registers, vm_code}
 use Rattle.suifvm_machine.specs.declared.machine.Call.{Call}
 use Rattle.suifvm_machine.specs.declared.machine.Machine.{Machine}
 use Rattle.suifvm_machine.specs.declared.machine.Stop.{Stop}
 use Rattle.suifvm_machine.specs.declared.machine.Stop.TheVariants as stop
-use Rattle.suifvm_machine.specs.declared.machine.Turn.{Turn}
-use Rattle.suifvm_machine.specs.declared.machine.Turn.TheVariants as turn
+use Rattle.suifvm_machine.specs.declared.machine.StepResult.{StepResult}
+use Rattle.suifvm_machine.specs.declared.machine.StepResult.TheVariants as turn
 use Rattle.suifvm_machine.specs.declared.tables.ProgramTable.{ProgramTable}
 use Rattle.suifvm_machine.specs.Tables.{program_code, FunctionsAreNumbered}
-use Rattle.vm_operations.specs.Tidy.{MemoryIsTidy}
+use Rattle.suifvm_operations.specs.Tidy.{MemoryIsTidy}
 
 -- ---- where it stands
 
@@ -131,7 +131,7 @@ pub record EndsBy (rooms : Rooms) (p : ProgramTable) (next : Next Registers) (s 
   pub shows : ShowsAs last h
 
 -- what a turn came to, where a step came to `next`
-abbrev pub Comes : Rooms → ProgramTable → Turn → Machine → HiddenState → Next Registers → Type 0
+abbrev pub Comes : Rooms → ProgramTable → StepResult → Machine → HiddenState → Next Registers → Type 0
 Comes rooms p turn.Goes m h next = GoesTo next (config_of m) h
 Comes rooms p (turn.Over s) m h next = EndsBy rooms p next s h
 Comes rooms p (turn.Puts byte) m h next = GoesTo next (λ g. config_of m (with_byte byte g)) h
@@ -145,7 +145,7 @@ abbrev pub step_there : Rooms → Machine → HiddenState → Next Registers
 step_there rooms m h = step Value Registers rooms (vm_code (program_of m)) (config_of m h)
 
 -- whether the run goes on after a turn, at once or when a byte was put or taken
-abbrev pub turn_goes_on : Turn → Bool
+abbrev pub turn_goes_on : StepResult → Bool
 turn_goes_on turn.Goes = true
 turn_goes_on (turn.Over s) = false
 turn_goes_on (turn.Puts byte) = true
@@ -153,7 +153,7 @@ turn_goes_on (turn.Takes destination) = true
 turn_goes_on turn.NoMemory = false
 
 -- whether a value is still to be written
-abbrev pub waits : Turn → Bool
+abbrev pub waits : StepResult → Bool
 waits (turn.Takes destination) = true
 waits turn.Goes = false
 waits (turn.Over s) = false
@@ -161,7 +161,7 @@ waits (turn.Puts byte) = false
 waits turn.NoMemory = false
 
 -- a turn came to what a step comes to
-pub record TurnIs (old new : Machine) (result : Turn) (next : Rooms → HiddenState → Next Registers) : Type 0 where
+pub record TurnIs (old new : Machine) (result : StepResult) (next : Rooms → HiddenState → Next Registers) : Type 0 where
   pub sound : turn_goes_on result ≡ true → IsSound new
   pub program : turn_goes_on result ≡ true → new.program.now ≡ old.program.now
   pub place : waits result ≡ true → new.here.at < length new.here.row.now.insns.items

@@ -1,7 +1,7 @@
 -- What tables stand for.
 use Rattle.std.specs.Prelude.{◌≡◌, ℕ, ◌+◌, List, [], ◌∷◌, map, length}
 use Rattle.suifvm_ir.specs.declared.insn.VmInsn.{VmInsn}
-use Rattle.vm_meaning.specs.Behave.{FunctionCode}
+use Rattle.suifvm_meaning.specs.Behave.{FunctionCode}
 use Rattle.suifvm_machine.specs.declared.tables.BlockTable.{BlockTable}
 use Rattle.suifvm_machine.specs.declared.tables.FunctionTable.{FunctionTable}
 use Rattle.suifvm_machine.specs.declared.tables.ProgramTable.{ProgramTable}

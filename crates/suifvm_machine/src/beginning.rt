@@ -2,17 +2,17 @@
 
 ghost use Rattle.std.specs.Prelude.{◌≡◌, ◌+◌, ◌≤◌, ◌^◌, length, map, IfOk, IfErr, OnOk};
 ghost use Rattle.mem_model.specs.Memory as mem;
-ghost use Rattle.vm_operations.specs.Tidy.{MemoryIsTidy};
+ghost use Rattle.suifvm_operations.specs.Tidy.{MemoryIsTidy};
 ghost use Rattle.suifvm_machine.specs.Begin.{Begins, HasNoStart};
 ghost use Rattle.suifvm_machine.specs.Tables.{FunctionsAreNumbered};
 
-use crate::machine::{Call, Machine, NoStart, Stop, block_at, function_at};
+use crate::machine::{Call, Machine, StartError, Stop, block_at, function_at};
 use crate::tables::ProgramTable;
 use bk_memory::memory_is_short;
 use mem_model::memory::Mem;
+use pass_core::function::MemoryLocal;
 use std::alloc::{AllocError, Global};
-use suifvm_ir::function::MemoryLocal;
-use vm_operations::objects::{MOST_OBJECTS, begin_objects};
+use suifvm_operations::objects::{MOST_OBJECTS, begin_objects};
 
 /// Begins the objects of a call, where so many were made before.
 pub(crate) fn begin_locals(
@@ -42,7 +42,7 @@ pub fn begin<'c, 'p>(
     memory: Mem,
     made: u64,
     turns: u64,
-) -> Result<Machine<'c, 'p>, NoStart>
+) -> Result<Machine<'c, 'p>, StartError>
     requires tidy { MemoryIsTidy memory }
     requires made { made ≡ length memory }
     requires numbers { FunctionsAreNumbered 0 program.now.functions.items program.now.end }
@@ -50,17 +50,17 @@ pub fn begin<'c, 'p>(
     ensures ends { IfErr result (λ why. HasNoStart program.now main memory turns why) }
 {
     let Some(table) = function_at(program, main) else {
-        return Err(NoStart::Over(Stop::Undefined(program.end)));
+        return Err(StartError::Over(Stop::Undefined(program.end)));
     };
     let Some(row) = block_at(table, 0) else {
-        return Err(NoStart::Over(Stop::Undefined(table.end)));
+        return Err(StartError::Over(Stop::Undefined(table.end)));
     };
     let mut begun = memory;
     match begin_locals(&mut begun, made, table.objects) {
         Ok(()) => {}
         Err(error) => {
             memory_is_short(error);
-            return Err(NoStart::NoMemory);
+            return Err(StartError::NoMemory);
         }
     }
     Ok(Machine {

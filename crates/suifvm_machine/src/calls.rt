@@ -10,21 +10,21 @@ ghost use Rattle.suifvm_ir.specs.declared.insn.VmInsn.{VmInsn as Insn};
 ghost use Rattle.suifvm_ir.specs.Insns as insns;
 ghost use Rattle.suifvm_machine.specs.Config as config;
 ghost use Rattle.suifvm_machine.specs.model.Acts as acts;
-ghost use Rattle.vm_meaning.specs.Behave.{registers_of, first_or_unset, value_status};
-ghost use Rattle.vm_meaning.specs.Effect as effect;
-ghost use Rattle.vm_meaning.specs.Operations as operations;
-ghost use Rattle.vm_operations.specs.Tidy.{MemoryIsTidy};
+ghost use Rattle.suifvm_meaning.specs.Behave.{registers_of, first_or_unset, value_status};
+ghost use Rattle.suifvm_meaning.specs.Effect as effect;
+ghost use Rattle.suifvm_meaning.specs.Operations as operations;
+ghost use Rattle.suifvm_operations.specs.Tidy.{MemoryIsTidy};
 
 use crate::beginning::begin_locals;
-use crate::machine::{Call, Machine, Stop, Turn, block_at, function_at, register_in};
+use crate::machine::{Call, Machine, StepResult, Stop, block_at, function_at, register_in};
 use bk_memory::memory_is_short;
 use mem_model::memory::Mem;
 use mem_model::value::Value;
+use pass_core::function::MemoryLocal;
 use std::alloc::AllocError;
-use suifvm_ir::function::MemoryLocal;
 use suifvm_ir::insn::{TypedRegister, VmBuiltin, VmCallee, VmInsn};
-use vm_operations::numbers::is_value_of;
-use vm_operations::objects::end_objects;
+use suifvm_operations::numbers::is_value_of;
+use suifvm_operations::objects::end_objects;
 
 /// Whether a value is set.
 fn is_set(value: Value) -> bool
@@ -147,7 +147,7 @@ fn status_of(value: Value, number: u64) -> Stop
 impl<'c, 'p> Machine<'c, 'p> {
     /// A call of a function of the program.
     #[tactic(auto, using(crate::proofs::Entries::entered_call, crate::proofs::Entries::no_function, crate::proofs::Entries::no_block, crate::proofs::Turns::no_memory))]
-    fn enter(&mut self, function: u32, arguments: &[u32]) -> Turn
+    fn enter(&mut self, function: u32, arguments: &[u32]) -> StepResult
         requires sound { config.IsSound self.old }
         requires within { self.old.here.at < length self.old.here.row.now.insns.items }
         ensures { (i : Insn) → config.TurnIs self.old self.new result (λ rooms h. acts.act_there rooms self.old h i
@@ -156,10 +156,10 @@ impl<'c, 'p> Machine<'c, 'p> {
     {
         let program = self.program;
         let Some(table) = function_at(program, function) else {
-            return Turn::Over(Stop::Undefined(program.end));
+            return StepResult::Over(Stop::Undefined(program.end));
         };
         let Some(row) = block_at(table, 0) else {
-            return Turn::Over(Stop::Undefined(table.end));
+            return StepResult::Over(Stop::Undefined(table.end));
         };
         let base = self.stack.len();
         match begin_call(
@@ -182,18 +182,18 @@ impl<'c, 'p> Machine<'c, 'p> {
                     row,
                 };
                 self.made += table.objects.len() as u64;
-                Turn::Goes
+                StepResult::Goes
             }
             Err(error) => {
                 memory_is_short(error);
-                Turn::NoMemory
+                StepResult::NoMemory
             }
         }
     }
 
     /// Ends the call, and gives a value to the one that waits for it.
     #[tactic(auto, using(crate::proofs::Returns::finished_run, crate::proofs::Returns::back_sound, crate::proofs::Returns::back_place, crate::proofs::Returns::returned_call, crate::proofs::Turns::no_memory))]
-    fn leave(&mut self, value: Value) -> Turn
+    fn leave(&mut self, value: Value) -> StepResult
         requires sound { config.IsSound self.old }
         requires within { self.old.here.at < length self.old.here.row.now.insns.items }
         ensures { (i : Insn) (vs : List AnyValue) → value ≡ first_or_unset vs →
@@ -204,17 +204,17 @@ impl<'c, 'p> Machine<'c, 'p> {
         let count = self.here.table.objects.len() as u64;
         end_objects(&mut self.memory, self.here.own, count);
         match self.callers.pop() {
-            None => Turn::Over(status_of(value, number)),
+            None => StepResult::Over(status_of(value, number)),
             Some(caller) => {
                 self.stack.truncate(self.here.base);
                 self.here = caller;
                 let insn = self.here.row.insns[self.here.at];
                 let destination = destination_of(insn);
                 match self.write(destination, value) {
-                    Ok(()) => Turn::Goes,
+                    Ok(()) => StepResult::Goes,
                     Err(error) => {
                         memory_is_short(error);
-                        Turn::NoMemory
+                        StepResult::NoMemory
                     }
                 }
             }
@@ -222,7 +222,7 @@ impl<'c, 'p> Machine<'c, 'p> {
     }
 
     /// `ret` with a value.
-    fn give_typed(&mut self, typed: TypedRegister) -> Turn
+    fn give_typed(&mut self, typed: TypedRegister) -> StepResult
         requires sound { config.IsSound self.old }
         requires within { self.old.here.at < length self.old.here.row.now.insns.items }
         ensures { (i : Insn) → config.TurnIs self.old self.new result (λ rooms h. acts.act_there rooms self.old h i
@@ -239,7 +239,7 @@ impl<'c, 'p> Machine<'c, 'p> {
     }
 
     /// `ret`.
-    pub(crate) fn give_back(&mut self, value: Option<TypedRegister>) -> Turn
+    pub(crate) fn give_back(&mut self, value: Option<TypedRegister>) -> StepResult
         requires sound { config.IsSound self.old }
         requires within { self.old.here.at < length self.old.here.row.now.insns.items }
         ensures { (i : Insn) → config.TurnIs self.old self.new result (λ rooms h. acts.act_there rooms self.old h i
@@ -255,7 +255,7 @@ impl<'c, 'p> Machine<'c, 'p> {
 
     /// `putchar`.
     #[tactic(auto, using(crate::proofs::Effects::put_word, crate::proofs::Effects::put_address, crate::proofs::Effects::put_unset, crate::proofs::Turns::no_memory))]
-    fn put_char(&mut self, destination: Option<u32>, value: Value) -> Turn
+    fn put_char(&mut self, destination: Option<u32>, value: Value) -> StepResult
         requires sound { config.IsSound self.old }
         requires within { self.old.here.at < length self.old.here.row.now.insns.items }
         ensures { (i : Insn) → insns.writes_of i ≡ insns.named_register destination →
@@ -264,10 +264,10 @@ impl<'c, 'p> Machine<'c, 'p> {
     {
         match value {
             Value::Word(word) => match self.write(destination, Value::Word(word % 256)) {
-                Ok(()) => Turn::Puts((word % 256) as u8),
+                Ok(()) => StepResult::Puts((word % 256) as u8),
                 Err(error) => {
                     memory_is_short(error);
-                    Turn::NoMemory
+                    StepResult::NoMemory
                 }
             },
             Value::Address(_) => self.fail(),
@@ -277,14 +277,14 @@ impl<'c, 'p> Machine<'c, 'p> {
 
     /// `exit`.
     #[tactic(auto, using(crate::proofs::Effects::exit_word, crate::proofs::Effects::exit_address, crate::proofs::Effects::exit_unset))]
-    fn exit(&self, value: Value) -> Turn
+    fn exit(&self, value: Value) -> StepResult
         requires sound { config.IsSound self.now }
         requires within { self.now.here.at < length self.now.here.row.now.insns.items }
         ensures { (i : Insn) → config.TurnIs self.now self.now result (λ rooms h. acts.act_there rooms self.now h i
             (effect.exits_with value (config.world_in self.now h).outer)) }
     {
         match value {
-            Value::Word(word) => Turn::Over(Stop::Exits((word % 256) as u8)),
+            Value::Word(word) => StepResult::Over(Stop::Exits((word % 256) as u8)),
             Value::Address(_) => self.fail(),
             Value::Unset => self.fail(),
         }
@@ -297,7 +297,7 @@ impl<'c, 'p> Machine<'c, 'p> {
         destination: Option<u32>,
         builtin: VmBuiltin,
         arguments: &[u32],
-    ) -> Turn
+    ) -> StepResult
         requires sound { config.IsSound self.old }
         requires within { self.old.here.at < length self.old.here.row.now.insns.items }
         ensures { (i : Insn) → insns.writes_of i ≡ insns.named_register destination →
@@ -309,8 +309,8 @@ impl<'c, 'p> Machine<'c, 'p> {
         let value = first(self.stack.as_slice(), self.here.base, arguments);
         match builtin {
             VmBuiltin::PutChar => self.put_char(destination, value),
-            VmBuiltin::GetChar => Turn::Takes(destination),
-            VmBuiltin::Abort => Turn::Over(Stop::Traps(2)),
+            VmBuiltin::GetChar => StepResult::Takes(destination),
+            VmBuiltin::Abort => StepResult::Over(Stop::Traps(2)),
             VmBuiltin::Exit => self.exit(value),
         }
     }
@@ -322,7 +322,7 @@ impl<'c, 'p> Machine<'c, 'p> {
         destination: Option<u32>,
         callee: VmCallee,
         arguments: &[u32],
-    ) -> Turn
+    ) -> StepResult
         requires sound { config.IsSound self.old }
         requires within { self.old.here.at < length self.old.here.row.now.insns.items }
         ensures { (i : Insn) → insns.writes_of i ≡ insns.named_register destination →

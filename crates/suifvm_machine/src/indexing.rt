@@ -2,12 +2,12 @@
 
 ghost use Rattle.std.specs.Prelude.{◌≡◌, map, IfOk};
 ghost use Rattle.suifvm_machine.specs.Tables.{block_insns, table_code, program_code, BlocksAreNumbered, FunctionsAreNumbered};
-ghost use Rattle.vm_meaning.specs.Behave.{code_of};
+ghost use Rattle.suifvm_meaning.specs.Behave.{code_of};
 
 use crate::tables::{BlockTable, FunctionTable, ProgramTable};
+use pass_core::block::Block;
+use pass_core::function::Func;
 use std::alloc::{AllocError, Global};
-use suifvm_ir::block::Block;
-use suifvm_ir::function::Func;
 use suifvm_ir::insn::VmInsn;
 use suifvm_ir::program::VmProgram;
 

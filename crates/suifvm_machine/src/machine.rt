@@ -2,7 +2,7 @@
 
 ghost use Rattle.std.specs.Prelude.{◌≡◌, ◌<◌, ◌≤◌, take, drop, length, slice_get, Some, None, IfSome, IfNone, OnOk};
 ghost use Rattle.suifvm_machine.specs.model.Windows.{Grows};
-ghost use Rattle.vm_meaning.specs.Behave.{registers_of, set_register};
+ghost use Rattle.suifvm_meaning.specs.Behave.{registers_of, set_register};
 
 use crate::tables::{BlockTable, FunctionTable, ProgramTable};
 use mem_model::memory::Mem;
@@ -55,7 +55,7 @@ pub enum Stop {
 
 /// Why there is no machine at the start of a run.
 #[derive(Clone, Copy, Debug, PartialEq, Eq)]
-pub enum NoStart {
+pub enum StartError {
     /// The first step ends the run.
     Over(Stop),
     /// Memory is short.
@@ -64,7 +64,7 @@ pub enum NoStart {
 
 /// What a turn of the machine came to.
 #[derive(Clone, Copy, Debug, PartialEq, Eq)]
-pub enum Turn {
+pub enum StepResult {
     Goes,
     Over(Stop),
     /// A byte is to be put.

@@ -5,19 +5,19 @@ ghost use Rattle.suifvm_ir.specs.Insns as insns;
 ghost use Rattle.suifvm_machine.specs.Config as config;
 ghost use Rattle.suifvm_machine.specs.model.Acts as acts;
 ghost use Rattle.suifvm_machine.specs.Tables.{block_insns};
-ghost use Rattle.vm_meaning.specs.Behave.{registers_of};
-ghost use Rattle.vm_meaning.specs.Effect as effect;
-ghost use Rattle.vm_meaning.specs.Operations as operations;
+ghost use Rattle.suifvm_meaning.specs.Behave.{registers_of};
+ghost use Rattle.suifvm_meaning.specs.Effect as effect;
+ghost use Rattle.suifvm_meaning.specs.Operations as operations;
 
-use crate::machine::{Machine, Stop, Turn};
+use crate::machine::{Machine, StepResult, Stop};
 use bk_memory::memory_is_short;
 use mem_model::value::{Ptr, Value};
 use std::alloc::AllocError;
 use suifvm_ir::insn::{VmInsn, VmObject};
-use vm_meaning::answer::Answer;
-use vm_operations::numbers::{convert, shift, unary, when_value};
-use vm_operations::objects::load;
-use vm_operations::operators::{binary, compare, value_holds};
+use suifvm_meaning::answer::Answer;
+use suifvm_operations::numbers::{convert, shift, unary, when_value};
+use suifvm_operations::objects::load;
+use suifvm_operations::operators::{binary, compare, value_holds};
 
 /// Whether an instruction takes a turn.
 fn takes_turn(insn: &VmInsn) -> bool
@@ -53,7 +53,7 @@ pub fn address_of(own: u64, place: VmObject, plus: u64) -> Result<Value, AllocEr
 
 impl<'c, 'p> Machine<'c, 'p> {
     /// What an instruction does, after its turn.
-    fn act(&mut self, insn: &VmInsn) -> Turn
+    fn act(&mut self, insn: &VmInsn) -> StepResult
         requires sound { config.IsSound self.old }
         requires within { self.old.here.at < length self.old.here.row.now.insns.items }
         ensures { config.TurnIs self.old self.new result (λ rooms h. acts.act_there rooms self.old h insn.now
@@ -76,7 +76,7 @@ impl<'c, 'p> Machine<'c, 'p> {
                     Ok(value) => self.give(*destination, Answer::Gives(value)),
                     Err(error) => {
                         memory_is_short(error);
-                        Turn::NoMemory
+                        StepResult::NoMemory
                     }
                 }
             }
@@ -163,18 +163,18 @@ impl<'c, 'p> Machine<'c, 'p> {
             VmInsn::Return { value } => self.give_back(*value),
             VmInsn::Mark => {
                 self.here.at += 1;
-                Turn::Goes
+                StepResult::Goes
             }
             VmInsn::Nop => {
                 self.here.at += 1;
-                Turn::Goes
+                StepResult::Goes
             }
         }
     }
 
     /// What an instruction does that takes a turn.
     #[tactic(auto, using(crate::proofs::Effects::step_over))]
-    fn act_in_turn(&mut self, insn: &VmInsn) -> Turn
+    fn act_in_turn(&mut self, insn: &VmInsn) -> StepResult
         requires sound { config.IsSound self.old }
         requires within { self.old.here.at < length self.old.here.row.now.insns.items }
         ensures { slice_get (block_insns self.old.here.row.now) self.old.here.at ≡ Some insn.now →
@@ -182,14 +182,14 @@ impl<'c, 'p> Machine<'c, 'p> {
             config.TurnIs self.old self.new result (λ rooms h. config.step_there rooms self.old h) }
     {
         if self.turns == 0 {
-            return Turn::Over(Stop::Budget);
+            return StepResult::Over(Stop::Budget);
         }
         self.turns -= 1;
         self.act(insn)
     }
 
     /// One step.
-    pub fn step(&mut self) -> Turn
+    pub fn step(&mut self) -> StepResult
         requires { config.IsSound self.old }
         ensures { config.TurnIs self.old self.new result (λ rooms h. config.step_there rooms self.old h) }
     {

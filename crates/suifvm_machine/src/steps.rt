@@ -9,18 +9,18 @@ ghost use Rattle.suifvm_ir.specs.Programs as programs;
 ghost use Rattle.suifvm_machine.specs.Config as config;
 ghost use Rattle.suifvm_machine.specs.model.Acts as acts;
 ghost use Rattle.suifvm_machine.specs.Tables.{block_insns};
-ghost use Rattle.vm_meaning.specs.Behave.{registers_of};
-ghost use Rattle.vm_meaning.specs.Effect as effect;
-ghost use Rattle.vm_meaning.specs.Operations as operations;
+ghost use Rattle.suifvm_meaning.specs.Behave.{registers_of};
+ghost use Rattle.suifvm_meaning.specs.Effect as effect;
+ghost use Rattle.suifvm_meaning.specs.Operations as operations;
 
-use crate::machine::{Call, Machine, Stop, Turn, block_at, register_in, set_register_in};
+use crate::machine::{Call, Machine, StepResult, Stop, block_at, register_in, set_register_in};
 use bk_memory::memory_is_short;
 use mem_model::value::Value;
 use std::alloc::AllocError;
 use suifvm_ir::insn::{VmBranchOp, VmInsn};
 use suifvm_ir::types::{Alignment, MemoryType};
-use vm_meaning::answer::Answer;
-use vm_operations::objects::{copy, store};
+use suifvm_meaning::answer::Answer;
+use suifvm_operations::objects::{copy, store};
 
 /// Whether a branch is taken where its test gives this.
 pub fn is_taken(op: VmBranchOp, test: bool) -> bool
@@ -52,11 +52,11 @@ impl<'c, 'p> Machine<'c, 'p> {
     }
 
     /// The instruction has no meaning.
-    pub(crate) fn fail(&self) -> Turn
+    pub(crate) fn fail(&self) -> StepResult
         requires { self.now.here.at < length self.now.here.row.now.insns.items }
-        ensures { result ≡ Turn.Over (Stop.Undefined (self.now.here.row.now.first + self.now.here.at)) }
+        ensures { result ≡ StepResult.Over (Stop.Undefined (self.now.here.row.now.first + self.now.here.at)) }
     {
-        Turn::Over(Stop::Undefined(self.here.row.first + self.here.at as u64))
+        StepResult::Over(Stop::Undefined(self.here.row.first + self.here.at as u64))
     }
 
     /// Writes a value into a register, if one is named, and goes on with the next instruction.
@@ -82,7 +82,7 @@ impl<'c, 'p> Machine<'c, 'p> {
 
     /// Writes what an operation came to.
     #[tactic(auto, using(crate::proofs::Turns::give_value, crate::proofs::Turns::give_trap, crate::proofs::Turns::give_failure, crate::proofs::Turns::no_memory))]
-    pub(crate) fn give(&mut self, destination: u32, answer: Answer) -> Turn
+    pub(crate) fn give(&mut self, destination: u32, answer: Answer) -> StepResult
         requires sound { config.IsSound self.old }
         requires within { self.old.here.at < length self.old.here.row.now.insns.items }
         ensures { (i : Insn) → insns.writes_of i ≡ destination ∷ [] →
@@ -91,27 +91,27 @@ impl<'c, 'p> Machine<'c, 'p> {
     {
         match answer {
             Answer::Gives(value) => match self.write(Some(destination), value) {
-                Ok(()) => Turn::Goes,
+                Ok(()) => StepResult::Goes,
                 Err(error) => {
                     memory_is_short(error);
-                    Turn::NoMemory
+                    StepResult::NoMemory
                 }
             },
-            Answer::TrapsWith(code) => Turn::Over(Stop::Traps(code)),
+            Answer::TrapsWith(code) => StepResult::Over(Stop::Traps(code)),
             Answer::Fails => self.fail(),
         }
     }
 
     /// Goes on with a block.
     #[tactic(auto, using(crate::proofs::Turns::to_block, crate::proofs::Turns::past_blocks))]
-    pub(crate) fn go_to(&mut self, block: usize) -> Turn
+    pub(crate) fn go_to(&mut self, block: usize) -> StepResult
         requires { config.IsSound self.old }
         ensures { config.TurnIs self.old self.new result
             (λ rooms h. Goes (acts.at_block block (config.config_of self.old h))) }
     {
         let table = self.here.table;
         match block_at(table, block) {
-            None => Turn::Over(Stop::Undefined(table.end)),
+            None => StepResult::Over(Stop::Undefined(table.end)),
             Some(row) => {
                 self.here = Call {
                     function: self.here.function,
@@ -122,7 +122,7 @@ impl<'c, 'p> Machine<'c, 'p> {
                     table,
                     row,
                 };
-                Turn::Goes
+                StepResult::Goes
             }
         }
     }
@@ -135,7 +135,7 @@ impl<'c, 'p> Machine<'c, 'p> {
         pointer: u32,
         plus: i64,
         value: u32,
-    ) -> Turn
+    ) -> StepResult
         requires sound { config.IsSound self.old }
         requires within { self.old.here.at < length self.old.here.row.now.insns.items }
         ensures { (i : Insn) → insns.writes_of i ≡ [] →
@@ -150,7 +150,7 @@ impl<'c, 'p> Machine<'c, 'p> {
         let value = self.get(value);
         if store(&mut self.memory, ty, to, plus, value) {
             self.here.at += 1;
-            Turn::Goes
+            StepResult::Goes
         } else {
             self.fail()
         }
@@ -158,7 +158,13 @@ impl<'c, 'p> Machine<'c, 'p> {
 
     /// `mcpy`.
     #[tactic(auto, using(crate::proofs::Turns::changed_turn, crate::proofs::Turns::unchanged_turn))]
-    pub(crate) fn copy_cells(&mut self, to: u32, from: u32, size: u64, align: Alignment) -> Turn
+    pub(crate) fn copy_cells(
+        &mut self,
+        to: u32,
+        from: u32,
+        size: u64,
+        align: Alignment,
+    ) -> StepResult
         requires sound { config.IsSound self.old }
         requires within { self.old.here.at < length self.old.here.row.now.insns.items }
         ensures { (i : Insn) → insns.writes_of i ≡ [] →
@@ -173,7 +179,7 @@ impl<'c, 'p> Machine<'c, 'p> {
         let from = self.get(from);
         if copy(&mut self.memory, to, from, size, align) {
             self.here.at += 1;
-            Turn::Goes
+            StepResult::Goes
         } else {
             self.fail()
         }
@@ -181,7 +187,7 @@ impl<'c, 'p> Machine<'c, 'p> {
 
     /// `btrue`, `bfalse`.
     #[tactic(auto, using(crate::proofs::Effects::branch_failure, crate::proofs::Effects::branch_taken, crate::proofs::Effects::branch_passed))]
-    pub(crate) fn branch(&mut self, op: VmBranchOp, test: Option<bool>, block: u32) -> Turn
+    pub(crate) fn branch(&mut self, op: VmBranchOp, test: Option<bool>, block: u32) -> StepResult
         requires sound { config.IsSound self.old }
         requires within { self.old.here.at < length self.old.here.row.now.insns.items }
         ensures { (i : Insn) → insns.targets_of i ≡ block ∷ [] → insns.writes_of i ≡ [] →
@@ -194,7 +200,7 @@ impl<'c, 'p> Machine<'c, 'p> {
                 self.go_to(block as usize)
             } else {
                 self.here.at += 1;
-                Turn::Goes
+                StepResult::Goes
             },
         }
     }

@@ -2,7 +2,7 @@
 
 ghost use Rattle.std.specs.Prelude.{◌+◌, ◌<◌, ◌^◌, length};
 
-use suifvm_ir::function::MemoryLocal;
+use pass_core::function::MemoryLocal;
 use suifvm_ir::insn::VmInsn;
 
 /// The instructions of a block.

@@ -10,11 +10,11 @@ use Rattle.suifvm_ir.specs.declared.insn.VmInsn.{VmInsn}
 use Rattle.suifvm_ir.specs.declared.insn.VmInsn.TheVariants.{Jump, Mark}
 use Rattle.suifvm_ir.specs.declared.insn.VmBranchOp.{VmBranchOp}
 use Rattle.suifvm_ir.specs.Insns.{writes_of, targets_of}
-use Rattle.vm_meaning.specs.declared.answer.Answer.{Answer}
-use Rattle.vm_meaning.specs.declared.answer.Answer.TheVariants.{Gives}
-use Rattle.vm_meaning.specs.Effect.{takes_turn, writes, is_branch_taken, branches}
+use Rattle.suifvm_meaning.specs.declared.answer.Answer.{Answer}
+use Rattle.suifvm_meaning.specs.declared.answer.Answer.TheVariants.{Gives}
+use Rattle.suifvm_meaning.specs.Effect.{takes_turn, writes, is_branch_taken, branches}
 use Rattle.suifvm_machine.specs.declared.machine.Machine.{Machine}
-use Rattle.suifvm_machine.specs.declared.machine.Turn.TheVariants as turn
+use Rattle.suifvm_machine.specs.declared.machine.StepResult.TheVariants as turn
 use Rattle.suifvm_machine.specs.Config.{IsSound, TurnIs, Wrote, step_there, config_of, world_in}
 use Rattle.suifvm_machine.specs.model.Acts.{act_there, at_block}
 use Rattle.suifvm_machine.specs.Tables.{block_insns}

@@ -9,10 +9,10 @@ use Rattle.suifvm_ir.specs.declared.insn.VmInsn.{VmInsn}
 use Rattle.suifvm_ir.specs.declared.program.VmProgram.{VmProgram}
 use Rattle.suifvm_ir.specs.Insns.{named_register}
 use Rattle.suifvm_ir.specs.Programs.{VmFunction, IsLawfulFunction, goes_back_to_marks}
-use Rattle.vm_meaning.specs.Behave.{FunctionCode, Registers, code_of, main_of, start_world, vm_code}
-use Rattle.vm_meaning.specs.Effect.{input_word}
+use Rattle.suifvm_meaning.specs.Behave.{FunctionCode, Registers, code_of, main_of, start_world, vm_code}
+use Rattle.suifvm_meaning.specs.Effect.{input_word}
 use Rattle.suifvm_machine.specs.declared.machine.Machine.{Machine}
-use Rattle.suifvm_machine.specs.declared.machine.Turn.TheVariants as turn
+use Rattle.suifvm_machine.specs.declared.machine.StepResult.TheVariants as turn
 use Rattle.suifvm_run.specs.Laws.{ProgramsEnd}
 use Rattle.suifvm_machine.specs.Config.{TurnIs, Wrote, GoesTo, config_of, program_of, step_there, with_byte, with_byte_taken, wrote}
 use Rattle.suifvm_run.specs.model.Falls.{AreMarked, steps_left, machine_left, nothing_hidden}

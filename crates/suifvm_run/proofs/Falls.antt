@@ -18,11 +18,11 @@ use Rattle.suifvm_ir.specs.declared.insn.VmInsn.{VmInsn}
 use Rattle.suifvm_ir.specs.declared.insn.VmInsn.TheVariants.{LoadConstant, LoadAddress, Load, Store, Copy, Unary, Binary, Shift, Convert, Compare, Branch, Jump, Call, Return, Mark, Nop}
 use Rattle.suifvm_ir.specs.Insns.{reads_of, targets_of}
 use Rattle.suifvm_ir.specs.Programs.{begins_with_mark, first_is_mark, alignment_bytes}
-use Rattle.vm_meaning.specs.declared.answer.Answer.{Answer}
-use Rattle.vm_meaning.specs.declared.answer.Answer.TheVariants.{Gives, TrapsWith, Fails}
-use Rattle.vm_meaning.specs.Operations.{is_value_of, when_value, unary_answer, convert_answer, binary_answer, shift_answer, compare_answer, value_holds, loaded_answer, stored_memory, copied_memory}
-use Rattle.vm_meaning.specs.Effect.{first_source, second_source, writes, changes, is_branch_taken, branches, return_act, does, takes_turn}
-use Rattle.vm_meaning.specs.Behave.{FunctionCode, Registers, blocks_in, insn_site, next_site, site_or_next, site_in_function, site_in_block, vm_code}
+use Rattle.suifvm_meaning.specs.declared.answer.Answer.{Answer}
+use Rattle.suifvm_meaning.specs.declared.answer.Answer.TheVariants.{Gives, TrapsWith, Fails}
+use Rattle.suifvm_meaning.specs.Operations.{is_value_of, when_value, unary_answer, convert_answer, binary_answer, shift_answer, compare_answer, value_holds, loaded_answer, stored_memory, copied_memory}
+use Rattle.suifvm_meaning.specs.Effect.{first_source, second_source, writes, changes, is_branch_taken, branches, return_act, does, takes_turn}
+use Rattle.suifvm_meaning.specs.Behave.{FunctionCode, Registers, blocks_in, insn_site, next_site, site_or_next, site_in_function, site_in_block, vm_code}
 use Rattle.suifvm_run.specs.model.Falls.{places, most_places, left_in, places_left, calls_left, insn_in, insn_at, unless_mark, steps_left, AreMarked}
 
 -- ---- places

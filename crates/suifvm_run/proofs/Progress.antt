@@ -11,14 +11,14 @@ use Rattle.machine_model.specs.Laws.{next_world}
 use Rattle.machine_model.specs.Machine.{Config, Next, Goes, go_on, exec}
 use Rattle.machine_model.proofs.Runs.{steps_add_up}
 use Rattle.suifvm_ir.specs.Insns.{named_register}
-use Rattle.vm_meaning.specs.Effect.{input_word}
-use Rattle.vm_meaning.specs.Behave.{Registers, vm_code}
+use Rattle.suifvm_meaning.specs.Effect.{input_word}
+use Rattle.suifvm_meaning.specs.Behave.{Registers, vm_code}
 use Rattle.suifvm_run.specs.declared.ending.VmEnding.{VmEnding}
 use Rattle.suifvm_run.specs.declared.ending.VmEnding.TheVariants as e
 use Rattle.suifvm_machine.specs.declared.machine.Machine.{Machine}
 use Rattle.suifvm_machine.specs.declared.machine.Stop.{Stop}
 use Rattle.suifvm_machine.specs.declared.machine.Stop.TheVariants as stop
-use Rattle.suifvm_machine.specs.declared.machine.Turn.TheVariants as turn
+use Rattle.suifvm_machine.specs.declared.machine.StepResult.TheVariants as turn
 use Rattle.suifvm_machine.specs.declared.tables.ProgramTable.{ProgramTable}
 use Rattle.suifvm_machine.specs.Config.{HiddenState, TurnIs, Wrote, GoesTo, EndsBy, ending_by, config_of, world_in, step_there, with_byte, with_byte_taken, wrote}
 use Rattle.suifvm_machine.specs.Tables.{program_code}

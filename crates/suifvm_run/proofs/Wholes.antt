@@ -6,14 +6,14 @@ use Rattle.mem_model.specs.declared.value.Value.{Value}
 use Rattle.mem_model.specs.Memory.{Memory}
 use Rattle.mem_model.specs.World.{World, Rooms, meter_of}
 use Rattle.machine_model.specs.Machine.{Config, Goes, start_config}
-use Rattle.data_object.specs.Start.{start_memory}
+use Rattle.mem_objects.specs.Start.{start_memory}
 use Rattle.suifvm_ir.specs.declared.program.VmProgram.{VmProgram}
-use Rattle.vm_meaning.specs.Behave.{Registers, code_of, main_of, vm_code, vm_run, start_world}
+use Rattle.suifvm_meaning.specs.Behave.{Registers, code_of, main_of, vm_code, vm_run, start_world}
 use Rattle.suifvm_run.specs.declared.ending.VmEnding.{VmEnding}
 use Rattle.suifvm_run.specs.declared.ending.VmEnding.TheVariants as e
 use Rattle.suifvm_machine.specs.declared.machine.Machine.{Machine}
 use Rattle.suifvm_machine.specs.declared.machine.Stop.{Stop}
-use Rattle.suifvm_machine.specs.declared.machine.NoStart.TheVariants as no_start
+use Rattle.suifvm_machine.specs.declared.machine.StartError.TheVariants as no_start
 use Rattle.suifvm_machine.specs.declared.tables.ProgramTable.{ProgramTable}
 use Rattle.suifvm_run.specs.Run.{Steps, VmBehaves, Stops, program_run}
 use Rattle.bk_io.specs.Outside.{Traffic, count_plus}

@@ -3,7 +3,7 @@ use Rattle.std.specs.Prelude.{ℕ, List}
 use Rattle.mem_model.specs.World.{Rooms}
 use Rattle.mem_model.specs.Ending.{Ending}
 use Rattle.suifvm_ir.specs.declared.program.VmProgram.{VmProgram}
-use Rattle.vm_meaning.specs.Behave.{behave_vm}
+use Rattle.suifvm_meaning.specs.Behave.{behave_vm}
 
 -- every run ends
 abbrev pub ProgramsEnd : Type 0

@@ -7,7 +7,7 @@ use Rattle.mem_model.specs.Ending.{Done, Trap, Undefined, More}
 use Rattle.machine_model.specs.Laws.{next_world}
 use Rattle.machine_model.specs.Machine.{Config, Next, Goes}
 use Rattle.suifvm_ir.specs.declared.program.VmProgram.{VmProgram}
-use Rattle.vm_meaning.specs.Behave.{Registers, behave_vm, vm_run, code_of, main_of, start_world}
+use Rattle.suifvm_meaning.specs.Behave.{Registers, behave_vm, vm_run, code_of, main_of, start_world}
 use Rattle.suifvm_run.specs.declared.ending.VmEnding.{VmEnding}
 use Rattle.suifvm_run.specs.declared.ending.VmEnding.TheVariants as e
 

@@ -10,21 +10,21 @@ ghost use Rattle.suifvm_ir.specs.Insns as insns;
 ghost use Rattle.suifvm_machine.specs.Config as config;
 ghost use Rattle.suifvm_machine.specs.model.Acts as acts;
 ghost use Rattle.suifvm_machine.specs.Tables.{block_insns};
-ghost use Rattle.vm_meaning.specs.Behave.{registers_of, set_register};
-ghost use Rattle.vm_meaning.specs.Effect as effect;
-ghost use Rattle.vm_meaning.specs.Operations as operations;
+ghost use Rattle.suifvm_meaning.specs.Behave.{registers_of, set_register};
+ghost use Rattle.suifvm_meaning.specs.Effect as effect;
+ghost use Rattle.suifvm_meaning.specs.Operations as operations;
 
 use mem_model::value::Value;
 use suifvm_ir::insn::{CompareOp, ShiftOp, VmBinaryOp, VmBranchOp, VmInsn, VmObject, VmUnaryOp};
 use suifvm_ir::types::{MemoryType, VmType};
-use suifvm_machine::machine::{Call, Machine, Turn, block_at};
+use suifvm_machine::machine::{Call, Machine, StepResult, block_at};
 use suifvm_machine::step::address_of;
 use suifvm_machine::steps::is_taken;
-use vm_meaning::answer::Answer;
-use vm_operations::given::{binary_word, compare_word, given_word, word_holds};
-use vm_operations::numbers::{convert, shift, unary, when_value};
-use vm_operations::objects::{load, store};
-use vm_operations::operators::binary;
+use suifvm_meaning::answer::Answer;
+use suifvm_operations::given::{binary_word, compare_word, given_word, word_holds};
+use suifvm_operations::numbers::{convert, shift, unary, when_value};
+use suifvm_operations::objects::{load, store};
+use suifvm_operations::operators::binary;
 
 /// The word of a register, if it holds one, where the registers begin at a base of the stack.
 #[inline(always)]
@@ -115,7 +115,7 @@ fn quick_binary(
     requires sound { config.IsSound machine.old }
     requires within { machine.old.here.at < length machine.old.here.row.now.insns.items }
     ensures done { OnTrue result ((i : Insn) → insns.writes_of i ≡ destination ∷ [] →
-        config.TurnIs machine.old machine.new Turn.Goes (λ rooms h. acts.act_there rooms machine.old h i
+        config.TurnIs machine.old machine.new StepResult.Goes (λ rooms h. acts.act_there rooms machine.old h i
         (effect.writes (operations.binary_answer machine.old.memory op ty
         (registers_of (drop machine.old.here.base machine.old.stack.items) left)
         (registers_of (drop machine.old.here.base machine.old.stack.items) right))
@@ -147,7 +147,7 @@ fn quick_compare(
     requires sound { config.IsSound machine.old }
     requires within { machine.old.here.at < length machine.old.here.row.now.insns.items }
     ensures done { OnTrue result ((i : Insn) → insns.writes_of i ≡ destination ∷ [] →
-        config.TurnIs machine.old machine.new Turn.Goes (λ rooms h. acts.act_there rooms machine.old h i
+        config.TurnIs machine.old machine.new StepResult.Goes (λ rooms h. acts.act_there rooms machine.old h i
         (effect.writes (operations.compare_answer machine.old.memory op ty
         (registers_of (drop machine.old.here.base machine.old.stack.items) left)
         (registers_of (drop machine.old.here.base machine.old.stack.items) right))
@@ -172,7 +172,7 @@ fn quick_constant(machine: &mut Machine<'_, '_>, ty: VmType, destination: u32, w
     requires sound { config.IsSound machine.old }
     requires within { machine.old.here.at < length machine.old.here.row.now.insns.items }
     ensures done { OnTrue result ((i : Insn) → insns.writes_of i ≡ destination ∷ [] →
-        config.TurnIs machine.old machine.new Turn.Goes (λ rooms h. acts.act_there rooms machine.old h i
+        config.TurnIs machine.old machine.new StepResult.Goes (λ rooms h. acts.act_there rooms machine.old h i
         (effect.writes (operations.when_value ty (Value.Word word)) (config.world_in machine.old h).outer))) }
     ensures kept { OnFalse result (machine.new ≡ machine.old) }
 {
@@ -194,7 +194,7 @@ fn quick_unary(
     requires sound { config.IsSound machine.old }
     requires within { machine.old.here.at < length machine.old.here.row.now.insns.items }
     ensures done { OnTrue result ((i : Insn) → insns.writes_of i ≡ destination ∷ [] →
-        config.TurnIs machine.old machine.new Turn.Goes (λ rooms h. acts.act_there rooms machine.old h i
+        config.TurnIs machine.old machine.new StepResult.Goes (λ rooms h. acts.act_there rooms machine.old h i
         (effect.writes (operations.unary_answer op ty
         (registers_of (drop machine.old.here.base machine.old.stack.items) source))
         (config.world_in machine.old h).outer))) }
@@ -221,7 +221,7 @@ fn quick_convert(
     requires sound { config.IsSound machine.old }
     requires within { machine.old.here.at < length machine.old.here.row.now.insns.items }
     ensures done { OnTrue result ((i : Insn) → insns.writes_of i ≡ destination ∷ [] →
-        config.TurnIs machine.old machine.new Turn.Goes (λ rooms h. acts.act_there rooms machine.old h i
+        config.TurnIs machine.old machine.new StepResult.Goes (λ rooms h. acts.act_there rooms machine.old h i
         (effect.writes (operations.convert_answer from to
         (registers_of (drop machine.old.here.base machine.old.stack.items) source))
         (config.world_in machine.old h).outer))) }
@@ -249,7 +249,7 @@ fn quick_shift(
     requires sound { config.IsSound machine.old }
     requires within { machine.old.here.at < length machine.old.here.row.now.insns.items }
     ensures done { OnTrue result ((i : Insn) → insns.writes_of i ≡ destination ∷ [] →
-        config.TurnIs machine.old machine.new Turn.Goes (λ rooms h. acts.act_there rooms machine.old h i
+        config.TurnIs machine.old machine.new StepResult.Goes (λ rooms h. acts.act_there rooms machine.old h i
         (effect.writes (operations.shift_answer op ty
         (registers_of (drop machine.old.here.base machine.old.stack.items) source)
         (registers_of (drop machine.old.here.base machine.old.stack.items) count))
@@ -274,7 +274,7 @@ fn put_answer(machine: &mut Machine<'_, '_>, destination: u32, answer: Answer) -
     requires sound { config.IsSound machine.old }
     requires within { machine.old.here.at < length machine.old.here.row.now.insns.items }
     ensures done { OnTrue result ((i : Insn) → insns.writes_of i ≡ destination ∷ [] →
-        config.TurnIs machine.old machine.new Turn.Goes (λ rooms h. acts.act_there rooms machine.old h i
+        config.TurnIs machine.old machine.new StepResult.Goes (λ rooms h. acts.act_there rooms machine.old h i
         (effect.writes answer (config.world_in machine.old h).outer))) }
     ensures kept { OnFalse result (machine.new ≡ machine.old) }
 {
@@ -297,7 +297,7 @@ fn quick_load(
     requires sound { config.IsSound machine.old }
     requires within { machine.old.here.at < length machine.old.here.row.now.insns.items }
     ensures done { OnTrue result ((i : Insn) → insns.writes_of i ≡ destination ∷ [] →
-        config.TurnIs machine.old machine.new Turn.Goes (λ rooms h. acts.act_there rooms machine.old h i
+        config.TurnIs machine.old machine.new StepResult.Goes (λ rooms h. acts.act_there rooms machine.old h i
         (effect.writes (operations.loaded_answer machine.old.memory ty
         (registers_of (drop machine.old.here.base machine.old.stack.items) pointer) plus)
         (config.world_in machine.old h).outer))) }
@@ -318,7 +318,7 @@ fn quick_address(
     requires sound { config.IsSound machine.old }
     requires within { machine.old.here.at < length machine.old.here.row.now.insns.items }
     ensures done { OnTrue result ((i : Insn) → insns.writes_of i ≡ destination ∷ [] →
-        config.TurnIs machine.old machine.new Turn.Goes (λ rooms h. acts.act_there rooms machine.old h i
+        config.TurnIs machine.old machine.new StepResult.Goes (λ rooms h. acts.act_there rooms machine.old h i
         (effect.writes (Answer.Gives (operations.place_address machine.old.here.own place plus))
         (config.world_in machine.old h).outer))) }
     ensures kept { OnFalse result (machine.new ≡ machine.old) }
@@ -342,7 +342,7 @@ fn quick_pointer(
     requires sound { config.IsSound machine.old }
     requires within { machine.old.here.at < length machine.old.here.row.now.insns.items }
     ensures done { OnTrue result ((i : Insn) → insns.writes_of i ≡ destination ∷ [] →
-        config.TurnIs machine.old machine.new Turn.Goes (λ rooms h. acts.act_there rooms machine.old h i
+        config.TurnIs machine.old machine.new StepResult.Goes (λ rooms h. acts.act_there rooms machine.old h i
         (effect.writes (operations.binary_answer machine.old.memory op ty
         (registers_of (drop machine.old.here.base machine.old.stack.items) left)
         (registers_of (drop machine.old.here.base machine.old.stack.items) right))
@@ -372,7 +372,7 @@ fn quick_two(
     requires sound { config.IsSound machine.old }
     requires within { machine.old.here.at < length machine.old.here.row.now.insns.items }
     ensures done { OnTrue result ((i : Insn) → insns.writes_of i ≡ destination ∷ [] →
-        config.TurnIs machine.old machine.new Turn.Goes (λ rooms h. acts.act_there rooms machine.old h i
+        config.TurnIs machine.old machine.new StepResult.Goes (λ rooms h. acts.act_there rooms machine.old h i
         (effect.writes (operations.binary_answer machine.old.memory op ty
         (registers_of (drop machine.old.here.base machine.old.stack.items) left)
         (registers_of (drop machine.old.here.base machine.old.stack.items) right))
@@ -398,7 +398,7 @@ fn quick_store(
     requires sound { config.IsSound machine.old }
     requires within { machine.old.here.at < length machine.old.here.row.now.insns.items }
     ensures done { OnTrue result ((i : Insn) → insns.writes_of i ≡ [] →
-        config.TurnIs machine.old machine.new Turn.Goes (λ rooms h. acts.act_there rooms machine.old h i
+        config.TurnIs machine.old machine.new StepResult.Goes (λ rooms h. acts.act_there rooms machine.old h i
         (effect.changes (operations.stored_memory machine.old.memory ty
         (registers_of (drop machine.old.here.base machine.old.stack.items) pointer) plus
         (registers_of (drop machine.old.here.base machine.old.stack.items) value))
@@ -419,7 +419,7 @@ fn quick_store(
 #[inline(always)]
 fn quick_jump(machine: &mut Machine<'_, '_>, block: usize) -> bool
     requires { config.IsSound machine.old }
-    ensures done { OnTrue result (config.TurnIs machine.old machine.new Turn.Goes
+    ensures done { OnTrue result (config.TurnIs machine.old machine.new StepResult.Goes
         (λ rooms h. Goes (acts.at_block block (config.config_of machine.old h)))) }
     ensures kept { OnFalse result (machine.new ≡ machine.old) }
 {
@@ -447,7 +447,7 @@ fn quick_test(machine: &mut Machine<'_, '_>, op: VmBranchOp, test: bool, block: 
     requires sound { config.IsSound machine.old }
     requires within { machine.old.here.at < length machine.old.here.row.now.insns.items }
     ensures done { OnTrue result ((i : Insn) → insns.targets_of i ≡ block ∷ [] → insns.writes_of i ≡ [] →
-        config.TurnIs machine.old machine.new Turn.Goes (λ rooms h. acts.act_there rooms machine.old h i
+        config.TurnIs machine.old machine.new StepResult.Goes (λ rooms h. acts.act_there rooms machine.old h i
         (effect.branches op (Some test) (config.world_in machine.old h).outer))) }
     ensures kept { OnFalse result (machine.new ≡ machine.old) }
 {
@@ -471,7 +471,7 @@ fn quick_branch(
     requires sound { config.IsSound machine.old }
     requires within { machine.old.here.at < length machine.old.here.row.now.insns.items }
     ensures done { OnTrue result ((i : Insn) → insns.targets_of i ≡ block ∷ [] → insns.writes_of i ≡ [] →
-        config.TurnIs machine.old machine.new Turn.Goes (λ rooms h. acts.act_there rooms machine.old h i
+        config.TurnIs machine.old machine.new StepResult.Goes (λ rooms h. acts.act_there rooms machine.old h i
         (effect.branches op (operations.value_holds machine.old.memory ty
         (registers_of (drop machine.old.here.base machine.old.stack.items) source))
         (config.world_in machine.old h).outer))) }
@@ -493,7 +493,7 @@ fn quick_mark(machine: &mut Machine<'_, '_>) -> bool
     requires within { machine.old.here.at < length machine.old.here.row.now.insns.items }
     ensures done { OnTrue result (
         slice_get (block_insns machine.old.here.row.now) machine.old.here.at ≡ Some Insn.Mark →
-        config.TurnIs machine.old machine.new Turn.Goes (λ rooms h. config.step_there rooms machine.old h)) }
+        config.TurnIs machine.old machine.new StepResult.Goes (λ rooms h. config.step_there rooms machine.old h)) }
     ensures kept { OnFalse result (machine.new ≡ machine.old) }
 {
     if machine.turns == 0 {
@@ -511,7 +511,7 @@ fn quick_insn(machine: &mut Machine<'_, '_>, insn: &VmInsn) -> bool
     requires within { machine.old.here.at < length machine.old.here.row.now.insns.items }
     ensures done { OnTrue result (
         slice_get (block_insns machine.old.here.row.now) machine.old.here.at ≡ Some insn.now →
-        config.TurnIs machine.old machine.new Turn.Goes (λ rooms h. config.step_there rooms machine.old h)) }
+        config.TurnIs machine.old machine.new StepResult.Goes (λ rooms h. config.step_there rooms machine.old h)) }
     ensures kept { OnFalse result (machine.new ≡ machine.old) }
 {
     match insn {
@@ -586,7 +586,7 @@ fn quick_insn(machine: &mut Machine<'_, '_>, insn: &VmInsn) -> bool
 pub(crate) fn quick_step(machine: &mut Machine<'_, '_>) -> bool
     requires { config.IsSound machine.old }
     ensures done { OnTrue result
-        (config.TurnIs machine.old machine.new Turn.Goes (λ rooms h. config.step_there rooms machine.old h)) }
+        (config.TurnIs machine.old machine.new StepResult.Goes (λ rooms h. config.step_there rooms machine.old h)) }
     ensures kept { OnFalse result (machine.new ≡ machine.old) }
 {
     match machine.fetch() {

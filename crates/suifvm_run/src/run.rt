@@ -5,32 +5,32 @@ ghost use Rattle.machine_model.specs.Machine.{Config};
 ghost use Rattle.mem_model.specs.World.{Rooms};
 ghost use Rattle.suifvm_ir.specs.Programs as programs;
 ghost use Rattle.suifvm_run.specs.Run.{VmBehaves, input_faults_after, output_faults_after};
-ghost use Rattle.bk_io.specs.Outside.{Traffic};
+ghost use Rattle.bk_io.specs.Outside.{Traffic, traffic_of};
 ghost use Rattle.suifvm_machine.specs.Begin.{start_at};
 ghost use Rattle.suifvm_machine.specs.Config as config;
 ghost use Rattle.suifvm_run.specs.model.Falls.{AreMarked, machine_left};
 ghost use Rattle.suifvm_run.specs.model.Progress as progress;
 ghost use Rattle.suifvm_run.specs.model.Stops.{IsRun};
 ghost use Rattle.suifvm_machine.specs.Tables.{FunctionsAreNumbered, program_code};
-ghost use Rattle.vm_meaning.specs.Behave.{Registers, main_of};
-ghost use Rattle.vm_meaning.specs.Effect as effect;
-ghost use Rattle.vm_operations.specs.Tidy.{MemoryIsTidy};
+ghost use Rattle.suifvm_meaning.specs.Behave.{Registers, main_of};
+ghost use Rattle.suifvm_meaning.specs.Effect as effect;
+ghost use Rattle.suifvm_operations.specs.Tidy.{MemoryIsTidy};
 
 use crate::ending::VmEnding;
 use crate::quick::quick_step;
-use bk_io::outside::{Sink, Source};
+use bk_io::outside::{Sink, Source, ask};
 use bk_memory::memory_is_short;
 use mem_model::memory::Mem;
 use mem_model::value::Value;
+use pass_core::function::Func;
 use std::alloc::Global;
-use suifvm_ir::function::Func;
 use suifvm_ir::insn::VmInsn;
 use suifvm_ir::program::VmProgram;
 use suifvm_machine::beginning::begin;
 use suifvm_machine::indexing::program_table;
-use suifvm_machine::machine::{Machine, NoStart, Stop, Turn};
+use suifvm_machine::machine::{Machine, StartError, StepResult, Stop};
 use suifvm_machine::tables::ProgramTable;
-use vm_operations::start::start_memory;
+use suifvm_operations::start::start_memory;
 
 /// The ending of a run that had so many turns.
 fn ending_of(stop: Stop, turns: u64) -> VmEnding
@@ -56,7 +56,7 @@ fn word_of(byte: Option<u8>) -> u64
 
 /// One step, whatever it is, with what it asks of the outside.
 #[inline(never)]
-fn whole_turn<I: Source, O: Sink>(
+fn slow_step<I: Source, O: Sink>(
     machine: &mut Machine<'_, '_>,
     turns: u64,
     input: &mut I,
@@ -70,22 +70,22 @@ fn whole_turn<I: Source, O: Sink>(
     ensures falls { IfNone result (machine_left machine.new < machine_left machine.old) }
     ensures run { (rooms : Rooms) (start : Config Registers) (told : Traffic) →
         progress.StandsAt rooms machine.old.program.now start told
-        (record { left = I.left input.old; made = I.made input.old; taken = O.taken out.old }) machine.old →
+        (traffic_of I.left I.made O.taken input.old out.old) machine.old →
         progress.TurnEnds rooms machine.old.program.now start turns told
-        (record { left = I.left input.new; made = I.made input.new; taken = O.taken out.new }) machine.new result }
+        (traffic_of I.left I.made O.taken input.new out.new) machine.new result }
     ensures input_count { I.faults input.new
         ≡ input_faults_after (unwrap_or result VmEnding.NoMemory) (I.faults input.old) }
     ensures output_count { O.faults out.new
         ≡ output_faults_after (unwrap_or result VmEnding.NoMemory) (O.faults out.old) }
 {
     match machine.step() {
-        Turn::Goes => None,
-        Turn::Over(stop) => Some(ending_of(stop, turns)),
-        Turn::Puts(byte) => match out.put(byte) {
+        StepResult::Goes => None,
+        StepResult::Over(stop) => Some(ending_of(stop, turns)),
+        StepResult::Puts(byte) => match out.put(byte) {
             Ok(()) => None,
             Err(_) => Some(VmEnding::WriteFault),
         },
-        Turn::Takes(destination) => match input.next() {
+        StepResult::Takes(destination) => match ask(input, out) {
             Err(_) => Some(VmEnding::InputFault),
             Ok(byte) => match machine.write(destination, Value::Word(word_of(byte))) {
                 Ok(()) => None,
@@ -95,13 +95,13 @@ fn whole_turn<I: Source, O: Sink>(
                 }
             },
         },
-        Turn::NoMemory => Some(VmEnding::NoMemory),
+        StepResult::NoMemory => Some(VmEnding::NoMemory),
     }
 }
 
 /// One step, with what it asks of the outside. It answers how a run that had so many turns stops, where it does.
 #[inline(always)]
-fn take_turn<I: Source, O: Sink>(
+fn step<I: Source, O: Sink>(
     machine: &mut Machine<'_, '_>,
     turns: u64,
     input: &mut I,
@@ -115,9 +115,9 @@ fn take_turn<I: Source, O: Sink>(
     ensures falls { IfNone result (machine_left machine.new < machine_left machine.old) }
     ensures run { (rooms : Rooms) (start : Config Registers) (told : Traffic) →
         progress.StandsAt rooms machine.old.program.now start told
-        (record { left = I.left input.old; made = I.made input.old; taken = O.taken out.old }) machine.old →
+        (traffic_of I.left I.made O.taken input.old out.old) machine.old →
         progress.TurnEnds rooms machine.old.program.now start turns told
-        (record { left = I.left input.new; made = I.made input.new; taken = O.taken out.new }) machine.new result }
+        (traffic_of I.left I.made O.taken input.new out.new) machine.new result }
     ensures input_count { I.faults input.new
         ≡ input_faults_after (unwrap_or result VmEnding.NoMemory) (I.faults input.old) }
     ensures output_count { O.faults out.new
@@ -126,7 +126,7 @@ fn take_turn<I: Source, O: Sink>(
     if quick_step(machine) {
         None
     } else {
-        whole_turn(machine, turns, input, out)
+        slow_step(machine, turns, input, out)
     }
 }
 
@@ -141,14 +141,14 @@ pub(crate) fn run_machine<I: Source, O: Sink>(
     requires marked { AreMarked (config.program_of machine.old) }
     ensures run { (rooms : Rooms) (start : Config Registers) (told : Traffic) →
         progress.StandsAt rooms machine.old.program.now start told
-        (record { left = I.left input.old; made = I.made input.old; taken = O.taken out.old }) machine.old →
+        (traffic_of I.left I.made O.taken input.old out.old) machine.old →
         IsRun (progress.run_from rooms machine.old.program.now start) turns result told
-        (record { left = I.left input.new; made = I.made input.new; taken = O.taken out.new }) }
+        (traffic_of I.left I.made O.taken input.new out.new) }
     ensures input_count { I.faults input.new ≡ input_faults_after result (I.faults input.old) }
     ensures output_count { O.faults out.new ≡ output_faults_after result (O.faults out.old) }
 {
     loop {
-        if let Some(ending) = take_turn(machine, turns, input, out) {
+        if let Some(ending) = step(machine, turns, input, out) {
             return ending;
         }
     }
@@ -196,8 +196,8 @@ fn run_table<I: Source, O: Sink>(
     requires marked { AreMarked (program_code table.now) }
     ensures run { (rooms : Rooms) (bytes : List ℕ) → I.left input.old ≡ Some bytes →
         IsRun (progress.run_from rooms table.now (start_at rooms table.now main memory turns bytes)) turns result
-        (record { left = I.left input.old; made = I.made input.old; taken = O.taken out.old })
-        (record { left = I.left input.new; made = I.made input.new; taken = O.taken out.new }) }
+        (traffic_of I.left I.made O.taken input.old out.old)
+        (traffic_of I.left I.made O.taken input.new out.new) }
     ensures input_count { I.faults input.new ≡ input_faults_after result (I.faults input.old) }
     ensures output_count { O.faults out.new ≡ output_faults_after result (O.faults out.old) }
 {
@@ -206,8 +206,8 @@ fn run_table<I: Source, O: Sink>(
             let mut machine = begun;
             run_machine(&mut machine, turns, input, out)
         }
-        Err(NoStart::Over(stop)) => ending_of(stop, turns),
-        Err(NoStart::NoMemory) => VmEnding::NoMemory,
+        Err(StartError::Over(stop)) => ending_of(stop, turns),
+        Err(StartError::NoMemory) => VmEnding::NoMemory,
     }
 }
 
@@ -226,8 +226,8 @@ pub fn run_vm<I: Source, O: Sink>(
 ) -> VmEnding
     ensures run { (rooms : Rooms) (bytes : List ℕ) → I.left input.old ≡ Some bytes →
         VmBehaves rooms program.now bytes turns result
-        (record { left = I.left input.old; made = I.made input.old; taken = O.taken out.old })
-        (record { left = I.left input.new; made = I.made input.new; taken = O.taken out.new }) }
+        (traffic_of I.left I.made O.taken input.old out.old)
+        (traffic_of I.left I.made O.taken input.new out.new) }
     ensures input_count { I.faults input.new ≡ input_faults_after result (I.faults input.old) }
     ensures output_count { O.faults out.new ≡ output_faults_after result (O.faults out.old) }
 {

@@ -6,9 +6,9 @@ ghost use Rattle.bk_ilist.specs.Listing.{items};
 ghost use Rattle.temp_ir.specs.Fixed as fixed;
 
 use crate::registers::{ended_registers, fixed_reads, fixed_writes, of_arguments};
+use pass_core::block::Block;
+use pass_core::function::Func;
 use std::alloc::{AllocError, Global};
-use suifvm_ir::block::Block;
-use suifvm_ir::function::Func;
 use temp_ir::insn::TempInsn;
 
 /// Whether a register is in a list.

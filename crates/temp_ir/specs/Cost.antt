@@ -1,7 +1,7 @@
 -- The bulk of a function: a bound on its words behind the allocation, where that moves no more than so many values at
 -- each instruction, call and edge.
 use Rattle.std.specs.Prelude.{ℕ, ◌+◌, ◌*◌, Bool, true, false, List, sum_by, count_by}
-use Rattle.suifvm_ir.specs.Functions.{count_of, edge_count}
+use Rattle.pass_core.specs.Functions.{count_of, edge_count}
 use Rattle.temp_ir.specs.declared.insn.TempInsn.{TempInsn}
 use Rattle.temp_ir.specs.declared.insn.TempInsn.TheVariants.{Call, Divide}
 use Rattle.temp_ir.specs.Insns.{targets_of, flows_on_of}

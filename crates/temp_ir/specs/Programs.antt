@@ -1,10 +1,10 @@
 -- What every program over temporaries keeps.
 use Rattle.std.specs.Prelude.{◌≡◌, ℕ, ◌<◌, ◌||◌, ◌==◌, nat_lt, Bool, true, false, List, [], All, IsTrue, length, count_by, slice_get, slice_index_or, Option, Some, None, codes, bytes_eq}
 use Rattle.std.specs.List.{list_all}
-use Rattle.data_object.specs.declared.DataObject.{DataObject}
-use Rattle.suifvm_ir.specs.declared.function.MemoryLocal.{MemoryLocal}
-use Rattle.suifvm_ir.specs.declared.function.Func.{Func}
-use Rattle.suifvm_ir.specs.Functions.{AllInsns}
+use Rattle.mem_objects.specs.declared.DataObject.{DataObject}
+use Rattle.pass_core.specs.declared.function.MemoryLocal.{MemoryLocal}
+use Rattle.pass_core.specs.declared.function.Func.{Func}
+use Rattle.pass_core.specs.Functions.{AllInsns}
 use Rattle.suifvm_ir.specs.Programs.{place_reaches}
 use Rattle.temp_ir.specs.declared.insn.TempInsn.{TempInsn}
 use Rattle.temp_ir.specs.declared.insn.TempInsn.TheVariants.{ObjectAddress, Call, Mark}

@@ -3,10 +3,10 @@
 ghost use Rattle.std.specs.Prelude.{◌≡◌, IfOk};
 
 use crate::insn::TempInsn;
-use c_tree::Seq;
+use bk_containers::Seq;
+use pass_core::block::Block;
+use pass_core::function::{Func, MemoryLocal};
 use std::alloc::{AllocError, Global};
-use suifvm_ir::block::Block;
-use suifvm_ir::function::{Func, MemoryLocal};
 
 /// An equal block. It fails only where memory is short.
 #[tactic(auto, using(crate::proofs::Copies::insns_next))]

@@ -2,16 +2,16 @@
 
 ghost use Rattle.std.specs.Prelude.{◌≡◌, ◌+◌, ◌<◌, ◌^◌, ◌++◌, IfOk, OnOk, length};
 ghost use Rattle.bk_ilist.specs.Listing.{items};
-ghost use Rattle.suifvm_ir.specs.Functions.{count_of};
+ghost use Rattle.pass_core.specs.Functions.{count_of};
 ghost use Rattle.temp_ir.specs.Text as text;
 
 use crate::insn::TempInsn;
 use crate::program::TempProgram;
 use crate::text_parts::{put, put_block, put_insn, put_number};
 use bk_ilist::IndexList;
+use pass_core::block::Block;
+use pass_core::function::Func;
 use std::alloc::{AllocError, Global};
-use suifvm_ir::block::Block;
-use suifvm_ir::function::Func;
 
 /// Puts the line of an instruction.
 fn put_line(out: &mut Vec<u8>, number: u64, insn: &TempInsn) -> Result<(), AllocError>

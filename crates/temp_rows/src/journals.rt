@@ -3,8 +3,8 @@
 use crate::placements::plain_of;
 use alloc_lines::journal_text;
 use anyhow::Result;
+use row_temp_texts::reader::TempReader;
 use std::alloc::Global;
-use temp_texts::reader::TempReader;
 
 /// The text of the journal of the plainest allocation of each function.
 pub fn answer(alloc: Global, given: &str) -> Result<Vec<u8>> {

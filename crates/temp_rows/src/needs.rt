@@ -2,8 +2,8 @@
 
 use alloc_rules::scan::no_needs;
 use anyhow::Result;
+use row_temp_texts::reader::TempReader;
 use std::alloc::Global;
-use temp_texts::reader::TempReader;
 
 /// A line for each block, with the least temporary in need of it, if there is one.
 pub fn answer(alloc: Global, given: &str) -> Result<Vec<u8>> {

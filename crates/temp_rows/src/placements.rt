@@ -4,11 +4,11 @@ use alloc_lines::alloc_text;
 use alloc_model::allocation::Allocation;
 use alloc_plain::plain;
 use anyhow::{Result, bail};
+use pass_core::function::Func;
+use row_temp_texts::reader::TempReader;
 use std::alloc::Global;
-use suifvm_ir::function::Func;
 use temp_checks::is_settled;
 use temp_ir::insn::TempInsn;
-use temp_texts::reader::TempReader;
 
 /// The plainest allocation of a function.
 pub fn plain_of(alloc: Global, f: &Func<TempInsn>) -> Result<Allocation> {

@@ -5,9 +5,9 @@ use alloc_model::allocation::Allocation;
 use anyhow::{Result, ensure};
 use row_sheets::escape::unescape;
 use row_sheets::number::number;
+use row_temp_machine::machine::TempMachine;
+use row_temp_texts::reader::{Placement, TempReader, allocation};
 use std::alloc::Global;
-use temp_machine::machine::TempMachine;
-use temp_texts::reader::{Placement, TempReader, allocation};
 
 /// What a row says of a run besides its program.
 #[derive(Drop)]

@@ -2,11 +2,12 @@
 
 use crate::trees::refusal_line;
 use anyhow::{Result, ensure};
+use bk_containers::Box;
 use c_lexer::TEXT_LIMIT;
 use c_parser::parse;
 use c_tree::{
-    Box, Constant, Declaration, Expr, External, ForFirst, FunctionEnd, Init, Label,
-    LocalDeclarator, Parameter, Section, Stmt, TypeNode,
+    Constant, Declaration, Expr, External, ForFirst, FunctionEnd, Init, Label, LocalDeclarator,
+    Parameter, Section, Stmt, TypeNode,
 };
 use row_sheets::escape::unescape;
 use std::alloc::{AllocError, Global};

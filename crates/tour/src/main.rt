@@ -2,9 +2,9 @@
 #![tactic(auto)]
 
 use anyhow::{Context, Result};
-use msc_calls::Msc;
+use row_msc_calls::Msc;
+use row_tour_page::put_page;
 use std::fs;
-use tour_page::put_page;
 
 fn main(rt: HostRuntime) -> Result<()> {
     let text = fs::read_to_string(&rt, "tour.c").context("no C file")?;

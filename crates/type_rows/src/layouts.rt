@@ -7,12 +7,12 @@ ghost use Rattle.c_typed_tree.specs.View.{type_view};
 
 use crate::types::type_of;
 use anyhow::{Context, Result, bail};
-use c_declared_types::{MOST_DEPTH, is_deep_at_most};
-use c_struct_layout::{Field, lay_out};
-use c_tree::Name;
-use c_type_rules::types::is_object;
+use bk_containers::Name;
 use c_typed_tree::layout::offset_of;
 use c_typed_tree::{CType, StructDef};
+use c_typing_declared_types::{MOST_DEPTH, is_deep_at_most};
+use c_typing_rules::types::is_object;
+use c_typing_struct_layout::{Field, lay_out};
 use std::alloc::Global;
 
 /// Puts a member behind others, where its type is one that members may have.

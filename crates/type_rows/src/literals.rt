@@ -1,8 +1,8 @@
 //! Integer constants, character constants and string literals.
 
 use anyhow::Result;
-use c_arithmetic::integer_type::IntegerType;
-use c_literals::{character, integer, put_text};
+use bk_arithmetic::integer_type::IntegerType;
+use c_typing_literals::{character, integer, put_text};
 use row_sheets::escape::unescape;
 use std::alloc::Global;
 

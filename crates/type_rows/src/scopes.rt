@@ -1,7 +1,7 @@
 //! Sequences of calls of a table of names.
 
 use anyhow::{Context, Result, bail};
-use c_scopes::NameTable;
+use c_typing_scopes::NameTable;
 use row_sheets::number::number;
 use std::alloc::Global;
 

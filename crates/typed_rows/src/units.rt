@@ -1,17 +1,17 @@
 //! Typed units, as the rows write them.
 
 use anyhow::{Result, bail, ensure};
+use bk_containers::Name;
 use c_lexer::TEXT_LIMIT;
 use c_parser::parse;
-use c_tree::Name;
 use c_typed_tree::{Member, StructDef, TypedFn, TypedUnit, copy_unit};
 use c_types::check;
-use c_weight::{data_size, function_weight, locals_bytes, weight};
-use data_object::{DataCell, DataObject};
+use c_typing_weight::{data_size, function_weight, locals_bytes, weight};
+use mem_objects::{DataCell, DataObject};
 use row_sheets::escape::unescape;
+use row_typed_texts::statements::{put_indent, put_stmt};
+use row_typed_texts::types::{put, put_number, put_type};
 use std::alloc::{AllocError, Global};
-use typed_texts::statements::{put_indent, put_stmt};
-use typed_texts::types::{put, put_number, put_type};
 
 /// The typed unit of a text without faults.
 fn unit_of(alloc: Global, given: &str) -> Result<TypedUnit> {

@@ -1,8 +1,8 @@
 //! Operations on C's integers.
 
 use anyhow::{Result, bail};
-use c_arithmetic::integer_type::IntegerType;
-use c_arithmetic::outcome::ArithmeticOutcome;
+use bk_arithmetic::integer_type::IntegerType;
+use bk_arithmetic::outcome::ArithmeticOutcome;
 use row_sheets::number::quad;
 use std::alloc::Global;
 

@@ -5,10 +5,10 @@ use anyhow::{Result, ensure};
 use bk_io::memory::{MemSink, MemSource};
 use row_sheets::escape::unescape;
 use row_sheets::number::{number, numbers};
+use row_vm_texts::reader::VmReader;
 use std::alloc::Global;
 use suifvm_ir::vm_text;
 use suifvm_run::{VmEnding, run_vm};
-use vm_texts::reader::VmReader;
 
 /// The most bytes that a run may write.
 const ROOM: u64 = 65_536;

@@ -3,10 +3,10 @@
 use crate::runs::names_of;
 use alpha_select::select;
 use anyhow::{Result, ensure};
+use row_vm_texts::reader::VmReader;
 use std::alloc::Global;
+use suifvm_checks::size::is_small;
 use temp_ir::temp_text;
-use vm_checks::size::is_small;
-use vm_texts::reader::VmReader;
 
 /// The text of the program that is selected for that of a row.
 pub fn answer(alloc: Global, given: &str) -> Result<Vec<u8>> {

@@ -1,15 +1,16 @@
 //! Runs of the programs that are selected, over temporaries and in the slots of the plainest allocations.
 
 use alloc_model::allocation::Allocation;
+use alloc_plain::PlainAllocator;
+use alloc_rules::allocate;
 use alpha_select::select;
 use anyhow::{Result, ensure};
-use data_object::DataObject;
-use plain_programs::allocate;
+use mem_objects::DataObject;
+use row_temp_machine::machine::{TempEnding, TempMachine};
 use std::alloc::Global;
+use suifvm_checks::size::is_small;
 use suifvm_ir::program::VmProgram;
 use suifvm_run::VmEnding;
-use temp_machine::machine::{TempEnding, TempMachine};
-use vm_checks::size::is_small;
 
 /// What a run over virtual registers took and came to.
 #[derive(Drop)]
@@ -58,7 +59,7 @@ fn put_difference(
 fn allocations_of(alloc: Global, program: &VmProgram) -> Result<Vec<Allocation>> {
     ensure!(is_small(program), "the program is too large");
     let selected = select(alloc, program)?;
-    Ok(allocate(alloc, &selected)?)
+    Ok(allocate(alloc, &PlainAllocator, &selected)?)
 }
 
 /// What differs where the program that is selected is run: nothing, where it ends as it should.

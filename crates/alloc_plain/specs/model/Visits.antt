@@ -6,7 +6,7 @@ use Rattle.temp_ir.specs.Insns.{reads_of, writes_of}
 use Rattle.alloc_model.specs.declared.allocation.Event.{Event}
 use Rattle.alloc_model.specs.declared.allocation.Event.TheVariants as event
 use Rattle.alloc_rules.specs.Journal.{eviction, event_of, assigned_by_move, assigned_unless}
-use Rattle.plain_lists.specs.Plain.{loads, stores_behind}
+use Rattle.alloc_plain_lists.specs.Plain.{loads, stores_behind}
 use Rattle.alloc_plain.specs.declared.holders.HeldTemporaries.{HeldTemporaries}
 use Rattle.alloc_plain.specs.model.Held.{register_in, held_left, held_behind, held_behind_all, held_at_top}
 

@@ -1,8 +1,8 @@
 -- What one step of an adapter does to the reader or writer under it.
 use Rattle.std.specs.Prelude.{◌≡◌, ℕ, ◌≤◌, ◌<◌, List, [], ◌++◌, take, length, Option, Result, Ok, Err}
 use Rattle.std.specs.Io.KnownBytes.{Keeps, Appends as Gains, Consumes, IsAtEnd}
-use Rattle.bk_io.specs.declared.outside.Got.{Got}
-use Rattle.bk_io.specs.declared.outside.Got.TheVariants.{Whole, Cut}
+use Rattle.bk_io.specs.declared.outside.ReadExtent.{ReadExtent}
+use Rattle.bk_io.specs.declared.outside.ReadExtent.TheVariants.{Whole, Cut}
 use Rattle.bk_io.specs.declared.outside.FileFault.{FileFault}
 use Rattle.bk_io.specs.declared.outside.FileFault.TheVariants.{Failed, NoMemory}
 use Rattle.bk_io.specs.Shelf.{IsCount}
@@ -13,14 +13,14 @@ ConsumesMore bytes old new = (more : List ℕ) × (0 < length more) × Consumes 
 
 -- what a read left of the reader under it: the bytes that were appended are those that it gave, in order, up to
 -- the limit or the end. Where memory is short, it gave more, which could not be appended.
-abbrev pub LeavesReader : Result Got FileFault → List ℕ → Option (List ℕ) → Option (List ℕ) → Type 0
+abbrev pub LeavesReader : Result ReadExtent FileFault → List ℕ → Option (List ℕ) → Option (List ℕ) → Type 0
 LeavesReader (Ok Whole) bytes old new = Consumes old new bytes × IsAtEnd new
 LeavesReader (Ok Cut) bytes old new = Consumes old new bytes
 LeavesReader (Err Failed) bytes old new = Consumes old new bytes
 LeavesReader (Err NoMemory) bytes old new = ConsumesMore bytes old new
 
 -- bytes of a reader are appended to those that were there
-abbrev pub AppendsRead : Result Got FileFault → ℕ → List ℕ → List ℕ → Option (List ℕ) → Option (List ℕ) → Type 0
+abbrev pub AppendsRead : Result ReadExtent FileFault → ℕ → List ℕ → List ℕ → Option (List ℕ) → Option (List ℕ) → Type 0
 AppendsRead r limit old new remaining_old remaining_new =
     (bytes : List ℕ) × (new ≡ old ++ bytes) × IsCount r limit (length bytes)
     × LeavesReader r bytes remaining_old remaining_new

@@ -1,12 +1,12 @@
 -- What functions that read ensure where they leave a scope too, or read all tokens.
 use Rattle.std.specs.Prelude.{◌≡◌, ◌≢◌, List, Result, Ok, Err}
 use Rattle.c_lexer.specs.Pieces.{Lexeme}
-use Rattle.c_token_cursor.specs.Answers.{ParseStopHasCause}
-use Rattle.c_token_cursor.specs.declared.cursor.ParseStop.{ParseStop}
-use Rattle.c_token_cursor.specs.declared.cursor.ParseStop.TheVariants.{NoMemory}
+use Rattle.c_parser_cursor.specs.Answers.{ParseStopHasCause}
+use Rattle.c_parser_cursor.specs.declared.cursor.ParseStop.{ParseStop}
+use Rattle.c_parser_cursor.specs.declared.cursor.ParseStop.TheVariants.{NoMemory}
 use Rattle.c_tree.specs.declared.declarations.External.{External}
-use Rattle.c_grammar.specs.Tokens.{TypeNames}
-use Rattle.c_grammar.specs.Parser.{ParseOutcome}
+use Rattle.c_parser_grammar.specs.Tokens.{TypeNames}
+use Rattle.c_parser_grammar.specs.Parser.{ParseOutcome}
 
 -- of a function that leaves a scope
 abbrev pub AnswersIn :

@@ -1,9 +1,9 @@
 -- Why a text is not read, by why its parts are not.
 use Rattle.std.specs.Prelude.{ℕ}
-use Rattle.c_nesting.specs.declared.fault.ScanFault.{ScanFault}
-use Rattle.c_nesting.specs.declared.fault.ScanFault.TheVariants as scan
-use Rattle.c_token_cursor.specs.declared.cursor.ParseStop.{ParseStop}
-use Rattle.c_token_cursor.specs.declared.cursor.ParseStop.TheVariants as stop
+use Rattle.c_parser_nesting.specs.declared.fault.ScanFault.{ScanFault}
+use Rattle.c_parser_nesting.specs.declared.fault.ScanFault.TheVariants as scan
+use Rattle.c_parser_cursor.specs.declared.cursor.ParseStop.{ParseStop}
+use Rattle.c_parser_cursor.specs.declared.cursor.ParseStop.TheVariants as stop
 use Rattle.c_parser.specs.declared.fault.ParseFault.{ParseFault}
 use Rattle.c_parser.specs.declared.fault.ParseFault.TheVariants.{Lex, Syntax, NoMemory}
 

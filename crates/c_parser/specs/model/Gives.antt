@@ -4,8 +4,8 @@ use Rattle.bk_memory.specs.Shortage.{MemoryIsShort}
 use Rattle.c_lexer.specs.Pieces.{Lexeme, Toks}
 use Rattle.c_tree.specs.declared.declarations.TranslationUnit.{TranslationUnit}
 use Rattle.c_tree.specs.Nodes.{unit_height}
-use Rattle.c_grammar.specs.ParseUnits.{unit}
-use Rattle.c_token_cursor.specs.Answers.{place_or}
+use Rattle.c_parser_grammar.specs.ParseUnits.{unit}
+use Rattle.c_parser_cursor.specs.Answers.{place_or}
 use Rattle.c_parser.specs.Limits.{most_height}
 use Rattle.c_parser.specs.declared.fault.ParseFault.{ParseFault}
 use Rattle.c_parser.specs.declared.fault.ParseFault.TheVariants.{Lex, Nesting, Syntax, NoMemory}

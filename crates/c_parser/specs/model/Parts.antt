@@ -4,13 +4,13 @@ use Rattle.c_tree.specs.declared.types.TypeNode.{TypeNode}
 use Rattle.c_tree.specs.declared.declarations.Storage.{Storage}
 use Rattle.c_tree.specs.declared.declarations.External.{External}
 use Rattle.c_tree.specs.declared.declarations.External.TheVariants as x
-use Rattle.c_grammar.specs.declared.shapes.NameRequirement.TheVariants as nm
-use Rattle.c_grammar.specs.Tokens.{TypeNames}
-use Rattle.c_grammar.specs.Units.{with_type}
-use Rattle.c_grammar.specs.Parser.{Parser, and_then, pure}
-use Rattle.c_grammar.specs.ParseExpr.{declarator}
-use Rattle.c_grammar.specs.ParseSpecifiers.{declaration}
-use Rattle.c_grammar.specs.ParseUnits.{object_named}
+use Rattle.c_parser_grammar.specs.declared.shapes.NameRequirement.TheVariants as nm
+use Rattle.c_parser_grammar.specs.Tokens.{TypeNames}
+use Rattle.c_parser_grammar.specs.Units.{with_type}
+use Rattle.c_parser_grammar.specs.Parser.{Parser, and_then, pure}
+use Rattle.c_parser_grammar.specs.ParseExpr.{declarator}
+use Rattle.c_parser_grammar.specs.ParseSpecifiers.{declaration}
+use Rattle.c_parser_grammar.specs.ParseUnits.{object_named}
 
 -- one declarator of a `typedef`, whose name is that of a type from then on
 unfoldable pub typedef_declarator : TypeNames → ℕ → TypeNode → Parser (External × TypeNames)

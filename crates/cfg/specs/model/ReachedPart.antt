@@ -1,6 +1,6 @@
 -- What the part of a function to which paths lead keeps of the whole.
 use Rattle.std.specs.Prelude.{ℕ, ◌≤◌, Bool, List, All, IsTrue, length}
-use Rattle.suifvm_ir.specs.Functions.{AllInsns, GoesToBlocks, EndsLate, UsesRegisters, stops, count_of}
+use Rattle.pass_core.specs.Functions.{AllInsns, GoesToBlocks, EndsLate, UsesRegisters, stops, count_of}
 use Rattle.cfg.specs.Edges.{successors_from, edge_count}
 use Rattle.cfg.specs.Walks.{SameWalks}
 use Rattle.cfg.specs.Paths.{AllReached}

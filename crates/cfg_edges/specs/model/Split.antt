@@ -1,7 +1,7 @@
 -- Blocks behind which each edge that leaves them gets a block of its own.
 use Rattle.std.specs.Prelude.{ℕ, suc, ◌+◌, ◌&&◌, Bool, true, false, List, [], ◌∷◌, ◌++◌, map, length, Option, Some, None, slice_index_or, nat_lt}
 use Rattle.std.specs.List.{list_any}
-use Rattle.suifvm_ir.specs.Functions.{last_of}
+use Rattle.pass_core.specs.Functions.{last_of}
 use Rattle.cfg.specs.Renumber.{with_targets, renumber}
 
 -- a block has two predecessors or more

@@ -1,58 +1,45 @@
 -- What was made of a text, as far as it was kept.
-use Rattle.std.specs.Prelude.{◌≡◌, ℕ, List, Some}
+use Rattle.std.specs.Prelude.{◌≡◌, ℕ, ◌*◌, ◌≤◌, List, Option, Some, length}
+use Rattle.std.specs.List.{AllZip}
 use Rattle.std.specs.Global.{Vec}
-use Rattle.alpha_items.specs.Assembly.{Assembly}
 use Rattle.c_tree.specs.declared.declarations.TranslationUnit.{TranslationUnit}
 use Rattle.c_typed_tree.specs.declared.units.TypedUnit.{TypedUnit}
-use Rattle.c_lawful_unit.specs.declared.LawfulUnit.{LawfulUnit}
-use Rattle.suifvm_ir.specs.declared.program.VmProgram.{VmProgram}
+use Rattle.c_typed_tree.specs.Weight.{unit_weight}
 use Rattle.temp_ir.specs.declared.program.TempProgram.{TempProgram}
+use Rattle.temp_ir.specs.Programs.{TempFn}
 use Rattle.alloc_model.specs.declared.allocation.Allocation.{Allocation}
-use Rattle.plain_programs.specs.Allocations.{AreAllocationsOf}
-use Rattle.compile_options.specs.declared.Allocator.{Allocator}
-use Rattle.front_end.specs.Units.{IsUnitWithin}
+use Rattle.alloc_rules.specs.Allocations.{AreAllocationsOf}
+use Rattle.call_words.specs.declared.compile_options.Allocator.{Allocator}
+use Rattle.compiler_front_end.specs.Units.{IsUnitWithin}
 use Rattle.compiler.specs.declared.built.AssemblyParts.{AssemblyParts}
 use Rattle.compiler.specs.declared.built.Built.{Built}
-use Rattle.compiler.specs.declared.built.CodeParts.{CodeParts}
 use Rattle.compiler.specs.declared.built.Parts.{Parts}
 use Rattle.compiler.specs.declared.built.WantedParts.{WantedParts}
 use Rattle.compiler.specs.declared.built.WantedParts.TheVariants.{Everything}
-use Rattle.compiler.specs.Made.{Made, AllocatesBy}
-use Rattle.compiler.specs.model.Stages.{IsCodeWithin, IsAssemblyOf}
+use Rattle.compiler.specs.Made.{Made}
+use Rattle.compiler.specs.model.Stages.{IsAssemblyOf}
 
 -- a text has this tree, and this is its typed unit, which is within the limits
 pub record UnitHasText (tree : TranslationUnit) (u : TypedUnit) : Type 0 where
   pub text : List ℕ
   pub front : IsUnitWithin text tree u
 
--- ---- the code
+-- ---- what one pass leaves
 
--- there is code of a unit over virtual registers from which this code over temporaries is made; the unit and that code
--- are kept if everything is wanted
-pub record AreCodePartsOf (u : LawfulUnit) (wanted : WantedParts) (p : CodeParts) : Type 0 where
-  pub vm : VmProgram
-  pub code : IsCodeWithin u.unit vm p.temps
-  pub unit : wanted ≡ Everything → p.typed ≡ Some u
-  pub kept : wanted ≡ Everything → p.vm ≡ Some vm
+-- what a pass was given is kept if everything is wanted
+abbrev pub IsKept : {A : Type 0} → WantedParts → A → Option A → Type 0
+IsKept wanted value kept = wanted ≡ Everything → kept ≡ Some value
 
--- ---- the assembly
-
--- there are allocations of the functions of a program that an allocator makes, of which this is the assembly
-pub record HasAllocations (temps : TempProgram) (allocator : Allocator) (asm : Assembly) : Type 0 where
-  pub allocations : List Allocation
-  pub are : AreAllocationsOf temps.functions allocations
-  pub by : AllocatesBy allocator temps.functions allocations
-  pub assembly : IsAssemblyOf temps allocations asm
-
--- the same, where the program and the allocations are kept if everything is wanted
-pub record AreAssemblyPartsOf (temps : TempProgram) (allocator : Allocator) (wanted : WantedParts) (p : AssemblyParts) :
-    Type 0 where
+-- there are allocations that an allocator gives for the functions of a program, of which this is the assembly; the
+-- program and they are kept if everything is wanted
+pub record AreAssemblyPartsOf (allocates : TempFn → Allocation → Type 0) (temps : TempProgram) (wanted : WantedParts)
+    (p : AssemblyParts) : Type 0 where
   pub allocations : Vec Allocation
   pub are : AreAllocationsOf temps.functions allocations.items
-  pub by : AllocatesBy allocator temps.functions allocations.items
+  pub by : AllZip allocates temps.functions allocations.items
   pub assembly : IsAssemblyOf temps allocations.items p.asm
-  pub program : wanted ≡ Everything → p.temps ≡ Some temps
-  pub kept : wanted ≡ Everything → p.allocations ≡ Some allocations
+  pub program : IsKept wanted temps p.temps
+  pub kept : IsKept wanted allocations p.allocations
 
 -- ---- all parts
 
@@ -73,9 +60,11 @@ pub record PartsAreWhole (p : Parts) : Type 0 where
   pub built : Built
   pub are : p ≡ parts_of_built built
 
--- this is left of what was made of a text by an allocator: its image, and all else if everything is wanted
+-- this is left of what was made of a text by an allocator: its image, which has few words, and all else if everything
+-- is wanted
 pub record ArePartsOf (text : List ℕ) (allocator : Allocator) (wanted : WantedParts) (p : Parts) : Type 0 where
   pub built : Built
   pub made : Made text allocator built
   pub image : p.image ≡ built.image
+  pub short : length p.image.words ≤ 2048 * unit_weight built.typed.unit
   pub all : wanted ≡ Everything → p ≡ parts_of_built built

@@ -1,57 +1,72 @@
 -- What one stage of the compiler gives to the next.
-use Rattle.std.specs.Prelude.{◌≡◌, ℕ, ◌+◌, ◌^◌, ◌<◌, ◌≤◌, IsTrue, List, All, length, sum_by}
-use Rattle.alpha_isa.specs.Behave.{IsStack}
+use Rattle.std.specs.Prelude.{◌≡◌, ℕ, ◌+◌, ◌*◌, ◌^◌, ◌<◌, ◌≤◌, Bool, IsTrue, List, All, length, sum_by}
+use Rattle.std.specs.List.{AllZip}
 use Rattle.alpha_items.specs.Assembly.{Assembly, IsWhole}
 use Rattle.alpha_items.specs.Items.{is_name}
+use Rattle.alpha_items.specs.Layout.{text_words}
 use Rattle.alpha_items.specs.declared.final_fn.FinalFn.{FinalFn}
 use Rattle.alpha_asm.specs.Fault.{HasFewWords}
-use Rattle.data_object.specs.declared.TheConstants.{MOST_DATA}
-use Rattle.data_object.specs.Globals.{AreLawful}
-use Rattle.data_object.specs.Layout.{data_end}
+use Rattle.mem_objects.specs.declared.TheConstants.{MOST_DATA}
+use Rattle.mem_objects.specs.Globals.{AreLawful}
+use Rattle.mem_objects.specs.Layout.{data_end}
 use Rattle.c_tree.specs.declared.declarations.TranslationUnit.{TranslationUnit}
 use Rattle.c_typed_tree.specs.declared.units.TypedUnit.{TypedUnit}
-use Rattle.c_lawful_unit.specs.declared.LawfulUnit.{LawfulUnit}
-use Rattle.c_semantics.specs.Behaves.{meaning, rooms_of}
+use Rattle.c_typed_tree.specs.declared.c_lawful_unit.LawfulUnit.{LawfulUnit}
+use Rattle.c_typed_tree.specs.Weight.{unit_weight}
+use Rattle.c_semantics.specs.Behaves.{rooms_of}
 use Rattle.suifvm_ir.specs.declared.program.VmProgram.{VmProgram}
-use Rattle.suifvm_ir.specs.Programs.{program_size}
+use Rattle.pass_core.specs.Functions.{count_of}
+use Rattle.suifvm_ir.specs.Programs.{VmFunction, program_size}
 use Rattle.lowering.specs.Lowered.{AreWithinWeight}
 use Rattle.lowering_theorem.specs.Laws.{IsCodeOf}
 use Rattle.temp_ir.specs.declared.program.TempProgram.{TempProgram}
 use Rattle.temp_ir.specs.Programs.{TempFn}
 use Rattle.alpha_select.specs.Selection.{AreSelected, CostLittle}
 use Rattle.selection_laws.specs.Laws.{SelectionKeeps}
-use Rattle.program_passes.specs.Prepared.{ArePrepared}
+use Rattle.block_passes.specs.Clauses.{IsReached, IsSplit}
+use Rattle.block_passes.specs.Keeps.{Keeps}
 use Rattle.alloc_model.specs.declared.allocation.Allocation.{Allocation}
-use Rattle.plain_programs.specs.Allocations.{AreAllocationsOf}
-use Rattle.program_rooms.specs.AllocationLaws.{HasFrame}
-use Rattle.program_rooms.specs.Assemblies.{whole_assembly}
-use Rattle.program_rooms.specs.Layouts.{end_label, FitsProgram, FunctionsAreLaidOut}
-use Rattle.program_rooms.specs.Programs.{IsAllocated, HasItemsOf, ProgramPlacement, plans_of}
-use Rattle.compile_options.specs.declared.Allocator.{Allocator}
-use Rattle.same_behaviour.specs.Same.{Same}
-use Rattle.front_end.specs.Units.{IsUnitWithin}
+use Rattle.alloc_rules.specs.Allocations.{AreAllocationsOf}
+use Rattle.image_assembly_laws.specs.allocation_laws.Laws.{HasFrame}
+use Rattle.image_assembly.specs.Assemblies.{whole_assembly}
+use Rattle.image_assembly.specs.Layouts.{end_label, FitsProgram, FunctionsAreLaidOut}
+use Rattle.image_assembly.specs.Programs.{IsAllocated, HasItemsOf, ProgramPlacement, plans_of}
+use Rattle.call_words.specs.declared.compile_options.Allocator.{Allocator}
+use Rattle.compiler_theorem.specs.Correct.{IsCorrectImage}
+use Rattle.compiler_front_end.specs.Units.{IsUnitWithin}
 use Rattle.compiler.specs.declared.built.Built.{Built}
-use Rattle.compiler.specs.Made.{Made, CodeRunsAs, IsTidy}
+use Rattle.compiler.specs.Made.{Made, CodeRunsAs, IsCalledAs}
 
 -- ---- the code of a unit
 
--- what selection and the passes over blocks give of code over virtual registers
-pub record AreTempsOf (vm : VmProgram) (temps : TempProgram) : Type 0 where
-  pub selected : TempProgram
-  pub are_selected : AreSelected vm.functions selected.functions
-  pub keeps : SelectionKeeps vm selected
-  pub costs : CostLittle vm.functions selected.functions
-  pub prepared : ArePrepared selected.functions temps.functions
-  pub same_globals : temps.globals ≡ selected.globals
-  pub globals : temps.globals ≡ vm.globals
-  pub labels : sum_by (λ (f : TempFn). length f.blocks + 2) temps.functions < 2 ^ 30
-
--- what lowering and these give of a unit
-pub record IsCodeWithin (u : TypedUnit) (vm : VmProgram) (temps : TempProgram) : Type 0 where
+-- what lowering gives of a unit
+pub record IsLoweredUnit (u : TypedUnit) (vm : VmProgram) : Type 0 where
   pub code : IsCodeOf u vm
   pub weights : AreWithinWeight u.structs u.functions vm.functions
   pub size : program_size vm.functions ≤ 2 ^ 24
-  pub over_temps : AreTempsOf vm temps
+  pub registers : All (λ (f : VmFunction). f.temps ≤ 2 ^ 24) vm.functions
+
+-- what selection gives of code over virtual registers
+pub record IsSelectedProgram (vm : VmProgram) (selected : TempProgram) : Type 0 where
+  pub functions : AreSelected vm.functions selected.functions
+  pub globals : selected.globals ≡ vm.globals
+  pub keeps : SelectionKeeps vm selected
+  pub costs : CostLittle vm.functions selected.functions
+  pub few : sum_by (λ (f : TempFn). 5 * length f.blocks + count_of f.blocks) selected.functions < 2 ^ 30
+
+-- what the passes over blocks give of the selected code
+pub record ArePassed (selected temps : TempProgram) : Type 0 where
+  pub keeps : Keeps 1 selected temps
+  pub reached : All IsReached temps.functions
+  pub split : All IsSplit temps.functions
+  pub labels : sum_by (λ (f : TempFn). length f.blocks + 2) temps.functions < 2 ^ 30
+
+-- so the code over temporaries is that of a unit
+pub record IsCodeWithin (u : TypedUnit) (vm : VmProgram) (temps : TempProgram) : Type 0 where
+  pub lowered : IsLoweredUnit u vm
+  pub selected : TempProgram
+  pub selection : IsSelectedProgram vm selected
+  pub passed : ArePassed selected temps
 
 -- ---- the assembly
 
@@ -91,11 +106,12 @@ pub record IsAssemblyOfUnit (u : TypedUnit) (vm : VmProgram) (temps : TempProgra
     (asm : Assembly) : Type 0 where
   pub runs : CodeRunsAs u vm
   pub selection : SelectionKeeps vm temps
-  pub tidy : All IsTidy temps.functions
+  pub called : AllZip IsCalledAs vm.functions temps.functions
   pub allocated : IsAllocated temps allocations (rooms_of u)
   pub placing : ProgramPlacement
   pub items : HasItemsOf asm temps (plans_of allocations) placing
   pub few_words : HasFewWords asm
+  pub short : (far : List Bool) → text_words asm.items far ≤ 2048 * unit_weight u
 
 abbrev pub AssembliesAreMade : Type 0
 AssembliesAreMade =
@@ -106,7 +122,8 @@ AssembliesAreMade =
 
 -- ---- the image
 
-abbrev pub ImagesAreSame : Type 0
-ImagesAreSame =
+-- what was made of a text, with so few words, has an image that is right for the text
+abbrev pub ImagesAreCorrect : Type 0
+ImagesAreCorrect =
     (text : List ℕ) (allocator : Allocator) (b : Built) → Made text allocator b →
-    (stack : ℕ) → IsStack stack → Same (meaning b.typed.unit) b.image stack
+    length b.image.words ≤ 2048 * unit_weight b.typed.unit → IsCorrectImage text b.image

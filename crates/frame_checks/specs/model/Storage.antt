@@ -1,9 +1,9 @@
 -- What is asked of objects, as tests along a list from an end on.
 use Rattle.std.specs.Prelude.{ℕ, ◌+◌, ◌&&◌, ◌==◌, nat_le, Bool, true, List, [], ◌∷◌}
-use Rattle.data_object.specs.declared.DataObject.{DataObject}
-use Rattle.data_object.specs.declared.TheConstants.{MOST_DATA}
-use Rattle.data_object.specs.Layout.{place_after}
-use Rattle.suifvm_ir.specs.declared.function.MemoryLocal.{MemoryLocal}
+use Rattle.mem_objects.specs.declared.DataObject.{DataObject}
+use Rattle.mem_objects.specs.declared.TheConstants.{MOST_DATA}
+use Rattle.mem_objects.specs.Layout.{place_after}
+use Rattle.pass_core.specs.declared.function.MemoryLocal.{MemoryLocal}
 
 -- objects of static storage lie one behind the other, and none of them past the end of the most data
 abbrev pub lie_from : (end : ℕ) → List DataObject → Bool

@@ -1,7 +1,7 @@
 -- All that is asked, by the parts that are tested.
 use Rattle.std.specs.Prelude.{ℕ, ◌+◌, ◌<◌, ◌≤◌, ◌^◌, ◌&&◌, Bool, List, length}
 use Rattle.std.specs.List.{list_all}
-use Rattle.data_object.specs.declared.DataObject.{DataObject}
+use Rattle.mem_objects.specs.declared.DataObject.{DataObject}
 use Rattle.alloc_model.specs.declared.allocation.Allocation.{Allocation}
 use Rattle.frame_checks.specs.model.Asked.{is_asked}
 use Rattle.frame_checks.specs.model.Storage.{lie_from, are_small_from}

@@ -1,6 +1,6 @@
 -- The edges whose transfers stand at the top or at the end of a block, by a key for each edge: the block's number.
 use Rattle.std.specs.Prelude.{ℕ, suc, ◌==◌, List, [], Option, Some, None, slice_get, slice_index_or, if◌then◌else◌}
-use Rattle.suifvm_ir.specs.Functions.{last_of}
+use Rattle.pass_core.specs.Functions.{last_of}
 use Rattle.temp_ir.specs.declared.insn.TempInsn.{TempInsn}
 use Rattle.temp_ir.specs.declared.insn.TempInsn.TheVariants.{Branch, Jump, Return}
 use Rattle.alloc_model.specs.declared.allocation.EdgeCode.{EdgeCode}

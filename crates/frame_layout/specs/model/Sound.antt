@@ -1,6 +1,6 @@
 -- What is known of a layout while items are made by it.
 use Rattle.std.specs.Prelude.{◌≡◌, ◌+◌, ◌<◌, ◌^◌, List, All, Some, length}
-use Rattle.suifvm_ir.specs.Functions.{count_of, last_of}
+use Rattle.pass_core.specs.Functions.{count_of, last_of}
 use Rattle.temp_ir.specs.declared.insn.TempInsn.{TempInsn}
 use Rattle.temp_ir.specs.declared.insn.TempInsn.TheVariants.{Jump}
 use Rattle.frame_emitter.specs.declared.layout.FrameLayout.{FrameLayout}

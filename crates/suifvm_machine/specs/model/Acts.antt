@@ -6,7 +6,7 @@ use Rattle.mem_model.specs.Ending.{Ending, Done, Undefined}
 use Rattle.machine_model.specs.Code.{Act}
 use Rattle.machine_model.specs.Machine.{Config, Next, act_on}
 use Rattle.suifvm_ir.specs.declared.insn.VmInsn.{VmInsn}
-use Rattle.vm_meaning.specs.Behave.{Registers, insn_site, vm_code}
+use Rattle.suifvm_meaning.specs.Behave.{Registers, insn_site, vm_code}
 use Rattle.suifvm_machine.specs.declared.machine.Machine.{Machine}
 use Rattle.suifvm_machine.specs.Config.{HiddenState, config_of, world_in, program_of}
 

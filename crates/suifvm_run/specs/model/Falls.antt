@@ -5,7 +5,7 @@ use Rattle.machine_model.specs.Machine.{Frame, Config}
 use Rattle.suifvm_ir.specs.declared.insn.VmInsn.{VmInsn}
 use Rattle.suifvm_ir.specs.declared.insn.VmInsn.TheVariants.{Mark}
 use Rattle.suifvm_ir.specs.Programs.{goes_back_to_marks}
-use Rattle.vm_meaning.specs.Behave.{FunctionCode, Registers, blocks_in}
+use Rattle.suifvm_meaning.specs.Behave.{FunctionCode, Registers, blocks_in}
 use Rattle.suifvm_machine.specs.declared.machine.Machine.{Machine}
 use Rattle.suifvm_machine.specs.Config.{HiddenState, config_of, program_of}
 

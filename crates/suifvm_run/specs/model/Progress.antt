@@ -3,7 +3,7 @@ use Rattle.std.specs.Prelude.{◌≡◌, ℕ, ◌++◌, Option, Some, None, opti
 use Rattle.mem_model.specs.declared.value.Value.{Value}
 use Rattle.mem_model.specs.World.{Rooms}
 use Rattle.machine_model.specs.Machine.{Config, Goes, exec}
-use Rattle.vm_meaning.specs.Behave.{Registers, vm_code}
+use Rattle.suifvm_meaning.specs.Behave.{Registers, vm_code}
 use Rattle.suifvm_run.specs.declared.ending.VmEnding.{VmEnding}
 use Rattle.suifvm_run.specs.declared.ending.VmEnding.TheVariants as e
 use Rattle.suifvm_machine.specs.declared.machine.Machine.{Machine}

@@ -1,6 +1,6 @@
 -- What was put, with the text of what is left behind it, is the whole.
 use Rattle.std.proofs.Common.{◌≡◌, ◌+◌, ◌++◌, drop}
-use Rattle.suifvm_ir.specs.Functions.{count_of}
+use Rattle.pass_core.specs.Functions.{count_of}
 use Rattle.alloc_lines.specs.Text.{blocks_lines}
 use Rattle.alloc_lines.proofs.text.put_blocks.Given as goal
 

@@ -3,7 +3,7 @@ use Rattle.alloc_model.specs.Temporaries.{code_of}
 use Rattle.alloc_model.specs.Faithful.{Faithful}
 use Rattle.alloc_rules.specs.Lean.{IsLean}
 use Rattle.alloc_rules.specs.Journal.{IsJournal}
-use Rattle.plain_lists.specs.Plain.{plain_plan}
+use Rattle.alloc_plain_lists.specs.Plain.{plain_plan}
 use Rattle.alloc_plain.proofs.allocation.plain.Goals as goal
 
 pub returns-clause-faithful : goal.returns-clause-faithful

@@ -1,5 +1,5 @@
 use Rattle.std.proofs.Common.{length, All, arith}
-use Rattle.suifvm_ir.specs.Functions.{UsesRegisters}
+use Rattle.pass_core.specs.Functions.{UsesRegisters}
 use Rattle.temp_ir.specs.Insns.{reads_of, writes_of}
 use Rattle.bitvector_flow.proofs.Registers.{at_item}
 use Rattle.alloc_plain.proofs.journal.put_blocks.Goals as goal

@@ -1,6 +1,6 @@
 -- What was put, with the events of the blocks that are left behind it, is the whole.
 use Rattle.std.proofs.Common.{◌≡◌, ◌++◌, ◌<◌, length, take, drop}
-use Rattle.suifvm_ir.specs.Functions.{count_of}
+use Rattle.pass_core.specs.Functions.{count_of}
 use Rattle.alloc_plain.specs.model.Held.{nothing_held, Holds}
 use Rattle.alloc_plain.specs.model.Visits.{journal_in_slots}
 use Rattle.alloc_plain.proofs.journal.put_blocks.Given as goal

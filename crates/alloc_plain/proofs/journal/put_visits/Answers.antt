@@ -1,9 +1,9 @@
 use Rattle.std.proofs.Common.{rules, ◌≡◌, ◌+◌, ◌++◌, None, refl, sym, ap, subst, length, All}
 use Rattle.bk_ilist.specs.Listing.{items}
-use Rattle.suifvm_ir.specs.Functions.{UsesRegisters}
+use Rattle.pass_core.specs.Functions.{UsesRegisters}
 use Rattle.temp_ir.specs.Insns.{reads_of, writes_of}
 use Rattle.bitvector_flow.proofs.Registers.{first_left, others_left}
-use Rattle.lifetime_ends.proofs.Raising.{left_next}
+use Rattle.alloc_lifetime_ends.proofs.Raising.{left_next}
 use Rattle.alloc_plain.specs.model.Held.{held_behind_all}
 use Rattle.alloc_plain.specs.model.Visits.{visits_in_slots}
 use Rattle.alloc_plain.proofs.Loops.{visits_next, behind_next, behind_below}

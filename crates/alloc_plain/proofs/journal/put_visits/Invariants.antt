@@ -1,7 +1,7 @@
 -- What was put, with the events of what is left behind it, is the whole.
 use Rattle.std.proofs.Common.{◌≡◌, ◌+◌, ◌++◌, ◌<◌, None, length, All}
 use Rattle.bk_ilist.specs.Listing.{items}
-use Rattle.suifvm_ir.specs.Functions.{UsesRegisters}
+use Rattle.pass_core.specs.Functions.{UsesRegisters}
 use Rattle.temp_ir.specs.Insns.{reads_of, writes_of}
 use Rattle.alloc_plain.specs.model.Held.{held_behind_all, Holds}
 use Rattle.alloc_plain.specs.model.Visits.{visits_in_slots}

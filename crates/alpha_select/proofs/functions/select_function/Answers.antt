@@ -1,12 +1,12 @@
 use Rattle.std.proofs.Common.{◌≡◌, map, sym, ap, ◌∙◌, subst}
-use Rattle.suifvm_ir.specs.Functions.{AllInsns}
+use Rattle.pass_core.specs.Functions.{AllInsns}
 use Rattle.selection_code.specs.Fields.{HasNumbers}
 use Rattle.selection_code.specs.Functions.{selected_blocks}
 use Rattle.suifvm_ir.specs.Programs.{VmFunction}
-use Rattle.value_tests.specs.Tests.{tested_block}
-use Rattle.value_tests.proofs.Functions.{tested_function}
-use Rattle.selection_shapes.proofs.Shaped.{blocks_shaped}
-use Rattle.selection_shapes.proofs.Registers.{registers_used}
+use Rattle.suifvm_zero_branches.specs.Tests.{tested_block}
+use Rattle.suifvm_zero_branches.proofs.Functions.{tested_function}
+use Rattle.selection_bounds.proofs.SelectionShapes.Shaped.{blocks_shaped}
+use Rattle.selection_bounds.proofs.SelectionShapes.Registers.{registers_used}
 use Rattle.alpha_select.specs.model.Limits.{IsWithinLimits}
 use Rattle.alpha_select.proofs.Bounds.{numbers, few_blocks, few_insns}
 use Rattle.alpha_select.proofs.Lawful.{within_limits}

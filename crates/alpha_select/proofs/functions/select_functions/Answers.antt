@@ -1,4 +1,4 @@
-use Rattle.suifvm_ir.specs.Functions.{AllInsns}
+use Rattle.pass_core.specs.Functions.{AllInsns}
 use Rattle.suifvm_ir.specs.Programs.{VmFunction}
 use Rattle.selection_code.specs.Fields.{HasFields}
 use Rattle.alpha_select.proofs.Lists.{selected_turn, all_turn}

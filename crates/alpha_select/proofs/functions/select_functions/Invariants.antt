@@ -1,6 +1,6 @@
 -- What was selected so far is the front of the list.
 use Rattle.std.proofs.Common.{take, All}
-use Rattle.suifvm_ir.specs.Functions.{AllInsns}
+use Rattle.pass_core.specs.Functions.{AllInsns}
 use Rattle.suifvm_ir.specs.Programs.{VmFunction}
 use Rattle.selection_code.specs.Fields.{HasFields}
 use Rattle.alpha_select.specs.Selection.{AreSelected}

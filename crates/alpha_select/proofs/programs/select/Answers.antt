@@ -1,6 +1,6 @@
 use Rattle.std.proofs.Common.{◌≡◌, All, sym, ◌∙◌, subst, arith}
-use Rattle.data_object.specs.Globals.{AreLawful}
-use Rattle.suifvm_ir.specs.Functions.{AllInsns}
+use Rattle.mem_objects.specs.Globals.{AreLawful}
+use Rattle.pass_core.specs.Functions.{AllInsns}
 use Rattle.suifvm_ir.specs.Programs.{VmFunction}
 use Rattle.temp_ir.specs.Programs.{IsLawfulTempFn}
 use Rattle.selection_code.specs.Fields.{HasFields}

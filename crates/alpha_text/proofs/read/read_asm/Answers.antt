@@ -2,10 +2,10 @@
 use Rattle.std.proofs.Common.{◌≡◌, ◌≤◌, sym, ◌∙◌, subst}
 use Rattle.alpha_isa.specs.Program.{most_bytes}
 use Rattle.alpha_text.specs.declared.fault.TextFault.TheVariants as fault
-use Rattle.alpha_text.specs.Texts.{Texts}
+use Rattle.alpha_text.specs.Texts.{Texts, HasText}
 use Rattle.alpha_text.specs.Read.{IsTextFault}
 use Rattle.alpha_text.proofs.Joined.{raised_fault, raised_only}
-use Rattle.alpha_text.proofs.Whole.{read_whole, read_text}
+use Rattle.alpha_text.proofs.Whole.{read_whole, read_text, read_fields}
 use Rattle.alpha_text.proofs.Again.{read_again, fault_again}
 use Rattle.alpha_text.proofs.read.read_asm.Goals as goal
 
@@ -33,6 +33,11 @@ pub returns-clause-text : goal.returns-clause-text
 returns-clause-text c =
     let p = c.in_ok-parts.parts in
     subst (Texts c.args.text.now) (sym c.new.ensures.asm) (read_text c.args.text.now p.items.items p.count p.bytes.items p.fixes.items c.in_ok-parts.ensures.read)
+
+pub returns-clause-fields : goal.returns-clause-fields
+returns-clause-fields c =
+    let p = c.in_ok-parts.parts in
+    subst HasText (sym c.new.ensures.asm) (read_fields c.args.text.now p.items.items p.count p.bytes.items p.fixes.items c.in_ok-parts.ensures.read)
 
 pub returns-clause-only : goal.returns-clause-only
 returns-clause-only c asm whole has e =

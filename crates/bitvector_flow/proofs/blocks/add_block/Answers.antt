@@ -1,7 +1,7 @@
 use Rattle.std.proofs.Common.{◌≡◌, ◌&&◌, ◌||◌, not, rules, refl, sym, ap, ◌∙◌, subst, length, All}
 use Rattle.bk_ilist.specs.Listing.{items}
 use Rattle.bk_bits.specs.Sets.{has}
-use Rattle.suifvm_ir.specs.Functions.{UsesRegisters}
+use Rattle.pass_core.specs.Functions.{UsesRegisters}
 use Rattle.bitvector_flow.specs.Lives.{reads_first, some_writes, HasFewRegisters}
 use Rattle.bitvector_flow.proofs.Registers.{insn_reads, insn_writes, first_left, others_left, same_bound}
 use Rattle.bitvector_flow.proofs.blocks.add_block.Goals as goal

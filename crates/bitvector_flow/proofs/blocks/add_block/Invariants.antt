@@ -1,6 +1,6 @@
 -- The sets so far, with what the instructions that are left read first and write, are those of the whole block.
 use Rattle.std.proofs.Common.{◌≡◌, ℕ, ◌&&◌, ◌||◌, not, length, All}
-use Rattle.suifvm_ir.specs.Functions.{UsesRegisters}
+use Rattle.pass_core.specs.Functions.{UsesRegisters}
 use Rattle.bk_bits.specs.Sets.{has}
 use Rattle.bk_ilist.specs.Listing.{items}
 use Rattle.bitvector_flow.specs.Lives.{reads_first, some_writes, HasFewRegisters}

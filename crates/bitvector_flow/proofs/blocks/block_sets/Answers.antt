@@ -1,5 +1,5 @@
 use Rattle.std.proofs.Common.{rules, arith, All}
-use Rattle.suifvm_ir.specs.Functions.{UsesRegisters}
+use Rattle.pass_core.specs.Functions.{UsesRegisters}
 use Rattle.bitvector_flow.specs.Lives.{HasFewRegisters}
 use Rattle.bitvector_flow.proofs.Registers.{begun_sets, sets_next, sets_all, at_item}
 use Rattle.bitvector_flow.proofs.blocks.block_sets.Goals as goal

@@ -1,6 +1,6 @@
 use Rattle.std.proofs.Common.{false, sym, ap, ◌∙◌, subst, length, All}
 use Rattle.std.proofs.lemmas.List.{length-replicate}
-use Rattle.suifvm_ir.specs.Functions.{UsesRegisters}
+use Rattle.pass_core.specs.Functions.{UsesRegisters}
 use Rattle.bitvector_flow.proofs.blocks.registers_of.Goals as goal
 
 pub add_block-requires-clause-inside : goal.add_block-requires-clause-inside

@@ -1,5 +1,5 @@
 use Rattle.std.proofs.Common.{sym, ap, ◌∙◌, subst, length}
-use Rattle.suifvm_ir.specs.Functions.{AllInsns, UsesRegisters}
+use Rattle.pass_core.specs.Functions.{AllInsns, UsesRegisters}
 use Rattle.bitvector_flow.proofs.Lives.{successors_count, live_found}
 use Rattle.bitvector_flow.proofs.live.liveness.Goals as goal
 

@@ -1,7 +1,7 @@
 use Rattle.std.proofs.Common.{rules, ◌≡◌, length, Ok}
 use Rattle.c_tree.specs.declared.declarations.TranslationUnit.{TranslationUnit}
-use Rattle.c_nesting.specs.HasNesting.{toks_of}
-use Rattle.c_grammar.specs.ParseUnits.{unit}
+use Rattle.c_parser_nesting.specs.HasNesting.{toks_of}
+use Rattle.c_parser_grammar.specs.ParseUnits.{unit}
 use Rattle.c_parser.proofs.Whole.{low_gives}
 use Rattle.c_parser.proofs.parsing.unit_of.Goals as goal
 

@@ -1,6 +1,6 @@
 use Rattle.std.proofs.Common.{◌≡◌, [], length, ◌+◌, ◌-◌, ◌*◌}
-use Rattle.c_grammar.specs.ParseSpecifiers.{braced_list_from}
-use Rattle.c_grammar.specs.ParseUnits.{init}
+use Rattle.c_parser_grammar.specs.ParseSpecifiers.{braced_list_from}
+use Rattle.c_parser_grammar.specs.ParseUnits.{init}
 use Rattle.c_parser.proofs.units.+init.Given as goal
 
 abbrev pub invariant-inits-loop-turn : goal.invariant-inits-loop-turn

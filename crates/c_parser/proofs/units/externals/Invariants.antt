@@ -1,5 +1,5 @@
 use Rattle.std.proofs.Common.{◌≡◌, [], length, ◌-◌}
-use Rattle.c_grammar.specs.ParseUnits.{externals_from}
+use Rattle.c_parser_grammar.specs.ParseUnits.{externals_from}
 use Rattle.c_parser.proofs.units.externals.Given as goal
 
 abbrev pub invariant-loop-turn : goal.invariant-loop-turn

@@ -1,6 +1,6 @@
 use Rattle.std.proofs.Common.{◌≡◌, None, subst, All}
-use Rattle.c_type_faults.specs.Faults.{sort_faults, head}
-use Rattle.c_text_bytes.specs.Bytes.{AreBytes}
+use Rattle.c_typing_faults.specs.Faults.{sort_faults, head}
+use Rattle.c_typing_text_laws.specs.c_text_bytes.Bytes.{AreBytes}
 use Rattle.c_types.proofs.Trees.{unit_trees}
 use Rattle.c_types.proofs.Lawful.{state_lawful}
 use Rattle.c_types.proofs.Heights.{state_within}

@@ -1,5 +1,5 @@
 use Rattle.std.proofs.Common.{[], ◌∙◌, ap, sym}
-use Rattle.suifvm_ir.specs.Functions.{last_of}
+use Rattle.pass_core.specs.Functions.{last_of}
 use Rattle.cfg.proofs.Lists.{last_has_id, last_item}
 use Rattle.cfg.proofs.Blocks.{id_stays, last_changed}
 use Rattle.cfg_edges.specs.model.Split.{target_after, to_one}

@@ -1,6 +1,7 @@
 use Rattle.std.proofs.Common.{subst, Some}
 use Rattle.call_outcomes.specs.FromFile.{IsCause}
-use Rattle.compile_calls.specs.Compile.{IsBuilt, RefusesText}
+use Rattle.compile_calls.specs.Built.{IsBuilt}
+use Rattle.compile_calls.specs.Compile.{RefusesText}
 use Rattle.compile_calls.proofs.Told.{built_told, cause_told}
 use Rattle.compile_calls.proofs.files.compile_file.Goals as goal
 

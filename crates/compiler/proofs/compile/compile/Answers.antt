@@ -1,4 +1,4 @@
-use Rattle.compiler.proofs.Parts.{whole, whole_made}
+use Rattle.compiler.proofs.Parts.{whole, whole_made, whole_correct}
 use Rattle.compiler.proofs.compile.compile.Goals as goal
 
 pub make-requires : goal.make-requires
@@ -14,6 +14,7 @@ returns-clause-made c =
     whole_made c.args.text.now c.args.options.now.allocator c.in_ok-parts.parts c.into_built.result
     (c.in_ok-parts.ensures.made c.args.text.now c.in_ok-front.ensures.unit) c.into_built.ensures
 
-pub returns-clause-same : goal.returns-clause-same
-returns-clause-same c =
-    c.images_are_same.ensures c.args.text.now c.args.options.now.allocator _ (returns-clause-made c)
+pub returns-clause-correct : goal.returns-clause-correct
+returns-clause-correct c =
+    whole_correct c.images_are_correct.ensures c.args.text.now c.args.options.now.allocator c.in_ok-parts.parts c.into_built.result
+    (c.in_ok-parts.ensures.made c.args.text.now c.in_ok-front.ensures.unit) c.into_built.ensures

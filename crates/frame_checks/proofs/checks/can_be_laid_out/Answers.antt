@@ -1,9 +1,9 @@
 use Rattle.std.proofs.Common.{◌+◌, ◌-◌, ◌<◌, ◌≤◌, ◌^◌, map, length}
 use Rattle.std.proofs.lemmas.Bool.{OnTrue_from}
-use Rattle.data_object.specs.Layout.{ObjectsLieFrom, data_end}
-use Rattle.suifvm_ir.specs.Functions.{AllInsns}
+use Rattle.mem_objects.specs.Layout.{ObjectsLieFrom, data_end}
+use Rattle.pass_core.specs.Functions.{AllInsns}
 use Rattle.alloc_model.specs.Effect.{widest_call}
-use Rattle.flat_frames.specs.Shapes.{objects_size}
+use Rattle.frame_memory.specs.flat_frames.Shapes.{objects_size}
 use Rattle.frame_layout.specs.Names.{NamesObjects, CallsBelow}
 use Rattle.frame_checks.proofs.checks.can_be_laid_out.Goals as goal
 

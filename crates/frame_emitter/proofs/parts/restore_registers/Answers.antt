@@ -1,5 +1,5 @@
 use Rattle.std.proofs.Common.{◌≡◌, ◌-◌, ◌∙◌, ap, subst, arith}
-use Rattle.call_parts.specs.Items.{restore_if, restore_registers}
+use Rattle.frame_steps.specs.call_parts.Items.{restore_if, restore_registers}
 use Rattle.frame_emitter.specs.Layouts.{shape_in}
 use Rattle.frame_emitter.proofs.Loops.{restore_more}
 use Rattle.frame_emitter.proofs.parts.restore_registers.Goals as goal

@@ -1,6 +1,6 @@
 -- The registers from one on.
 use Rattle.std.proofs.Common.{◌≡◌, ◌≤◌, ◌-◌}
-use Rattle.call_parts.specs.Items.{restore_registers}
+use Rattle.frame_steps.specs.call_parts.Items.{restore_registers}
 use Rattle.frame_emitter.specs.Layouts.{shape_in}
 use Rattle.frame_emitter.proofs.parts.restore_registers.Given as goal
 

@@ -1,5 +1,5 @@
 use Rattle.std.proofs.Common.{◌≡◌, ◌-◌, ◌∙◌, ap, subst, arith}
-use Rattle.call_parts.specs.Items.{save_if, save_registers}
+use Rattle.frame_steps.specs.call_parts.Items.{save_if, save_registers}
 use Rattle.frame_emitter.specs.Layouts.{shape_in}
 use Rattle.frame_emitter.proofs.Loops.{save_more}
 use Rattle.frame_emitter.proofs.parts.save_registers.Goals as goal

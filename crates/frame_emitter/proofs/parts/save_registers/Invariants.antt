@@ -1,6 +1,6 @@
 -- The registers from one on.
 use Rattle.std.proofs.Common.{◌≡◌, ◌≤◌, ◌-◌}
-use Rattle.call_parts.specs.Items.{save_registers}
+use Rattle.frame_steps.specs.call_parts.Items.{save_registers}
 use Rattle.frame_emitter.specs.Layouts.{shape_in}
 use Rattle.frame_emitter.proofs.parts.save_registers.Given as goal
 

@@ -1,5 +1,5 @@
 use Rattle.std.proofs.Common.{◌≡◌, drop}
-use Rattle.frame_transfers.specs.Items.{items_of_transfers}
+use Rattle.frame_steps.specs.frame_transfers.Items.{items_of_transfers}
 use Rattle.frame_emitter.specs.Layouts.{shape_in}
 use Rattle.frame_emitter.proofs.transfers.transfers.Given as goal
 

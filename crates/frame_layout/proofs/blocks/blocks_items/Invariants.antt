@@ -1,6 +1,6 @@
 -- The items of the blocks from one on, and the instructions before them.
 use Rattle.std.proofs.Common.{◌≡◌, drop, take}
-use Rattle.suifvm_ir.specs.Functions.{count_of}
+use Rattle.pass_core.specs.Functions.{count_of}
 use Rattle.frame_emitter.specs.Items.{blocks_items}
 use Rattle.frame_emitter.specs.Layouts.{plan_in, setting_in}
 use Rattle.frame_layout.proofs.blocks.blocks_items.Given as goal

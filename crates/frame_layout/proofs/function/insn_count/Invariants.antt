@@ -1,6 +1,6 @@
 -- The instructions of the blocks so far.
 use Rattle.std.proofs.Common.{◌≡◌, take}
-use Rattle.suifvm_ir.specs.Functions.{count_of}
+use Rattle.pass_core.specs.Functions.{count_of}
 use Rattle.frame_layout.proofs.function.insn_count.Given as goal
 
 abbrev pub invariant-loop-block : goal.invariant-loop-block

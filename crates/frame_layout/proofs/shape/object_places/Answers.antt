@@ -1,5 +1,5 @@
 use Rattle.std.proofs.Common.{◌≡◌, ◌+◌, ◌++◌, ◌∷◌, [], ◌∙◌, length, get_or, ap, arith, length-append}
-use Rattle.suifvm_ir.specs.declared.function.MemoryLocal.{MemoryLocal}
+use Rattle.pass_core.specs.declared.function.MemoryLocal.{MemoryLocal}
 use Rattle.frame_layout.proofs.Objects.{any_default, object_small, end_next, places_next}
 use Rattle.frame_layout.proofs.shape.object_places.Goals as goal
 

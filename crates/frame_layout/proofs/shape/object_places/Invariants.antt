@@ -1,6 +1,6 @@
 -- The objects so far have their places, and the next one begins where they end.
 use Rattle.std.proofs.Common.{◌≡◌, ℕ, ◌+◌, length, get_or, map, take}
-use Rattle.flat_frames.specs.Shapes.{bytes_before, objects_size}
+use Rattle.frame_memory.specs.flat_frames.Shapes.{bytes_before, objects_size}
 use Rattle.frame_layout.proofs.shape.object_places.Given as goal
 
 abbrev pub invariant-loop-object : goal.invariant-loop-object

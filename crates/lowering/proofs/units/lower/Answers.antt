@@ -1,7 +1,7 @@
 -- What was lowered is a program.
 use Rattle.std.proofs.Common.{◌≡◌, sym, subst}
 use Rattle.std.specs.Prelude.{All}
-use Rattle.data_object.specs.Globals.{AreLawful}
+use Rattle.mem_objects.specs.Globals.{AreLawful}
 use Rattle.suifvm_ir.specs.Programs.{IsLawfulFunction}
 use Rattle.lowering.specs.Lowered.{AreLowered}
 use Rattle.lowering.specs.model.Premises.{CanBeLowered}

@@ -1,9 +1,9 @@
 -- The blocks so far are the code of the front of the list, and the first has the code of the parameters.
 use Rattle.std.proofs.Common.{◌≡◌, take, map}
-use Rattle.suifvm_ir.specs.Functions.{AllInsns}
+use Rattle.pass_core.specs.Functions.{AllInsns}
 use Rattle.selection_code.specs.Functions.{selected_blocks}
 use Rattle.selection_code.specs.Fields.{HasFields}
-use Rattle.value_tests.specs.Tests.{tested_block}
+use Rattle.suifvm_zero_branches.specs.Tests.{tested_block}
 use Rattle.selection_code.proofs.Fronts.{waiting_at}
 use Rattle.selection_code.proofs.blocks.function_blocks.Given as goal
 

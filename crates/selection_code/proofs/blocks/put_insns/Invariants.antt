@@ -2,8 +2,8 @@ use Rattle.std.proofs.Common.{◌≡◌, ◌++◌, ◌-◌, ◌^◌, All}
 use Rattle.bk_ilist.specs.Listing.{items}
 use Rattle.selection_code.specs.Functions.{selected_insns}
 use Rattle.selection_code.specs.Fields.{HasFields, HasNumbers}
-use Rattle.value_tests.specs.Tests.{tested_from, tested_block}
-use Rattle.value_tests.specs.model.Registers.{KnownIsBelow}
+use Rattle.suifvm_zero_branches.specs.Tests.{tested_from, tested_block}
+use Rattle.suifvm_zero_branches.specs.model.Registers.{KnownIsBelow}
 use Rattle.selection_code.proofs.blocks.put_insns.Given as goal
 
 abbrev pub invariant-loop-line : goal.invariant-loop-line

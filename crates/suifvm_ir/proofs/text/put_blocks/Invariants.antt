@@ -1,5 +1,5 @@
 use Rattle.std.proofs.Common.{◌≡◌, ◌+◌, ◌++◌, drop}
-use Rattle.suifvm_ir.specs.Functions.{count_of}
+use Rattle.pass_core.specs.Functions.{count_of}
 use Rattle.suifvm_ir.specs.Text.{blocks_text}
 use Rattle.suifvm_ir.proofs.text.put_blocks.Given as goal
 

@@ -1,7 +1,7 @@
 use Rattle.std.proofs.Common.{◌≡◌, map, drop}
 use Rattle.std.specs.List.{list_all}
-use Rattle.vm_meaning.specs.Behave.{registers_of}
-use Rattle.vm_meaning.specs.Operations.{is_set}
+use Rattle.suifvm_meaning.specs.Behave.{registers_of}
+use Rattle.suifvm_meaning.specs.Operations.{is_set}
 use Rattle.suifvm_machine.proofs.calls.are_set.Given as goal
 
 abbrev pub invariant-loop-register : goal.invariant-loop-register

@@ -1,5 +1,5 @@
 use Rattle.std.proofs.Common.{◌≡◌, ◌++◌, map, drop, take}
-use Rattle.vm_meaning.specs.Behave.{registers_of}
+use Rattle.suifvm_meaning.specs.Behave.{registers_of}
 use Rattle.suifvm_machine.proofs.calls.push_registers.Given as goal
 
 abbrev pub invariant-loop-register : goal.invariant-loop-register

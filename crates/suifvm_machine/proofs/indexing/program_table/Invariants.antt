@@ -1,7 +1,7 @@
 use Rattle.std.proofs.Common.{◌≡◌, ℕ, List, ◌++◌, map, drop}
 use Rattle.suifvm_machine.specs.declared.tables.FunctionTable.{FunctionTable}
 use Rattle.suifvm_machine.specs.Tables.{table_code, FunctionsAreNumbered}
-use Rattle.vm_meaning.specs.Behave.{code_of}
+use Rattle.suifvm_meaning.specs.Behave.{code_of}
 use Rattle.suifvm_machine.proofs.indexing.program_table.Given as goal
 
 abbrev pub invariant-loop-function : goal.invariant-loop-function

@@ -1,6 +1,6 @@
 -- The value is the address.
 use Rattle.std.proofs.Common.{sym, ap}
-use Rattle.vm_meaning.specs.declared.answer.Answer.TheVariants.{Gives}
+use Rattle.suifvm_meaning.specs.declared.answer.Answer.TheVariants.{Gives}
 use Rattle.suifvm_run.proofs.AtOnce.{gave_value}
 use Rattle.suifvm_run.proofs.quick.quick_address.Goals as goal
 

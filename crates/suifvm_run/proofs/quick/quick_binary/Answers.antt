@@ -1,5 +1,5 @@
 -- The answer is the word.
-use Rattle.vm_meaning.specs.Operations.{binary_answer}
+use Rattle.suifvm_meaning.specs.Operations.{binary_answer}
 use Rattle.suifvm_run.proofs.AtOnce.{gave_two}
 use Rattle.suifvm_run.proofs.quick.quick_binary.Goals as goal
 

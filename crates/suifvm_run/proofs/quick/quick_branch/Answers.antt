@@ -1,6 +1,6 @@
 -- The test is that of the word.
 use Rattle.std.proofs.Common.{sym, ap, ◌∙◌}
-use Rattle.vm_meaning.specs.Operations.{value_holds}
+use Rattle.suifvm_meaning.specs.Operations.{value_holds}
 use Rattle.suifvm_run.proofs.AtOnce.{branched_on}
 use Rattle.suifvm_run.proofs.quick.quick_branch.Goals as goal
 

@@ -5,8 +5,8 @@ use Rattle.std.specs.Int.{w64}
 use Rattle.std.specs.Int.RustNames.{FitsSigned}
 use Rattle.std.proofs.lemmas.Int.{to_z-of_z}
 use Rattle.suifvm_ir.specs.declared.insn.VmInsn.TheVariants.{LoadConstant, LoadAddress, Load, Store, Unary, Binary, Shift, Convert, Compare, Branch}
-use Rattle.vm_meaning.specs.Effect.{takes_turn}
-use Rattle.suifvm_machine.specs.declared.machine.Turn.TheVariants as turn
+use Rattle.suifvm_meaning.specs.Effect.{takes_turn}
+use Rattle.suifvm_machine.specs.declared.machine.StepResult.TheVariants as turn
 use Rattle.suifvm_run.proofs.AtOnce.{stepped_turn, stepped_jump, stepped_mark}
 use Rattle.suifvm_machine.proofs.Instructions.{constant_done, address_done, load_done, store_done, unary_done, binary_done, shift_done, convert_done, compare_done, branch_done}
 use Rattle.suifvm_run.proofs.quick.quick_insn.Goals as goal

@@ -3,7 +3,7 @@ use Rattle.std.proofs.Common.{ap, ◌∙◌, rules}
 use Rattle.std.specs.Int.{w64}
 use Rattle.std.specs.Int.RustNames.{FitsSigned}
 use Rattle.std.proofs.lemmas.Int.{to_z-of_z}
-use Rattle.vm_meaning.specs.Operations.{loaded_answer}
+use Rattle.suifvm_meaning.specs.Operations.{loaded_answer}
 use Rattle.suifvm_run.proofs.AtOnce.{gave_as}
 use Rattle.suifvm_run.proofs.quick.quick_load.Goals as goal
 

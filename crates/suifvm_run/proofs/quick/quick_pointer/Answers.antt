@@ -1,5 +1,5 @@
 -- The answer is that of the operation.
-use Rattle.vm_meaning.specs.Operations.{binary_answer}
+use Rattle.suifvm_meaning.specs.Operations.{binary_answer}
 use Rattle.suifvm_run.proofs.AtOnce.{gave_both_as}
 use Rattle.suifvm_run.proofs.quick.quick_pointer.Goals as goal
 

@@ -1,6 +1,6 @@
 -- A branch that is taken.
 use Rattle.std.proofs.Common.{◌≡◌, true, rules}
-use Rattle.vm_meaning.specs.Effect.{is_branch_taken}
+use Rattle.suifvm_meaning.specs.Effect.{is_branch_taken}
 use Rattle.suifvm_run.proofs.AtOnce.{branched_there}
 use Rattle.suifvm_run.proofs.quick.quick_test.Goals as goal
 

@@ -1,6 +1,6 @@
 -- The answer is the word.
 use Rattle.std.proofs.Common.{sym, ◌∙◌}
-use Rattle.vm_meaning.specs.Operations.{unary_answer}
+use Rattle.suifvm_meaning.specs.Operations.{unary_answer}
 use Rattle.suifvm_run.proofs.AtOnce.{gave_one}
 use Rattle.suifvm_run.proofs.quick.quick_unary.Goals as goal
 

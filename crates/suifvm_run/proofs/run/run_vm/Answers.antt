@@ -1,16 +1,17 @@
 -- The run of a program is the run of its tables, or did not begin.
 use Rattle.std.proofs.Common.{ap, ◌∙◌}
-use Rattle.data_object.specs.Start.{start_memory}
+use Rattle.bk_io.specs.Outside.{traffic_of}
+use Rattle.mem_objects.specs.Start.{start_memory}
 use Rattle.suifvm_machine.specs.Tables.{program_code}
 use Rattle.suifvm_run.proofs.Ends.{table_marked}
 use Rattle.suifvm_run.proofs.Wholes.{whole, not_begun}
 use Rattle.suifvm_run.proofs.run.run_vm.Goals as goal
 
 pub returns-in-Err-clause-run : goal.returns-in-Err-clause-run
-returns-in-Err-clause-run g c rooms bytes left = not_begun c.args.program.now rooms bytes c.args.turns (record { left = g.I.Source.left c.args.input.now; made = g.I.Source.made c.args.input.now; taken = g.O.Sink.taken c.args.out.now }) c.memory_is_short.ensures left
+returns-in-Err-clause-run g c rooms bytes left = not_begun c.args.program.now rooms bytes c.args.turns (traffic_of g.I.Source.left g.I.Source.made g.O.Sink.taken c.args.input.now c.args.out.now) c.memory_is_short.ensures left
 
 pub returns-in-Err-start_memory-clause-run : goal.returns-in-Err-start_memory-clause-run
-returns-in-Err-start_memory-clause-run g c rooms bytes left = not_begun c.args.program.now rooms bytes c.args.turns (record { left = g.I.Source.left c.args.input.now; made = g.I.Source.made c.args.input.now; taken = g.O.Sink.taken c.args.out.now }) c.memory_is_short-in-Err-start_memory.ensures left
+returns-in-Err-start_memory-clause-run g c rooms bytes left = not_begun c.args.program.now rooms bytes c.args.turns (traffic_of g.I.Source.left g.I.Source.made g.O.Sink.taken c.args.input.now c.args.out.now) c.memory_is_short-in-Err-start_memory.ensures left
 
 pub run_table-requires-clause-marked : goal.run_table-requires-clause-marked
 run_table-requires-clause-marked g c = table_marked (program_code c.in-Ok.table) c.args.program.now c.in-Ok.ensures.code
@@ -18,6 +19,6 @@ run_table-requires-clause-marked g c = table_marked (program_code c.in-Ok.table)
 pub returns-clause-run : goal.returns-clause-run
 returns-clause-run g c rooms bytes left =
     whole c.in-Ok.table c.args.program.now c.main_number-main.result c.in-Ok-start_memory.memory rooms bytes c.args.turns c.run_table.result
-    (record { left = g.I.Source.left c.args.input.now; made = g.I.Source.made c.args.input.now; taken = g.O.Sink.taken c.args.out.now })
-    (record { left = g.I.Source.left c.run_table.new.input; made = g.I.Source.made c.run_table.new.input; taken = g.O.Sink.taken c.run_table.new.out })
+    (traffic_of g.I.Source.left g.I.Source.made g.O.Sink.taken c.args.input.now c.args.out.now)
+    (traffic_of g.I.Source.left g.I.Source.made g.O.Sink.taken c.run_table.new.input c.run_table.new.out)
     c.in-Ok.ensures.code (c.in-Ok-start_memory.ensures.memory ∙ ap start_memory c.as_slice.ensures) c.main_number-main.ensures (c.run_table.ensures.run rooms bytes left)

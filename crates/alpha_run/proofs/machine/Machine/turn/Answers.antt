@@ -44,13 +44,13 @@ returns-in-Ok-clause-run g c p x y r none left =
     let runs : IsProcessorOf p c.self.inside.processor = processor_runs p c.self.inside c.args.self.now c.self.view_is c.self.invariant r in
     let did = c.in-Takes.ensures.step p x y runs in
     let byte = subst (λ o. IfSome o (λ (bytes : List ℕ). c.in-Ok.byte ≡ slice_get bytes 0)) left c.in-Ok.ensures.byte in
-    takes_turn p x y c.self.inside c.args.self.now c.self.view_is none c.step.new.self c.resume_with.new.self c.in-Ok.byte _ _ _ did.0 did.1 did.2 (c.resume_with.ensures.step x y byte) (c.resume_with.ensures.kept.text ∙ c.step.ensures.kept.text) c.saturating_add-self-inside-in-Takes.ensures left c.in-Ok.ensures.left c.in-Ok.ensures.made refl
+    takes_turn p x y c.self.inside c.args.self.now c.self.view_is none c.step.new.self c.resume_with.new.self c.in-Ok.byte _ _ _ did.0 did.1 did.2 (c.resume_with.ensures.step x y byte) (c.resume_with.ensures.kept.text ∙ c.step.ensures.kept.text) c.saturating_add-self-inside-in-Takes.ensures left c.in-Ok.ensures.left c.in-Ok.ensures.made c.in-Ok.ensures.taken
 
 pub returns-in_default-clause-run : goal.returns-in_default-clause-run
 returns-in_default-clause-run g c p x y r none left =
     let runs : IsProcessorOf p c.self.inside.processor = processor_runs p c.self.inside c.args.self.now c.self.view_is c.self.invariant r in
     let did = c.in-Takes.ensures.step p x y runs in
-    input_fault p x y c.self.inside c.args.self.now c.self.view_is none c.step.new.self _ _ did.2 did.1 c.step.ensures.kept.text left c.in_default.ensures.left c.in_default.ensures.made refl
+    input_fault p x y c.self.inside c.args.self.now c.self.view_is none c.step.new.self _ _ did.2 did.1 c.step.ensures.kept.text left c.in_default.ensures.left c.in_default.ensures.made c.in_default.ensures.taken
 
 pub returns-in-Over-clause-early : goal.returns-in-Over-clause-early
 returns-in-Over-clause-early g c = ap stops_early c.ending.ensures ∙ ended_early (halt_is c.in-Over.halt)

@@ -1,8 +1,8 @@
 -- A call whose arguments are not all set, and one of a function of the program.
 use Rattle.std.proofs.Common.{◌≡◌, map, drop, true, false, rules}
 use Rattle.std.specs.List.{list_all}
-use Rattle.vm_meaning.specs.Behave.{registers_of}
-use Rattle.vm_meaning.specs.Operations.{is_set}
+use Rattle.suifvm_meaning.specs.Behave.{registers_of}
+use Rattle.suifvm_meaning.specs.Operations.{is_set}
 use Rattle.suifvm_machine.proofs.Effects.{call_unset, call_function}
 use Rattle.suifvm_machine.proofs.machine.Machine.call.Goals as goal
 

@@ -1,7 +1,7 @@
 -- A built-in function is called.
 use Rattle.std.proofs.Common.{◌≡◌, map, drop, rules}
-use Rattle.vm_meaning.specs.Behave.{registers_of}
-use Rattle.vm_meaning.specs.Effect.{first_source}
+use Rattle.suifvm_meaning.specs.Behave.{registers_of}
+use Rattle.suifvm_meaning.specs.Effect.{first_source}
 use Rattle.suifvm_machine.proofs.Effects.{builtin_abort, builtin_exit}
 use Rattle.suifvm_machine.proofs.machine.Machine.call_builtin.Goals as goal
 

@@ -1,8 +1,8 @@
 -- A copy that was not done.
 use Rattle.std.proofs.Common.{◌≡◌, drop, None, refl, rules}
 use Rattle.suifvm_ir.specs.Programs.{alignment_bytes}
-use Rattle.vm_meaning.specs.Behave.{registers_of}
-use Rattle.vm_meaning.specs.Operations.{copied_memory}
+use Rattle.suifvm_meaning.specs.Behave.{registers_of}
+use Rattle.suifvm_meaning.specs.Operations.{copied_memory}
 use Rattle.suifvm_machine.proofs.Turns.{unchanged_turn}
 use Rattle.suifvm_machine.proofs.machine.Machine.copy_cells.Goals as goal
 

@@ -2,8 +2,8 @@
 use Rattle.std.proofs.Common.{◌≡◌, ◌≤◌, ◌+◌, ◌^◌, ◌∷◌, [], ◌++◌, map, drop, length, Some, None, refl, rules}
 use Rattle.std.specs.Prelude.{slice_get}
 use Rattle.mem_model.specs.Memory.{begin_objects}
-use Rattle.vm_meaning.specs.Behave.{registers_of}
-use Rattle.vm_operations.specs.Tidy.{MemoryIsTidy}
+use Rattle.suifvm_meaning.specs.Behave.{registers_of}
+use Rattle.suifvm_operations.specs.Tidy.{MemoryIsTidy}
 use Rattle.suifvm_machine.proofs.Entries.{entered_call, no_function, no_block}
 use Rattle.suifvm_machine.proofs.machine.Machine.enter.Goals as goal
 

@@ -1,6 +1,6 @@
 -- A value is returned, or the return has no meaning.
 use Rattle.std.proofs.Common.{◌≡◌, ◌∷◌, [], true, false, refl, rules}
-use Rattle.vm_meaning.specs.Operations.{is_value_of}
+use Rattle.suifvm_meaning.specs.Operations.{is_value_of}
 use Rattle.suifvm_machine.proofs.Effects.{return_value, return_failure}
 use Rattle.suifvm_machine.proofs.machine.Machine.give_typed.Goals as goal
 

@@ -1,7 +1,7 @@
 -- A step is that of the instruction that stands there, or goes on with the next block.
 use Rattle.std.proofs.Common.{◌≡◌, Some, None, true, false, refl, rules}
 use Rattle.std.specs.Prelude.{slice_get}
-use Rattle.vm_meaning.specs.Effect.{takes_turn}
+use Rattle.suifvm_meaning.specs.Effect.{takes_turn}
 use Rattle.suifvm_machine.specs.Tables.{block_insns}
 use Rattle.suifvm_machine.proofs.Effects.{step_past, step_plain}
 use Rattle.suifvm_machine.proofs.machine.Machine.step.Goals as goal

@@ -1,7 +1,7 @@
 -- A store that was not done.
 use Rattle.std.proofs.Common.{◌≡◌, drop, None, refl, rules}
-use Rattle.vm_meaning.specs.Behave.{registers_of}
-use Rattle.vm_meaning.specs.Operations.{stored_memory}
+use Rattle.suifvm_meaning.specs.Behave.{registers_of}
+use Rattle.suifvm_meaning.specs.Operations.{stored_memory}
 use Rattle.suifvm_machine.proofs.Turns.{unchanged_turn}
 use Rattle.suifvm_machine.proofs.machine.Machine.store_value.Goals as goal
 

@@ -1,5 +1,0 @@
-pub mod Bytes
-pub mod Lists
-pub mod Parts
-pub mod Copying
-mod Turns

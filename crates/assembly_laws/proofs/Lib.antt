@@ -1,9 +1,0 @@
-pub mod Distinct
-pub mod Routines
-pub mod Data
-pub mod Functions
-pub mod Named
-pub mod Whole
-pub mod Placed
-pub mod Allocated
-pub use Rattle.frame_bounds.proofs.Near

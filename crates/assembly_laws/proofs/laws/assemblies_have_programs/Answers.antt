@@ -1,5 +1,0 @@
-use Rattle.assembly_laws.proofs.Placed.{assemblies-have}
-use Rattle.assembly_laws.proofs.laws.assemblies_have_programs.Goals as goal
-
-pub returns : goal.returns
-returns c = assemblies-have

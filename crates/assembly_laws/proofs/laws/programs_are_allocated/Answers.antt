@@ -1,5 +1,0 @@
-use Rattle.assembly_laws.proofs.Allocated.{programs-allocated}
-use Rattle.assembly_laws.proofs.laws.programs_are_allocated.Goals as goal
-
-pub returns : goal.returns
-returns c = programs-allocated

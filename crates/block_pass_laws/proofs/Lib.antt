@@ -1,0 +1,4 @@
+pub mod BackLaws
+pub mod ArgumentLaws
+pub mod TempWalkLaws
+pub mod EndingLaws

@@ -1,0 +1,3 @@
+//! Programs over temporaries whose functions have the same walks run alike.
+
+pub mod laws;

@@ -1,0 +1,5 @@
+pub mod Same
+pub mod Behind
+pub mod Named
+pub mod NearArguments
+pub mod SelectedWidths

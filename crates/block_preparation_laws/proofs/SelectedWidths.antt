@@ -1,0 +1,4 @@
+pub mod Plain
+pub mod Widths
+pub mod Selected
+pub mod Tested

@@ -1,0 +1,4 @@
+pub mod Kept
+pub mod Fit
+pub mod near_arguments
+pub mod selected_widths

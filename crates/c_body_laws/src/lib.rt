@@ -1,4 +1,0 @@
-//! What the bodies of structs and enums leave.
-#![tactic(auto)]
-
-pub mod laws;

@@ -1,2 +1,0 @@
-pub mod Null
-pub mod model

@@ -1,8 +1,0 @@
-//! The values of constant expressions, read off their typed trees (C99 6.6).
-#![tactic(auto)]
-
-mod evaluate;
-mod evaluation;
-mod operators;
-
-pub use evaluate::{constant, is_null_constant, is_null_pointer_constant, is_null_void};

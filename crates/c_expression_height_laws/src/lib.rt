@@ -1,6 +1,0 @@
-//! Laws of the height of expressions that are judged.
-//!
-//! It has laws alone and no bodies.
-#![tactic(auto)]
-
-pub mod laws;

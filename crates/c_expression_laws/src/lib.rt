@@ -1,4 +1,0 @@
-//! What whole expressions are is well typed.
-#![tactic(auto)]
-
-pub mod laws;

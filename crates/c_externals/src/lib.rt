@@ -1,6 +1,0 @@
-//! The declarations at file scope of a unit, each with the body of its function where it has one (C99 6.7, 6.9).
-#![tactic(auto)]
-
-mod walk;
-
-pub use walk::externals;

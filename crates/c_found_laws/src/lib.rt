@@ -1,6 +1,0 @@
-//! Laws of what is judged: where nothing was noted, everything is found.
-//!
-//! It has laws alone and no bodies.
-#![tactic(auto)]
-
-pub mod laws;

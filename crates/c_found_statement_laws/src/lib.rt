@@ -1,6 +1,0 @@
-//! Laws of functions that are judged: where nothing was noted, each is found.
-//!
-//! It has laws alone and no bodies.
-#![tactic(auto)]
-
-pub mod laws;

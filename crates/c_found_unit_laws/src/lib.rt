@@ -1,6 +1,0 @@
-//! Laws of units that are judged: where nothing was noted, every declaration is found.
-//!
-//! It has laws alone and no bodies.
-#![tactic(auto)]
-
-pub mod laws;

@@ -1,6 +1,0 @@
-use Rattle.std.proofs.Common.{◌≡◌, map, take}
-use Rattle.data_object.specs.declared.DataCell.TheVariants.{Byte}
-use Rattle.c_globals.proofs.globals.text_cells.Given as goal
-
-abbrev pub invariant-loop-byte : goal.invariant-loop-byte
-invariant-loop-byte l = l.cells ≡ map Byte (take l.byte-index l.text)

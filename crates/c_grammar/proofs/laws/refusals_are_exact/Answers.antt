@@ -1,5 +1,0 @@
-use Rattle.c_grammar.proofs.Exact.{refused_from}
-use Rattle.c_grammar.proofs.laws.refusals_are_exact.Goals as goal
-
-pub returns : goal.returns
-returns c = refused_from

@@ -1,6 +1,0 @@
-//! Laws of the names that a text declares.
-//!
-//! It has laws alone and no bodies.
-#![tactic(auto)]
-
-pub mod laws;

@@ -1,8 +1,0 @@
-use Rattle.c_initial_value_laws.proofs.Cells.{value_put, text_put}
-use Rattle.c_initial_value_laws.proofs.laws.cells_are_lawful.Goals as goal
-
-pub returns-clause-values : goal.returns-clause-values
-returns-clause-values c = value_put
-
-pub returns-clause-texts : goal.returns-clause-texts
-returns-clause-texts c = text_put

@@ -1,4 +1,0 @@
-//! What initial values put into an object is lawful.
-#![tactic(auto)]
-
-pub mod laws;

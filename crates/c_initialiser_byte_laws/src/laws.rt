@@ -1,8 +1,0 @@
-//! The law, the contract of a function that does nothing.
-
-ghost use Rattle.c_initialiser_byte_laws.specs.Laws.{InitialisersHoldBytes};
-
-/// The string literals that initialise the objects of a text stand for bytes.
-pub fn initialisers_hold_bytes()
-    ensures { InitialisersHoldBytes }
-{}

@@ -1,6 +1,0 @@
-//! Laws of the bytes in the initialisers of a text.
-//!
-//! It has laws alone and no bodies.
-#![tactic(auto)]
-
-pub mod laws;

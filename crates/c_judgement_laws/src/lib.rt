@@ -1,4 +1,0 @@
-//! What judgements find is well typed.
-#![tactic(auto)]
-
-pub mod laws;

@@ -1,8 +1,0 @@
-//! The law, the contract of a function that does nothing.
-
-ghost use Rattle.c_literal_byte_laws.specs.Laws.{TextsAreBytes};
-
-/// A string literal that is spelled by bytes stands for bytes.
-pub fn texts_are_bytes()
-    ensures { TextsAreBytes }
-{}

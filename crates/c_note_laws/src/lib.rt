@@ -1,4 +1,0 @@
-//! What judgements note.
-#![tactic(auto)]
-
-pub mod laws;

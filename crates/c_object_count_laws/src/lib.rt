@@ -1,6 +1,0 @@
-//! Laws of the number of objects that a unit has.
-//!
-//! It has laws alone and no bodies.
-#![tactic(auto)]
-
-pub mod laws;

@@ -1,0 +1,3 @@
+pub mod Answers
+pub mod model
+pub mod c_parser_types

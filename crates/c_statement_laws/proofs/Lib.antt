@@ -1,9 +1,0 @@
-pub mod Locals
-pub mod Moves
-pub mod Parts
-pub mod Names
-pub mod Labels
-pub mod Forms
-pub mod Statements
-pub mod Functions
-pub use Rattle.c_expression_laws.proofs.Expressions

@@ -1,4 +1,0 @@
-//! The parts of statements are well typed.
-#![tactic(auto)]
-
-pub mod laws;

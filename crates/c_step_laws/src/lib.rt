@@ -1,4 +1,0 @@
-//! What functions and initialisers note.
-#![tactic(auto)]
-
-pub mod laws;

@@ -1,8 +1,0 @@
-use Rattle.c_struct_laws.proofs.Lawful.{struct_lawful, incomplete_lawful}
-use Rattle.c_struct_laws.proofs.laws.structs_are_lawful.Goals as goal
-
-pub returns-clause-complete : goal.returns-clause-complete
-returns-clause-complete c = λ known structs tag fields d k t e. struct_lawful structs known k tag fields d t e
-
-pub returns-clause-incomplete : goal.returns-clause-incomplete
-returns-clause-incomplete c = incomplete_lawful

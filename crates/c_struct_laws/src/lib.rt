@@ -1,4 +1,0 @@
-//! The structs that bodies declare are lawful.
-#![tactic(auto)]
-
-pub mod laws;

@@ -1,4 +1,0 @@
-pub mod Greatest
-pub mod Laid
-pub mod Members
-pub mod Rounding

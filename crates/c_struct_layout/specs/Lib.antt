@@ -1,2 +1,0 @@
-pub mod StructLayout
-pub mod model

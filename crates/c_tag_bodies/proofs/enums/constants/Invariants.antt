@@ -1,6 +1,0 @@
-use Rattle.std.proofs.Common.{◌≡◌, None, drop}
-use Rattle.c_tag_bodies.specs.model.Parts.{constants}
-use Rattle.c_tag_bodies.proofs.enums.constants.Given as goal
-
-abbrev pub invariant-loop-c : goal.invariant-loop-c
-invariant-loop-c l = constants l.list None (l.fn.env, l.fn.notes) ≡ constants (drop l.c-index l.list) l.before (l.env, l.notes)

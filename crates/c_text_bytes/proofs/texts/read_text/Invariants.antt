@@ -1,6 +1,0 @@
-use Rattle.std.proofs.Common.{drop}
-use Rattle.mem_model.specs.Bytes.{AreBytes}
-use Rattle.c_text_bytes.proofs.texts.read_text.Given as goal
-
-abbrev pub invariant-loop-byte : goal.invariant-loop-byte
-invariant-loop-byte l = AreBytes (drop l.byte-index l.text) → AreBytes l.text

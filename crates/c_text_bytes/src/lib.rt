@@ -1,6 +1,0 @@
-//! The bytes of texts and of string literals.
-#![tactic(auto)]
-
-mod texts;
-
-pub use texts::{read_text, read_texts};

@@ -1,4 +1,0 @@
-pub mod Loops
-pub mod Words
-pub mod Lexemes
-pub mod Indexes

@@ -1,6 +1,0 @@
-use Rattle.std.proofs.Common.{◌≡◌, length, ◌-◌}
-use Rattle.c_grammar.specs.Parser.{consts}
-use Rattle.c_token_cursor.proofs.cursor.Tokens.consts.Given as goal
-
-abbrev pub invariant-loop-turn : goal.invariant-loop-turn
-invariant-loop-turn l = consts (length l.fn.self) l.fn.self ≡ consts (l._turn-end - l._turn) l.self

@@ -1,4 +1,0 @@
-//! What the rules of typing give is well typed.
-#![tactic(auto)]
-
-pub mod laws;

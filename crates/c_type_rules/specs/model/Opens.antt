@@ -1,8 +1,0 @@
--- What looks into a type, as one name that opens it.
-use denote.Hole.Carrier as Carrier
-use Rattle.c_typed_tree.specs.declared.types.CType.TheBlock as tb
-use Rattle.c_type_rules.specs.Conversions.{element}
-
-unfoldable pub opens : Unit {0}
-unfolding element tb.hidden-the_row-CType-0 Carrier.hidden
-opens = tt

@@ -1,2 +1,0 @@
-//! The height of typed trees (`specs/Heights.antt`).
-#![tactic(auto)]

@@ -1,0 +1,4 @@
+pub mod Shapes
+pub mod Walks
+pub mod Laws
+pub use Rattle.c_types.specs.c_found_unit_laws.Steps

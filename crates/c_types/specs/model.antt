@@ -1,0 +1,1 @@
+pub mod c_found_unit_laws

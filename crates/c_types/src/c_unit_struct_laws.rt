@@ -1,0 +1,3 @@
+//! The structs of a unit are lawful.
+
+pub mod laws;

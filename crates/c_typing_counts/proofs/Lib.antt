@@ -1,0 +1,2 @@
+pub mod NodeCounts
+pub mod UnitCounts

@@ -1,0 +1,3 @@
+//! What the bodies of structs and enums leave.
+
+pub mod laws;

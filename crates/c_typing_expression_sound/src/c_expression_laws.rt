@@ -1,0 +1,3 @@
+//! What whole expressions are is well typed.
+
+pub mod laws;

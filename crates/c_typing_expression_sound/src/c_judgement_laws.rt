@@ -1,0 +1,3 @@
+//! What judgements find is well typed.
+
+pub mod laws;

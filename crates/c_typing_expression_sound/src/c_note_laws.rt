@@ -1,0 +1,3 @@
+//! What judgements note.
+
+pub mod laws;

@@ -1,0 +1,3 @@
+//! The structs that bodies declare are lawful.
+
+pub mod laws;

@@ -1,0 +1,3 @@
+//! What the rules of typing give is well typed.
+
+pub mod laws;

@@ -1,0 +1,9 @@
+pub mod Locals
+pub mod Moves
+pub mod Parts
+pub mod Names
+pub mod Labels
+pub mod Forms
+pub mod Statements
+pub mod Functions
+pub use Rattle.c_typing_expression_sound.proofs.CExpressionLaws.Expressions

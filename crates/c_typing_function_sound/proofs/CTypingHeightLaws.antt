@@ -1,0 +1,4 @@
+pub mod CExpressionHeightLaws
+pub mod CStatementHeightLaws
+pub mod CUnitHeightLaws
+pub mod CFunctionNameLaws

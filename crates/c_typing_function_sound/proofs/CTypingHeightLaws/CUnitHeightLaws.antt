@@ -1,0 +1,2 @@
+pub mod Units
+pub use Rattle.c_typing_function_sound.proofs.CTypingHeightLaws.CStatementHeightLaws.Parts

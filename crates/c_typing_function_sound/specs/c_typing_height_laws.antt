@@ -1,0 +1,4 @@
+pub mod c_expression_height_laws
+pub mod c_statement_height_laws
+pub mod c_unit_height_laws
+pub mod c_function_name_laws

@@ -1,0 +1,5 @@
+//! Laws of functions that are judged: where nothing was noted, each is found.
+//!
+//! It has laws alone and no bodies.
+
+pub mod laws;

@@ -1,0 +1,3 @@
+//! What holds of the body of every function that is judged.
+
+pub mod laws;

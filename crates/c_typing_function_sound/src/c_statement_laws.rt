@@ -1,0 +1,3 @@
+//! What functions are is well typed in the unit in which they stand.
+
+pub mod laws;

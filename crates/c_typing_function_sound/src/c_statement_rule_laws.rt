@@ -1,0 +1,3 @@
+//! The parts of statements are well typed.
+
+pub mod laws;

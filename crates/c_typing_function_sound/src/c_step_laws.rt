@@ -1,0 +1,3 @@
+//! What functions and initialisers note.
+
+pub mod laws;

@@ -1,0 +1,6 @@
+use Rattle.std.proofs.Common.{◌≡◌, map, take}
+use Rattle.mem_objects.specs.declared.DataCell.TheVariants.{Byte}
+use Rattle.c_typing_globals.proofs.globals.text_cells.Given as goal
+
+abbrev pub invariant-loop-byte : goal.invariant-loop-byte
+invariant-loop-byte l = l.cells ≡ map Byte (take l.byte-index l.text)

@@ -1,0 +1,3 @@
+pub mod CInitialValueLaws
+pub mod CInitialiserLaws
+pub mod CGlobalLaws

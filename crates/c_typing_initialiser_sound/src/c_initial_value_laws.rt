@@ -1,0 +1,3 @@
+//! What initial values put into an object is lawful.
+
+pub mod laws;

@@ -1,0 +1,3 @@
+//! The cells that whole initialisers give are lawful.
+
+pub mod laws;

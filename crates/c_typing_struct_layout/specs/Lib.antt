@@ -1,0 +1,3 @@
+pub mod StructLayout
+pub mod model
+pub mod c_layout_laws

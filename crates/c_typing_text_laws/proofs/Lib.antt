@@ -1,0 +1,4 @@
+pub mod CIdentifierLaws
+pub mod CLiteralByteLaws
+pub mod CInitialiserByteLaws
+pub mod CTextBytes

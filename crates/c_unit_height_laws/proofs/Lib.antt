@@ -1,2 +1,0 @@
-pub mod Units
-pub use Rattle.c_statement_height_laws.proofs.Parts

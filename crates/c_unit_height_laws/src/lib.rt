@@ -1,6 +1,0 @@
-//! The law of the height of the functions of units that are judged.
-//!
-//! It has laws alone and no bodies.
-#![tactic(auto)]
-
-pub mod laws;

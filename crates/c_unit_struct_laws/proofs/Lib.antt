@@ -1,4 +1,0 @@
-pub mod Names
-pub mod Declarations
-pub mod Units
-pub use Rattle.c_body_laws.proofs.Bodies

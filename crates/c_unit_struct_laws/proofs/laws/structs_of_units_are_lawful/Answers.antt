@@ -1,8 +1,0 @@
-use Rattle.c_unit_struct_laws.proofs.Units.{externals_lead, unit_declared}
-use Rattle.c_unit_struct_laws.proofs.laws.structs_of_units_are_lawful.Goals as goal
-
-pub returns-clause-declarations : goal.returns-clause-declarations
-returns-clause-declarations c = externals_lead
-
-pub returns-clause-units : goal.returns-clause-units
-returns-clause-units c = unit_declared

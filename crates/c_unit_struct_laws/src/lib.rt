@@ -1,4 +1,0 @@
-//! The structs of a unit are lawful.
-#![tactic(auto)]
-
-pub mod laws;

@@ -1,8 +1,0 @@
-pub mod Counted
-pub mod Texts
-pub mod Shapes
-pub mod Names
-pub mod Declarations
-pub mod Externals
-pub mod Units
-pub use Rattle.c_unit_struct_laws.proofs.Units as CUnitStructLawsUnits

@@ -1,4 +1,0 @@
-pub mod Entering
-pub use Rattle.call_stacks.specs.Stacks
-pub use Rattle.call_stacks.specs.Items
-pub use Rattle.call_stacks.specs.InstructionItemsLaws as Laws

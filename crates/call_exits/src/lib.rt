@@ -1,5 +1,0 @@
-//! A call is left: the machine comes behind the call and stands there for the caller, or ends the run behind the first
-//! function.
-#![tactic(auto)]
-
-pub mod laws;

@@ -1,3 +1,0 @@
-pub mod Stays
-pub use Rattle.instruction_items.proofs.Runs
-pub use Rattle.instruction_items.proofs.Instructions

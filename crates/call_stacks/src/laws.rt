@@ -1,9 +1,0 @@
-//! Laws, each the contract of a function that does nothing.
-
-ghost use Rattle.call_stacks.specs.Laws.{CallersStay, StacksStay};
-
-/// Calls that wait keep their frames while another one goes on.
-pub fn callers_stay()
-    ensures callers { CallersStay }
-    ensures stacks { StacksStay }
-{}

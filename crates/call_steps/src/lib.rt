@@ -1,4 +1,0 @@
-//! The points of calls and returns: the transfers before them, and the way into the called function or back.
-#![tactic(auto)]
-
-pub mod laws;

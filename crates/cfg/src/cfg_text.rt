@@ -1,0 +1,8 @@
+//! The text of flow graphs.
+//!
+//! `specs/cfg_text/Text.antt` says what it is.
+
+mod graphs;
+mod words;
+
+pub use graphs::graph_text;

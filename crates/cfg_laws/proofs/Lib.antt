@@ -1,5 +1,0 @@
-pub mod Walking
-pub mod Flows
-pub mod Following
-pub mod Running
-pub mod Law

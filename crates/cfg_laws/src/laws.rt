@@ -1,8 +1,0 @@
-//! Laws, each the contract of a function that does nothing.
-
-ghost use Rattle.cfg_laws.specs.SameRuns.{SameWalksRunAlike};
-
-/// Programs whose functions have the same walks run alike.
-pub fn same_walks_run_alike()
-    ensures { SameWalksRunAlike }
-{}

@@ -1,4 +1,0 @@
-//! What walks of functions say of runs.
-#![tactic(auto)]
-
-pub mod laws;

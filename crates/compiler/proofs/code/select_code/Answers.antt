@@ -1,0 +1,1 @@
+use Rattle.compiler.proofs.code.select_code.Goals as goal

@@ -1,0 +1,2 @@
+pub mod UnitImages
+pub mod SameBehaviour

@@ -1,0 +1,2 @@
+pub mod Laws
+pub use Rattle.image_theorem.specs.same_runs.Same

@@ -1,8 +1,0 @@
-//! Laws, each the contract of a function that does nothing.
-
-ghost use Rattle.division_calls.specs.Divisions.{DivisionsAreDone};
-
-/// The machine divides by its routines, or traps where the division does.
-pub fn divisions_are_done()
-    ensures { DivisionsAreDone }
-{}

@@ -1,4 +1,0 @@
-//! Divisions: the machine calls a routine, which does with two words what the division does with them.
-#![tactic(auto)]
-
-pub mod laws;

@@ -1,4 +1,0 @@
-//! That the transfers of the edges between blocks fit the frame of their function.
-#![tactic(auto)]
-
-pub mod laws;

@@ -1,2 +1,0 @@
-pub mod Edges
-pub use Rattle.placed_steps.proofs.Points

@@ -1,5 +1,0 @@
-use Rattle.edge_steps.proofs.Edges.{edges_are_done, jumps_are_done_here, ends_are_done, blocks_are_entered}
-use Rattle.edge_steps.proofs.laws.edges_are_done.Goals as goal
-
-pub returns : goal.returns
-returns c = record { edges = edges_are_done; jumps = jumps_are_done_here; ends = ends_are_done; blocks = blocks_are_entered }

@@ -1,4 +1,0 @@
-//! The edges between the blocks of a function: jumps, ends of blocks and labels, with the transfers of each edge.
-#![tactic(auto)]
-
-pub mod laws;

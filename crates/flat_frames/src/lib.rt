@@ -1,7 +1,0 @@
-//! The frames of calls on the machine's stack.
-//!
-//! `specs/Shapes.antt` says how the frame of a function is laid out, and whose its bytes are; `specs/Frames.antt` when
-//! a frame stands for the slots, argument places and objects of a call.
-#![tactic(auto)]
-
-pub mod laws;

@@ -1,4 +1,0 @@
-//! The objects of static storage at the start of a program: they lie in the data of its image.
-#![tactic(auto)]
-
-pub mod laws;

@@ -1,5 +1,0 @@
-use Rattle.flat_memory.proofs.Examples.{example_stands}
-use Rattle.flat_memory.proofs.laws.example_stands.Goals as goal
-
-pub returns : goal.returns
-returns c = example_stands

@@ -1,5 +1,0 @@
-use Rattle.flat_memory.proofs.Pointers.{pointers_move, pointers_answer}
-use Rattle.flat_memory.proofs.laws.pointers_are_words.Goals as goal
-
-pub returns : goal.returns
-returns c = record { moves = pointers_move; answers = pointers_answer }

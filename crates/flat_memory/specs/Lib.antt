@@ -1,6 +1,0 @@
-pub mod Bytes
-pub mod Examples
-pub mod Laws
-pub mod Machine
-pub mod PointerLaws
-pub mod Relation

@@ -1,9 +1,0 @@
-use Rattle.flat_runs.proofs.Forward.{runs_are_done}
-use Rattle.flat_runs.proofs.Only.{only_these_end}
-use Rattle.flat_runs.proofs.laws.runs_are_done.Goals as goal
-
-pub returns-clause-forward : goal.returns-clause-forward
-returns-clause-forward c = runs_are_done
-
-pub returns-clause-only : goal.returns-clause-only
-returns-clause-only c = only_these_end c.runs_go_on.ensures.kept.places

@@ -1,4 +1,0 @@
-//! Whole runs over registers and slots, and the runs of the machine in its flat bytes: each ends as the other.
-#![tactic(auto)]
-
-pub mod laws;

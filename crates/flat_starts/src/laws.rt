@@ -1,8 +1,0 @@
-//! Laws, each the contract of a function that does nothing.
-
-ghost use Rattle.flat_starts.specs.Starts.{StartsAreMatched};
-
-/// From the start of an image the machine comes to where it stands for the start of the run.
-pub fn starts_are_matched()
-    ensures { StartsAreMatched }
-{}

@@ -1,4 +1,0 @@
-//! The start of a run: the machine comes from the start of an image to the first instruction of `main`.
-#![tactic(auto)]
-
-pub mod laws;

@@ -1,4 +1,0 @@
-//! The steps of a run over registers and slots, each of which the machine follows in its flat bytes.
-#![tactic(auto)]
-
-pub mod laws;

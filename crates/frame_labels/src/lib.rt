@@ -1,4 +1,0 @@
-//! Which labels the items of a function name, and which ones they use.
-#![tactic(auto)]
-
-pub mod laws;

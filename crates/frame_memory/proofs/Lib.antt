@@ -1,0 +1,12 @@
+pub mod Examples
+pub mod Machine
+pub mod Memories
+pub mod Numbers
+pub mod Objects
+pub mod Pointers
+pub mod Rows
+pub mod Values
+pub mod FlatOperations
+pub mod FlatFrames
+pub mod FlatGlobals
+pub mod GlobalData

@@ -1,0 +1,10 @@
+pub mod Bytes
+pub mod Examples
+pub mod Laws
+pub mod Machine
+pub mod PointerLaws
+pub mod Relation
+pub mod flat_operations
+pub mod flat_frames
+pub mod flat_globals
+pub mod global_data

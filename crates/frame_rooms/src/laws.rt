@@ -1,9 +1,0 @@
-//! Laws, each the contract of a function that does nothing.
-
-ghost use Rattle.frame_rooms.specs.Laws.{FramesFitRooms};
-
-/// The frame of a function with its temporaries in slots, and the bytes of a division routine below it, take no more
-/// than the room of the function of the unit.
-pub fn frames_fit_rooms()
-    ensures { FramesFitRooms }
-{}

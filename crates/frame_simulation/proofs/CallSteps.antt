@@ -1,0 +1,2 @@
+pub mod Calls
+pub use Rattle.frame_simulation.proofs.EdgeSteps.Edges

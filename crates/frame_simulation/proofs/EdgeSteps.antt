@@ -1,0 +1,2 @@
+pub mod Edges
+pub use Rattle.frame_simulation.proofs.PlacedSteps.Points

@@ -1,0 +1,14 @@
+pub mod Lists
+pub mod Points
+pub mod Meters
+pub mod Paid
+pub mod Matched
+pub mod Naming
+pub mod Local
+pub mod Going
+pub mod Calling
+pub mod Steps
+pub use Rattle.frame_simulation.proofs.CallSteps.Edges
+pub use Rattle.frame_simulation.proofs.EdgeShapes.Tops
+pub use Rattle.frame_simulation.proofs.StackRooms.Begins
+pub use Rattle.frame_simulation.proofs.EdgeShapes.Standing

@@ -1,0 +1,2 @@
+pub mod Fits
+pub use Rattle.frame_simulation.proofs.PlacedSteps.Points

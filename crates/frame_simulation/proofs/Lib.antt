@@ -1,0 +1,13 @@
+pub mod CallStacks
+pub mod CallEntries
+pub mod CallExits
+pub mod CallSteps
+pub mod DivisionCalls
+pub mod PlacedSteps
+pub mod EdgeSteps
+pub mod EdgeShapes
+pub mod EdgeLeads
+pub mod StackRooms
+pub mod FunctionShapes
+pub mod FlatSteps
+pub mod FlatRuns

@@ -1,0 +1,2 @@
+pub mod Points
+pub use Rattle.frame_simulation.proofs.DivisionCalls.Stays

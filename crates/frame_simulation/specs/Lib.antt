@@ -1,0 +1,13 @@
+pub mod call_stacks
+pub mod call_entries
+pub mod call_exits
+pub mod call_steps
+pub mod division_calls
+pub mod placed_steps
+pub mod edge_steps
+pub mod edge_shapes
+pub mod edge_leads
+pub mod stack_rooms
+pub mod function_shapes
+pub mod flat_steps
+pub mod flat_runs

@@ -1,0 +1,4 @@
+pub mod Divisions
+pub use Rattle.frame_simulation.specs.call_stacks.Stacks
+pub use Rattle.frame_simulation.specs.call_stacks.Items
+pub use Rattle.frame_simulation.specs.call_stacks.InstructionItemsLaws as Laws

@@ -1,0 +1,3 @@
+//! The shape of a function's frame, and that its allocation fits it.
+
+pub mod laws;

@@ -1,0 +1,2 @@
+pub mod Standing
+pub use Rattle.frame_steps.proofs.InstructionItems.Runs

@@ -1,9 +1,0 @@
-//! Laws of words, each the contract of a function that does nothing.
-
-ghost use Rattle.frame_words.specs.Words.{TextsHaveMostWords, LeanFunctionsAreShort};
-
-/// A text has at most the most words of its items, and those of a lean allocation are at most the bulk of its function.
-pub fn lean_functions_are_short()
-    ensures texts { TextsHaveMostWords }
-    ensures functions { LeanFunctionsAreShort }
-{}

@@ -1,4 +1,0 @@
-//! How many words the items of a function have at most, whatever branches become far.
-#![tactic(auto)]
-
-pub mod laws;

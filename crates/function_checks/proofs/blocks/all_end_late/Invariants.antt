@@ -1,6 +1,0 @@
-use Rattle.std.proofs.Common.{take, All}
-use Rattle.suifvm_ir.specs.Functions.{EndsLate}
-use Rattle.function_checks.proofs.blocks.all_end_late.Given as goal
-
-abbrev pub invariant-loop-insns : goal.invariant-loop-insns
-invariant-loop-insns g l = All (EndsLate g.I.Insn.targets g.I.Insn.flows_on) (take l.insns-index l.lists)

@@ -1,5 +1,0 @@
-use Rattle.std.proofs.Common.{◌<◌, take, All}
-use Rattle.function_checks.proofs.insns.reads_few.Given as goal
-
-abbrev pub invariant-loop-k : goal.invariant-loop-k
-invariant-loop-k g l = All (λ register. register < l.registers) (take l.k (g.I.Insn.reads l.insn))

@@ -1,2 +1,0 @@
-pub mod Standing
-pub use Rattle.instruction_items.proofs.Runs

@@ -1,8 +1,0 @@
-//! Laws, each the contract of a function that does nothing.
-
-ghost use Rattle.function_items.specs.Laws.{FunctionsStand};
-
-/// The parts and blocks of each function stand behind their labels.
-pub fn functions_stand()
-    ensures { FunctionsStand }
-{}

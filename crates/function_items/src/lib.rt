@@ -1,4 +1,0 @@
-//! The items of a function with its allocation, and where they stand in the image of an assembly.
-#![tactic(auto)]
-
-pub mod laws;

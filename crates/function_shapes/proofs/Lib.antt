@@ -1,2 +1,0 @@
-pub mod Fits
-pub use Rattle.placed_steps.proofs.Points

@@ -1,8 +1,0 @@
-//! Laws, each the contract of a function that does nothing.
-
-ghost use Rattle.global_data.specs.GlobalBytes.{DataHoldsObjects};
-
-/// With its fixes done, the data holds the objects of static storage.
-pub fn data_holds_objects()
-    ensures { DataHoldsObjects }
-{}

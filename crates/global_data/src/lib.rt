@@ -1,4 +1,0 @@
-//! The data of an image: the bytes of the objects of static storage, and the fixes by which they hold addresses.
-#![tactic(auto)]
-
-pub mod laws;

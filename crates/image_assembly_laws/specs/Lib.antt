@@ -1,0 +1,9 @@
+pub mod Laws
+pub mod allocation_laws
+pub use Rattle.image_assembly.specs.Layouts
+pub use Rattle.image_assembly.specs.Assemblies
+pub use Rattle.image_assembly.specs.Programs
+pub use Rattle.image_assembly.specs.Names
+pub use Rattle.image_assembly.specs.Ranges
+pub use Rattle.frame_bounds.specs.Near
+pub use Rattle.frame_bounds.specs.Settings

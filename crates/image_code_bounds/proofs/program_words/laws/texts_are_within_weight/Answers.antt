@@ -1,0 +1,7 @@
+use Rattle.image_code_bounds.proofs.ProgramWords.Parts.{function_short}
+use Rattle.image_code_bounds.proofs.ProgramWords.Images as images
+use Rattle.image_code_bounds.proofs.program_words.laws.texts_are_within_weight.Goals as goal
+
+pub returns : goal.returns
+returns c = images.texts_are_within_weight c.lean_functions_are_short.ensures.texts
+    (function_short c.lean_functions_are_short.ensures.functions)

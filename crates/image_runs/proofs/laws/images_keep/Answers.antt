@@ -1,5 +1,0 @@
-use Rattle.image_runs.proofs.Images.{images_keep}
-use Rattle.image_runs.proofs.laws.images_keep.Goals as goal
-
-pub returns : goal.returns
-returns c = images_keep c.before.faithful_keeps_the_meaning.ensures.programs c.runs_go_on.ensures.kept.places

@@ -1,0 +1,2 @@
+pub mod Places
+pub use Rattle.frame_simulation.specs.division_calls.Divisions

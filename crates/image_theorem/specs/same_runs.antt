@@ -1,0 +1,2 @@
+pub mod Same
+pub use Rattle.image_theorem.specs.program_images.Programs

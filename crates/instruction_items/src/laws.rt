@@ -1,8 +1,0 @@
-//! Laws, each the contract of a function that does nothing.
-
-ghost use Rattle.instruction_items.specs.Laws.{InstructionsAreDone};
-
-/// The machine does each instruction that is no call, division or return: it writes, jumps, ends or traps as that does.
-pub fn instructions_are_done()
-    ensures { InstructionsAreDone }
-{}

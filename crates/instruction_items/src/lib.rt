@@ -1,7 +1,0 @@
-//! The items of each instruction with stated registers, and what the machine does at them.
-//!
-//! `specs/Items.antt` has the items of every instruction; `specs/Laws.antt` says that the machine does at those of an
-//! instruction that is no call, division or return what the instruction does over registers, slots and objects.
-#![tactic(auto)]
-
-pub mod laws;

@@ -1,5 +1,0 @@
-use Rattle.lifetime_ends.proofs.Wants.{wants_exact}
-use Rattle.lifetime_ends.proofs.laws.wants_are_exact.Goals as goal
-
-pub returns : goal.returns
-returns c = wants_exact

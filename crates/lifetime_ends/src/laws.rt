@@ -1,8 +1,0 @@
-//! Laws, each the contract of a function that does nothing.
-
-ghost use Rattle.lifetime_ends.specs.Wanted.{WantsAreExact};
-
-/// Tests by the sets of what is live say where temporaries are live and present.
-pub fn wants_are_exact()
-    ensures { WantsAreExact }
-{}

@@ -1,4 +1,0 @@
-//! What the code of locals and of assignments does, where the code of their parts does what they do.
-#![tactic(auto)]
-
-pub mod laws;

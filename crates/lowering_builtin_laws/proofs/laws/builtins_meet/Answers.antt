@@ -1,5 +1,0 @@
-use Rattle.lowering_builtin_laws.proofs.Builtins as it
-use Rattle.lowering_builtin_laws.proofs.laws.builtins_meet.Goals as goal
-
-pub returns : goal.returns
-returns g c found = record { getchar = it.getchar c found; putchar = it.putchar c found; abort = it.abort c found; exits = it.exits c found }

@@ -1,5 +1,0 @@
-use Rattle.lowering_call_laws.proofs.Calls.{calls_meet}
-use Rattle.lowering_call_laws.proofs.laws.calls_meet.Goals as goal
-
-pub returns : goal.returns
-returns g = calls_meet

@@ -1,4 +1,0 @@
-//! What the code of calls of functions does, where that of their arguments and of the functions does what they do.
-#![tactic(auto)]
-
-pub mod laws;

@@ -1,4 +1,0 @@
-//! What the code of compound assignments, and of `++` and `--`, does.
-#![tactic(auto)]
-
-pub mod laws;

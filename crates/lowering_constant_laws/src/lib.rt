@@ -1,4 +1,0 @@
-//! What the code of null constants that become pointers, and of casts to void, does.
-#![tactic(auto)]
-
-pub mod laws;

@@ -1,4 +1,0 @@
-//! What the code of blocks, of declarations, and of a `for` that declares does.
-#![tactic(auto)]
-
-pub mod laws;

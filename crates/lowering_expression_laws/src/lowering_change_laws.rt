@@ -1,0 +1,3 @@
+//! What the code of compound assignments, and of `++` and `--`, does.
+
+pub mod laws;

@@ -1,0 +1,3 @@
+//! What the code of null constants that become pointers, and of casts to void, does.
+
+pub mod laws;

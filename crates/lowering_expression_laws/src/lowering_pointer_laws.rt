@@ -1,0 +1,3 @@
+//! What the code of pointers that are moved by elements does.
+
+pub mod laws;

@@ -1,8 +1,0 @@
-//! Laws of the code of expressions, each the contract of a function that does nothing.
-
-ghost use Rattle.lowering_expression_places.specs.Laws.{ExpressionCodeIsLeft};
-
-/// Behind the code of each expression and place stands the code that comes behind it.
-pub fn code_is_left()
-    ensures { ExpressionCodeIsLeft }
-{}

@@ -1,4 +1,0 @@
-//! Behind the code of each form of expression stands the code that comes behind it.
-#![tactic(auto)]
-
-pub mod laws;

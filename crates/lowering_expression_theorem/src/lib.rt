@@ -1,5 +1,0 @@
-//! That the code of every expression of a typed unit does what the expression means, where the code of functions does
-//! so one level down.
-#![tactic(auto)]
-
-pub mod laws;

@@ -1,4 +1,0 @@
-//! What the code of `for` does, at each level, where the code of its parts does what they do.
-#![tactic(auto)]
-
-pub mod laws;

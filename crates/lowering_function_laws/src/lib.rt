@@ -1,4 +1,0 @@
-//! What the code of a function does from its entry to its return, where that of its body does what the body does.
-#![tactic(auto)]
-
-pub mod laws;

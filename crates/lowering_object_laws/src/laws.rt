@@ -1,8 +1,0 @@
-//! A law of states that correspond, the contract of a function that does nothing.
-
-ghost use Rattle.lowering_object_laws.specs.Laws.{ObjectsBeginAndEnd};
-
-/// The object of a local begins, and ends where its scope is left: states still correspond, and the code does nothing.
-pub fn objects_begin_and_end()
-    ensures { ObjectsBeginAndEnd }
-{}

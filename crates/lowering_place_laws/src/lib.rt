@@ -1,4 +1,0 @@
-//! What the code of places and of accesses to them does, where the code of their parts does what they do.
-#![tactic(auto)]
-
-pub mod laws;

@@ -1,4 +1,0 @@
-//! What the code of pointers that are moved by elements does.
-#![tactic(auto)]
-
-pub mod laws;

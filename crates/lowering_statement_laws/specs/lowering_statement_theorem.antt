@@ -1,0 +1,2 @@
+pub mod Laws
+pub use Rattle.lowering_expression_laws.specs.lowering_expression_theorem.Laws as LoweringExpressionTheoremLaws

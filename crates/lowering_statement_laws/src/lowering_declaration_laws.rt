@@ -1,0 +1,3 @@
+//! What the code of blocks, of declarations, and of a `for` that declares does.
+
+pub mod laws;

@@ -1,0 +1,3 @@
+//! What the code of a `switch` does.
+
+pub mod laws;

@@ -1,2 +1,0 @@
-pub mod Statements
-pub use Rattle.lowering_expression_theorem.proofs.Types

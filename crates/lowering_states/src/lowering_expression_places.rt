@@ -1,0 +1,3 @@
+//! Behind the code of each form of expression stands the code that comes behind it.
+
+pub mod laws;

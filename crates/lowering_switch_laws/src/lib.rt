@@ -1,4 +1,0 @@
-//! What the code of a `switch` does.
-#![tactic(auto)]
-
-pub mod laws;

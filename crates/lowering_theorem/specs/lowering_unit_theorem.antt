@@ -1,0 +1,2 @@
+pub mod Laws
+pub use Rattle.lowering_theorem.specs.lowering_function_laws.Laws as LoweringFunctionLaws

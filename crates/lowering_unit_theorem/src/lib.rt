@@ -1,4 +1,0 @@
-//! The run of the code of a unit ends as the run of the unit.
-#![tactic(auto)]
-
-pub mod laws;

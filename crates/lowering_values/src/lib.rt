@@ -1,4 +1,0 @@
-//! What the instructions of the code of units do with the values of registers, beside what the operators of C do.
-#![tactic(auto)]
-
-pub mod laws;

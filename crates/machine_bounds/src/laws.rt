@@ -1,8 +1,0 @@
-//! Laws, each the contract of a function that does nothing.
-
-ghost use Rattle.machine_bounds.specs.Bounds.{RunsStayBounded};
-
-/// Registers keep holding words, and memory and input bytes.
-pub fn runs_stay_bounded()
-    ensures { RunsStayBounded }
-{}

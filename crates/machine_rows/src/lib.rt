@@ -1,0 +1,25 @@
+//! The tables of instructions, assembly and the machine.
+//!
+//! The files stand in `back_rows/data`. Their form is described in `docs/rows.md`, and that of each kind of row at the
+//! head of its file.
+#![tactic(auto)]
+
+mod assembly;
+mod assembly_words;
+mod constants;
+mod divisions;
+mod encodings;
+mod kind;
+mod runs;
+mod steps;
+
+use crate::kind::KINDS;
+use anyhow::Result;
+use row_sheets::check_tables;
+
+/// Checks the files that the words of the command line name, or all of them in the folder where the program runs where
+/// there are no words, and answers how many differ.
+pub fn check_rows(rt: &HostRuntime) -> Result<u32> {
+    let mut kinds = KINDS;
+    check_tables(rt, &mut kinds)
+}

@@ -1,4 +1,0 @@
-//! That the argument places which selected functions name can be told from others, also behind the passes over blocks.
-#![tactic(auto)]
-
-pub mod laws;

@@ -1,0 +1,9 @@
+pub mod Tables
+pub mod Chains
+pub mod Permutations
+pub mod Back
+pub mod Pigeon
+pub mod Cycles
+pub mod Loops
+pub mod Rising
+pub mod AnyContents

@@ -1,2 +1,0 @@
-pub mod Points
-pub use Rattle.division_calls.proofs.Stays

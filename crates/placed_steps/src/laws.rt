@@ -1,8 +1,0 @@
-//! Laws, each the contract of a function that does nothing.
-
-ghost use Rattle.placed_steps.specs.Points.{PointsAreDone};
-
-/// The machine does at a point what its site over registers and slots does, and keeps the stack of the run.
-pub fn points_are_done()
-    ensures { PointsAreDone }
-{}

@@ -1,4 +1,0 @@
-//! The points of blocks: the transfers and the instruction of each, with the stack of the run.
-#![tactic(auto)]
-
-pub mod laws;

@@ -1,8 +1,0 @@
--- The functions before those that are left are laid out.
-use Rattle.std.specs.Vec.Iter.{into_iter_items}
-use Rattle.plain_layouts.specs.model.Parts.{AreLaidOutSoFar}
-use Rattle.plain_layouts.proofs.assemblies.lay_out_all.Given as goal
-
-abbrev pub invariant-loop-f : goal.invariant-loop-f
-invariant-loop-f l =
-    AreLaidOutSoFar l.globals l.fn.functions (into_iter_items l.f-iterator) l.initial.items.items l.number l.first l.items.items

@@ -1,8 +1,0 @@
-//! The assembly of a program by its plainest allocations, of which there is one at a time: each function is allocated,
-//! laid out, and let go before the next one.
-#![tactic(auto)]
-
-mod assemblies;
-mod functions;
-
-pub use assemblies::assemble_plain;

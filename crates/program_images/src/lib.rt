@@ -1,5 +1,0 @@
-//! The images of programs: where an assembly has the items of a program with allocations, its image behaves as the
-//! program.
-#![tactic(auto)]
-
-pub mod laws;

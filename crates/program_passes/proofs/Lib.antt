@@ -1,4 +1,0 @@
-pub mod Edges
-pub mod Both
-pub mod Turns
-pub mod Lawful

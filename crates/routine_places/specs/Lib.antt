@@ -1,2 +1,0 @@
-pub mod Places
-pub use Rattle.division_calls.specs.Divisions

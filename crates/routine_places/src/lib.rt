@@ -1,4 +1,0 @@
-//! The division routines in the text of an assembly: no branch in them is far, and their code stands.
-#![tactic(auto)]
-
-pub mod laws;

@@ -1,4 +1,0 @@
-//! That an image which is made of a unit behaves as the unit does.
-#![tactic(auto)]
-
-pub mod laws;

@@ -1,2 +1,0 @@
-pub mod Same
-pub use Rattle.program_images.specs.Programs

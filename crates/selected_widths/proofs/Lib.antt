@@ -1,7 +1,0 @@
-mod Plain
-mod Widths
-mod Selected
-mod Forms
-mod Kept
-mod Tested
-mod Passed

@@ -1,0 +1,2 @@
+pub mod SelectionShapes
+pub mod SelectionCosts

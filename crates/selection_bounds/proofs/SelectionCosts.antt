@@ -1,0 +1,4 @@
+pub mod Lengths
+pub mod Calls
+pub mod Edges
+pub mod Costs

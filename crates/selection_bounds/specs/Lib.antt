@@ -1,0 +1,2 @@
+pub mod selection_shapes
+pub mod selection_costs

@@ -1,0 +1,3 @@
+//! That the blocks of a selected function are shaped as those of the function.
+
+pub mod laws;

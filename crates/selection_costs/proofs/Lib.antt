@@ -1,4 +1,0 @@
-pub mod Lengths
-mod Calls
-mod Edges
-pub mod Costs

@@ -1,4 +1,0 @@
-//! That the selected code of a function is short, and costs at most what is said of the function.
-#![tactic(auto)]
-
-pub mod laws;

@@ -1,0 +1,2 @@
+pub mod AlphaForms
+pub mod AlphaCopies

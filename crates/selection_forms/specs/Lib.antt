@@ -1,0 +1,2 @@
+pub mod alpha_forms
+pub mod alpha_copies

@@ -1,4 +1,0 @@
-//! What a selected program keeps of its program, another one over temporaries with the same walks keeps too.
-#![tactic(auto)]
-
-pub mod laws;

@@ -1,5 +1,0 @@
-use Rattle.stack_rooms.proofs.Rooms.{frames_fill_stack, scratch_is_there, room_is_there}
-use Rattle.stack_rooms.proofs.laws.stacks_have_room.Goals as goal
-
-pub returns : goal.returns
-returns c = record { frames = frames_fill_stack; scratch = scratch_is_there; room = room_is_there }

@@ -1,5 +1,0 @@
-//! An image that is made of a unit, by way of its program over virtual registers and of the one over temporaries, is
-//! the same as the unit.
-#![tactic(auto)]
-
-pub mod laws;

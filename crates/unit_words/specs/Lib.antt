@@ -1,9 +1,0 @@
-pub mod Laws
-pub use Rattle.program_words.specs.Words
-pub use Rattle.program_words.specs.AllocationLaws
-pub use Rattle.program_words.specs.AssemblyLaws
-pub use Rattle.program_words.specs.Layouts
-pub use Rattle.program_words.specs.Assemblies
-pub use Rattle.program_words.specs.Programs
-pub use Rattle.prepared_laws.specs.Fit
-pub use Rattle.program_words.specs.Ranges

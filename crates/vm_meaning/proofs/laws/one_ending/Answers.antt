@@ -1,5 +1,0 @@
-use Rattle.vm_meaning.proofs.Runs.{one_ending}
-use Rattle.vm_meaning.proofs.laws.one_ending.Goals as goal
-
-pub returns : goal.returns
-returns c = one_ending

@@ -1,5 +1,0 @@
-use Rattle.vm_meaning.proofs.Traps.{only_these_trap}
-use Rattle.vm_meaning.proofs.laws.only_these_trap.Goals as goal
-
-pub returns : goal.returns
-returns c = only_these_trap

@@ -1,6 +1,0 @@
-use Rattle.vm_meaning.proofs.Runs.{extends, peak_rises}
-use Rattle.vm_meaning.proofs.Output.{keeps_output}
-use Rattle.vm_meaning.proofs.laws.runs_go_on.Goals as goal
-
-pub returns : goal.returns
-returns c = record { output = extends; kept = keeps_output; peak = peak_rises }
