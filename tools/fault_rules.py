@@ -53,7 +53,7 @@ RULES = {
              "the later name", "6.2.1 p4, 6.7 p3", ["c_typing_judgements::named_parameter"]),
             ("two locals or parameters of one scope have the same name, in the definition of a function; its "
              "parameters and the outermost block are one scope", "the later name", "6.2.1 p4, 6.7 p3",
-             ["c_typing_local_rules::local_named"]),
+             ["c_typing_statement_parts::local_named"]),
             ("the tag of an enumeration stands behind `struct`", "the tag", "6.7.2.3",
              ["c_typing_judgements::struct_tagged"]),
             ("the tag of a struct stands behind `enum`", "the tag", "6.7.2.3", ["c_typing_judgements::enum_tagged"]),
@@ -100,7 +100,7 @@ RULES = {
             ("a struct that is larger than the limit", "the tag, or the word `struct`", "5.2.4.1, 6.7.2.1",
              ["c_typing_struct_bodies::too_large"]),
             ("a local that is void, a function, an incomplete struct or an array without a length, or whose type "
-             "is deeper than the limit", NAME, "6.7 p7", ["c_typing_local_rules::no_object_type"]),
+             "is deeper than the limit", NAME, "6.7 p7", ["c_typing_statement_parts::no_object_type"]),
             ("an object at file scope of such a type; an array without a length may stand there where an "
              "initialiser gives it one", NAME, "6.7 p7, 6.9.2", ["c_typing_declarations::no_object_type"]),
             ("a body behind a declarator whose type is no function's", NAME, "6.9.1 p2",
@@ -108,7 +108,7 @@ RULES = {
             ("a body behind a declarator that is no function's own, but has its type from a typedef name", NAME,
              "6.9.1 p2", ["c_typing_declarations::defined_type"]),
             ("a parameter without a name in the definition of a function", "the parameter's first token",
-             "6.9.1 p5", ["c_typing_declarations::name_judged", "c_typing_local_rules::nameless_local"]),
+             "6.9.1 p5", ["c_typing_declarations::name_judged", "c_typing_statement_parts::nameless_local"]),
         ],
     ),
     "NotConstant": (
@@ -178,7 +178,7 @@ RULES = {
             ("`sizeof` of what has no complete object type", "the word `sizeof`", "6.5.3.4 p1",
              ["c_typing_place_rules::size"]),
             ("`sizeof` of the name of a function type or of an array without a length", "the word `sizeof`",
-             "6.5.3.4 p1", ["c_typing_operators::size_of_type"]),
+             "6.5.3.4 p1", ["c_typing_judgements::size_of_type"]),
             ("the operand of `switch` is no integer", OPERAND, "6.8.4.2 p1", ["c_typing_primary_rules::switch_value"]),
             ("the name of a function stands elsewhere than called, as there are no pointers to functions here; or, "
              "in a tree that the parser does not make, a typedef name stands as an operand", NAME,
@@ -218,7 +218,7 @@ RULES = {
              "constant to a pointer (casts between pointers and integers are left out here)", "the cast's bracket",
              "6.5.4 p2", ["c_typing_rules::cast_ruling"]),
             ("a cast to a function type or to an array without a length", "the cast's bracket", "6.5.4 p2",
-             ["c_typing_operators::cast_to"]),
+             ["c_typing_judgements::cast_to"]),
             ("an expression stands as the initialiser of a function", VALUE, "6.7.8 p3",
              ["c_typing_declarations::refusal_of"]),
         ],
@@ -302,7 +302,7 @@ RULES = {
             ("a list stands as the initialiser of a function", "the brace", "6.7.8 p3",
              ["c_typing_declarations::refusal_of"]),
             ("a local array has an initialiser (left out here)", "the initialiser", "6.7.8 p14, p16",
-             ["c_typing_local_rules::no_initialiser"]),
+             ["c_typing_statement_parts::no_initialiser"]),
         ],
     ),
 }

@@ -14,6 +14,7 @@ use alpha_items::asm::Asm;
 use alpha_items::item::AsmItem;
 use alpha_rt::items::routine_items;
 use bk_containers::Seq;
+use frame_emitter::insns::FUNCTIONS;
 use image_assembly::{start_piece, with_data};
 use image_assembly_laws::allocation_laws::laws::{allocations_can_be_assembled, allocations_fit};
 use image_assembly_laws::laws::assemblies_are_whole;
@@ -22,9 +23,6 @@ use pass_core::function::Func;
 use std::alloc::{AllocError, Global};
 use temp_ir::insn::TempInsn;
 use temp_ir::program::TempProgram;
-
-/// The label of the function with the number 0.
-const FUNCTIONS: u32 = 256;
 
 /// Puts the items of functions behind others. Each is laid out with its number, and with labels from the end of those
 /// of the one before it, and let go. It fails only where memory is short.

@@ -1,6 +1,6 @@
 -- The text of an allocation, and of a journal.
 use Rattle.std.specs.Prelude.{ℕ, ◌+◌, List, [], ◌∷◌, ◌++◌, length, slice_index_or, flat_map, codes, decimal}
-use Rattle.suifvm_ir.specs.Text.{block_name}
+use Rattle.suifvm_ir.specs.Lines.{block_name}
 use Rattle.temp_ir.specs.declared.insn.TempInsn.{TempInsn}
 use Rattle.temp_ir.specs.Text.{register_name, insn_text}
 use Rattle.alloc_model.specs.declared.allocation.Loc.{Loc}

@@ -6,7 +6,7 @@ ghost use Rattle.alloc_lines.specs.Text as text;
 
 use alloc_model::allocation::{EdgeCode, Event, Loc, TempPlace, Transfer};
 use std::alloc::AllocError;
-use temp_ir::text_parts::{put, put_block, put_number};
+use suifvm_ir::text_parts::{put, put_block, put_number};
 
 /// Puts a register.
 fn put_register(out: &mut Vec<u8>, register: u8) -> Result<(), AllocError>

@@ -12,8 +12,9 @@ use bk_containers::Seq;
 use bk_ilist::IndexList;
 use pass_core::block::Block;
 use std::alloc::{AllocError, Global};
+use suifvm_ir::text_parts::{put, put_number};
 use temp_ir::insn::TempInsn;
-use temp_ir::text_parts::{put, put_insn, put_number};
+use temp_ir::text_parts::put_insn;
 
 /// The transfers before an instruction.
 fn transfers_at(lists: &[Seq<Transfer>], at: usize) -> &[Transfer]

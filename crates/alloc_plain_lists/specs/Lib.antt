@@ -1,2 +1,3 @@
 pub mod Plain
+pub mod Spilled
 pub mod Runs

@@ -1,14 +1,13 @@
 //! The lists of a function.
 
-ghost use Rattle.std.specs.Prelude.{◌≡◌, [], All, IsTrue, IfOk};
+ghost use Rattle.std.specs.Prelude.{◌≡◌, [], IsTrue, IfOk};
 ghost use Rattle.cfg.specs.Edges.{successors_from};
 ghost use Rattle.temp_ir.specs.Insns.{targets_of, flows_on_of};
 ghost use Rattle.temp_ir.specs.Fixed.{is_settled};
 ghost use Rattle.alloc_model.specs.Temporaries.{code_of};
 ghost use Rattle.alloc_model.specs.Places.{plan_of};
-ghost use Rattle.alloc_model.specs.Faithful.{Faithful};
-ghost use Rattle.alloc_rules.specs.Lean.{IsLean};
 ghost use Rattle.alloc_plain_lists.specs.Plain.{plain_plan};
+ghost use Rattle.alloc_plain_lists.specs.Spilled.{IsSpilledAllocationOf};
 
 use crate::blocks::{all_registers, all_transfers, empty_maps};
 use crate::edges::all_edges;
@@ -57,16 +56,8 @@ pub fn spill_everywhere(
 ) -> Result<Allocation, AllocError>
     requires settled { IsTrue (is_settled f.now.params f.now.blocks) }
     requires graph { graph.now.succ ≡ successors_from targets_of flows_on_of 0 f.now.blocks }
-    ensures faithful { IfOk result (λ a. Faithful (plan_of a)) }
-    ensures lean { IfOk result (λ a. IsLean (plan_of a)) }
-    ensures plan { IfOk result (λ a. plan_of a ≡ plain_plan (code_of f.now) f.now.params f.now.temps) }
-    ensures name { IfOk result (λ a. a.func.name ≡ f.now.name) }
-    ensures params { IfOk result (λ a. a.func.params ≡ f.now.params) }
-    ensures temps { IfOk result (λ a. a.func.temps ≡ f.now.temps) }
-    ensures objects { IfOk result (λ a. a.func.objects ≡ f.now.objects) }
-    ensures blocks { IfOk result (λ a. a.func.blocks ≡ f.now.blocks) }
-    ensures slots { IfOk result (λ a. All (λ named. named ≡ []) a.top) }
-    ensures journal { IfOk result (λ a. a.journal ≡ []) }
+    ensures { IfOk result (λ a. IsSpilledAllocationOf f.now a) }
 {
-    made_lists(alloc, f, graph)
+    let lists = made_lists(alloc, f, graph)?;
+    Ok(lists)
 }

@@ -1,3 +1,4 @@
 pub mod Sums
 pub mod Sweeps
 pub mod Text
+pub mod Plans

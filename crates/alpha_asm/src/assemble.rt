@@ -10,7 +10,8 @@ ghost use Rattle.alpha_items.specs.Words.{Words, text_insns, fixed_data};
 ghost use Rattle.std.specs.List.{All};
 ghost use Rattle.alpha_asm.specs.declared.assemble.AsmFault.TheVariants.{NoMemory};
 ghost use Rattle.alpha_asm.specs.Fault.{HasFewWords, IsAsmFault};
-ghost use Rattle.alpha_asm.specs.model.Text.{IsPlan, AreSound};
+ghost use Rattle.alpha_asm.specs.model.Text.{AreSound};
+ghost use Rattle.alpha_asm.specs.model.Plans.{IsPlanOf};
 
 use crate::data::put_fixes;
 use crate::far::{Layout, lay_out};
@@ -64,8 +65,7 @@ struct Plan {
 #[tactic(auto, using(crate::proofs::Whole::targets_made, crate::proofs::Whole::plan_made))]
 fn plan_of(alloc: Global, items: &[AsmItem]) -> Result<Plan, AllocError>
     requires { AreSound items.now }
-    ensures { IfOk result
-        (λ p. IsPlan items.now p.targets.of_items.items p.targets.entry p.layout.far.items p.layout.places.items) }
+    ensures { IfOk result (λ p. IsPlanOf items.now p) }
 {
     let targets = targets_of(alloc, items)?;
     let layout = lay_out(alloc, items, targets.of_items.as_slice())?;
@@ -75,7 +75,7 @@ fn plan_of(alloc: Global, items: &[AsmItem]) -> Result<Plan, AllocError>
 /// How many words a text has.
 #[tactic(auto, using(crate::proofs::Whole::plan_count))]
 fn count_of(items: &[AsmItem], plan: &Plan) -> u64
-    requires { IsPlan items.now plan.now.targets.of_items.items plan.now.targets.entry plan.now.layout.far.items plan.now.layout.places.items }
+    requires { IsPlanOf items.now plan.now }
     ensures { result ≡ text_words items.now plan.now.layout.far.items }
 {
     plan.layout.places[items.len()]
@@ -97,7 +97,7 @@ fn text_of(
     plan: &Plan,
     start: u64,
 ) -> Result<Vec<u32>, AllocError>
-    requires plan { IsPlan items.now plan.now.targets.of_items.items plan.now.targets.entry plan.now.layout.far.items plan.now.layout.places.items }
+    requires plan { IsPlanOf items.now plan.now }
     requires few { text_words items.now plan.now.layout.far.items ≤ most_words }
     requires start { start < 2 ^ 31 - 2 ^ 27 }
     ensures words { IfOk result

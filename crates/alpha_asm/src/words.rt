@@ -9,9 +9,9 @@ ghost use Rattle.alpha_items.specs.Items.{IsItem};
 ghost use Rattle.alpha_items.specs.Layout as layout;
 ghost use Rattle.alpha_items.specs.Layout.{ItemReaches, label_place};
 ghost use Rattle.alpha_items.specs.Words as items;
-ghost use Rattle.alpha_items.specs.Words.{high_of, scratch, address_insns, far_insns, branch_insns, item_insns, text_insns};
+ghost use Rattle.alpha_items.specs.Words.{high_of, scratch, address_insns, far_insns, branch_insns, item_insns, text_insns, most_address};
 ghost use Rattle.alpha_asm.specs.model.Text as model;
-ghost use Rattle.alpha_asm.specs.model.Text.{most_address, IsLaidOut};
+ghost use Rattle.alpha_asm.specs.model.Text.{IsLaidOut};
 
 use crate::sizes::is_link;
 use alpha_isa::encode::encode;

@@ -39,6 +39,10 @@ address_insns ra address =
     fields.Memory Ldah ra 31 (pos (high_of address))
     ∷ fields.Memory Lda ra ra (pos address -ℤ pos (high_of address * 65536)) ∷ []
 
+-- addresses and offsets below this one are sums of a high and a low half
+abbrev pub most_address : ℕ
+most_address = 2147450880
+
 -- the register that holds the address of a far branch
 abbrev pub scratch : ℕ
 scratch = 28

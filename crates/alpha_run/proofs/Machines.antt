@@ -71,52 +71,52 @@ module _ (p : Program) (x y : List ℕ) (m : Inside) (v : Snapshot) (is : snapsh
   still : option_map halt_is m.halt ≡ None
   still = ap (λ u. u.halt) is ∙ running
 
-  from_here : (e : Ending) (new : Snapshot) (told after : Traffic) → IsRun p 1 e (processor_state m.processor x y) v new told after → IsRun p 1 e (snapshot_state v x y) v new told after
-  from_here e new told after r = subst (λ u. IsRun p 1 e (snapshot_state u x y) v new told after) is r
+  from_here : (e : Ending) (rest : List ℕ) (new : Snapshot) (told after : Traffic) → IsRun p 1 e (processor_state m.processor x y) rest v new told after → IsRun p 1 e (snapshot_state v x y) rest v new told after
+  from_here e rest new told after r = subst (λ u. IsRun p 1 e (snapshot_state u x y) rest v new told after) is r
 
-  pub goes_turn : (q : Processor) (st : ℕ) (told : Traffic) → step p (processor_state m.processor x y) ≡ Goes (processor_state q x y) → asks_service p 3 (processor_state m.processor x y) ≡ false → q.text.items ≡ m.processor.text.items → st ≡ next_count m.steps → told.left ≡ Some x → IsRun p 1 ending.Budget (snapshot_state v x y) v (snapshot_of (record { processor = q; steps = st; written = m.written; halt = m.halt })) told told
-  goes_turn q st told goes a text steps left =
+  pub goes_turn : (q : Processor) (st : ℕ) (told : Traffic) → step p (processor_state m.processor x y) ≡ Goes (processor_state q x y) → asks_service p 3 (processor_state m.processor x y) ≡ false → q.text.items ≡ m.processor.text.items → st ≡ next_count m.steps → IsRun p 1 ending.Budget (snapshot_state v x y) x v (snapshot_of (record { processor = q; steps = st; written = m.written; halt = m.halt })) told told
+  goes_turn q st told goes a text steps =
       let s : State = processor_state m.processor x y in
       let t : State = processor_state q x y in
-      from_here ending.Budget _ told told
-      (ran_from p 1 ending.Budget s t v _ told told 1 1 0 [] (refl, exec_one p s (Goes t) goes) (steps_one-goes p s t goes) (takes_one-no p s (Goes t) a goes) (sym (append-nil y)) (moved_is q x y st m.written m.halt 1 0 ending.Budget text steps refl still) left (counted_none told.made) (taken_none told.taken))
+      from_here ending.Budget x _ told told
+      (ran_from p 1 ending.Budget s t x v _ told told 1 1 0 [] (refl, exec_one p s (Goes t) goes) (steps_one-goes p s t goes) (takes_one-no p s (Goes t) a goes) (sym (append-nil y)) (moved_is q x y st m.written m.halt 1 0 ending.Budget text steps refl still) refl (counted_none told.made) (taken_none told.taken))
 
-  pub over_turn : (q : Processor) (h : Halt) (e : Ending) (st : ℕ) (told : Traffic) → step p (processor_state m.processor x y) ≡ Over (halt_is h) (processor_state q x y) → asks_service p 3 (processor_state m.processor x y) ≡ false → q.text.items ≡ m.processor.text.items → st ≡ min (m.steps + last_step (halt_is h)) count_end → m.steps < 2 ^ 64 → e ≡ halt_ending (halt_is h) → told.left ≡ Some x → IsRun p 1 e (snapshot_state v x y) v (snapshot_of (record { processor = q; steps = st; written = m.written; halt = Some h })) told told
-  over_turn q h e st told goes a text steps small is_e left =
+  pub over_turn : (q : Processor) (h : Halt) (e : Ending) (st : ℕ) (told : Traffic) → step p (processor_state m.processor x y) ≡ Over (halt_is h) (processor_state q x y) → asks_service p 3 (processor_state m.processor x y) ≡ false → q.text.items ≡ m.processor.text.items → st ≡ min (m.steps + last_step (halt_is h)) count_end → m.steps < 2 ^ 64 → e ≡ halt_ending (halt_is h) → IsRun p 1 e (snapshot_state v x y) x v (snapshot_of (record { processor = q; steps = st; written = m.written; halt = Some h })) told told
+  over_turn q h e st told goes a text steps small is_e =
       let s : State = processor_state m.processor x y in
       let t : State = processor_state q x y in
       let hs : step.Halt = halt_is h in
-      from_here e _ told told
-      (subst (λ k. IsRun p 1 k s v (snapshot_of (record { processor = q; steps = st; written = m.written; halt = Some h })) told told) (sym is_e)
-      (ran_from p 1 (halt_ending hs) s t v _ told told 1 (last_step hs) 0 [] (stops_over p s t hs (exec_one p s (Over hs t) goes)) (steps_one-over p s t hs goes) (takes_one-no p s (Over hs t) a goes) (sym (append-nil y)) (moved_is q x y st m.written (Some h) (last_step hs) 0 (halt_ending hs) text (steps ∙ last_counted hs m.steps small) refl (behaviour_of_halt hs)) left (counted_none told.made ∙ ap (λ n. option_map (count_plus n) told.made) (sym (unasked hs))) (taken_none told.taken)))
+      from_here e x _ told told
+      (subst (λ k. IsRun p 1 k s x v (snapshot_of (record { processor = q; steps = st; written = m.written; halt = Some h })) told told) (sym is_e)
+      (ran_from p 1 (halt_ending hs) s t x v _ told told 1 (last_step hs) 0 [] (stops_over p s t hs (exec_one p s (Over hs t) goes)) (steps_one-over p s t hs goes) (takes_one-no p s (Over hs t) a goes) (sym (append-nil y)) (moved_is q x y st m.written (Some h) (last_step hs) 0 (halt_ending hs) text (steps ∙ last_counted hs m.steps small) refl (behaviour_of_halt hs)) refl (counted_none told.made ∙ ap (λ n. option_map (count_plus n) told.made) (sym (unasked hs))) (taken_none told.taken)))
 
-  pub write_fault : (q : Processor) (told after : Traffic) → processor_state q x y ≡ processor_state m.processor x y → asks_service p 2 (processor_state m.processor x y) ≡ true → q.text.items ≡ m.processor.text.items → told.left ≡ Some x → after.left ≡ told.left → after.made ≡ told.made → after.taken ≡ told.taken → IsRun p 1 ending.WriteFault (snapshot_state v x y) v (snapshot_of (record { processor = q; steps = m.steps; written = m.written; halt = m.halt })) told after
-  write_fault q told after same a text left left' made taken =
+  pub write_fault : (q : Processor) (told after : Traffic) → processor_state q x y ≡ processor_state m.processor x y → asks_service p 2 (processor_state m.processor x y) ≡ true → q.text.items ≡ m.processor.text.items → after.made ≡ told.made → after.taken ≡ told.taken → IsRun p 1 ending.WriteFault (snapshot_state v x y) x v (snapshot_of (record { processor = q; steps = m.steps; written = m.written; halt = m.halt })) told after
+  write_fault q told after same a text made taken =
       let s : State = processor_state m.processor x y in
       let t : State = processor_state q x y in
-      from_here ending.WriteFault _ told after
-      (ran_from p 1 ending.WriteFault s t v _ told after 0 0 0 [] (omega arith, exec_none p s ∙ ap Goes (sym same), ap (asks_service p 2) same ∙ a) (steps_none p s) (takes_none p s) (sym (append-nil y)) (moved_is q x y m.steps m.written m.halt 0 0 ending.WriteFault text refl refl still) (left' ∙ left) (made ∙ counted_none told.made) (taken ∙ taken_none told.taken))
+      from_here ending.WriteFault x _ told after
+      (ran_from p 1 ending.WriteFault s t x v _ told after 0 0 0 [] (omega arith, exec_none p s ∙ ap Goes (sym same), ap (asks_service p 2) same ∙ a) (steps_none p s) (takes_none p s) (sym (append-nil y)) (moved_is q x y m.steps m.written m.halt 0 0 ending.WriteFault text refl refl still) refl (made ∙ counted_none told.made) (taken ∙ taken_none told.taken))
 
-  pub input_fault : (q : Processor) (told after : Traffic) → processor_state q x y ≡ processor_state m.processor x y → asks_service p 3 (processor_state m.processor x y) ≡ true → q.text.items ≡ m.processor.text.items → told.left ≡ Some x → after.left ≡ told.left → after.made ≡ option_map next_count told.made → after.taken ≡ told.taken → IsRun p 1 ending.InputFault (snapshot_state v x y) v (snapshot_of (record { processor = q; steps = m.steps; written = m.written; halt = m.halt })) told after
-  input_fault q told after same a text left left' made taken =
+  pub input_fault : (q : Processor) (told after : Traffic) → processor_state q x y ≡ processor_state m.processor x y → asks_service p 3 (processor_state m.processor x y) ≡ true → q.text.items ≡ m.processor.text.items → after.made ≡ option_map next_count told.made → after.taken ≡ told.taken → IsRun p 1 ending.InputFault (snapshot_state v x y) x v (snapshot_of (record { processor = q; steps = m.steps; written = m.written; halt = m.halt })) told after
+  input_fault q told after same a text made taken =
       let s : State = processor_state m.processor x y in
       let t : State = processor_state q x y in
-      from_here ending.InputFault _ told after
-      (ran_from p 1 ending.InputFault s t v _ told after 0 0 0 [] (omega arith, exec_none p s ∙ ap Goes (sym same), ap (asks_service p 3) same ∙ a) (steps_none p s) (takes_none p s) (sym (append-nil y)) (moved_is q x y m.steps m.written m.halt 0 0 ending.InputFault text refl refl still) (left' ∙ left) made (taken ∙ taken_none told.taken))
+      from_here ending.InputFault x _ told after
+      (ran_from p 1 ending.InputFault s t x v _ told after 0 0 0 [] (omega arith, exec_none p s ∙ ap Goes (sym same), ap (asks_service p 3) same ∙ a) (steps_none p s) (takes_none p s) (sym (append-nil y)) (moved_is q x y m.steps m.written m.halt 0 0 ending.InputFault text refl refl still) refl made (taken ∙ taken_none told.taken))
 
-  pub puts_turn : (q a : Processor) (byte st w : ℕ) (told after : Traffic) → step p (processor_state m.processor x y) ≡ next_instruction (processor_state m.processor x (y ++ byte ∷ [])) → asks_service p 3 (processor_state m.processor x y) ≡ false → processor_state q x (y ++ byte ∷ []) ≡ processor_state m.processor x (y ++ byte ∷ []) → Goes (processor_state a x (y ++ byte ∷ [])) ≡ next_instruction (processor_state q x (y ++ byte ∷ [])) → a.text.items ≡ m.processor.text.items → st ≡ next_count m.steps → w ≡ next_count m.written → told.left ≡ Some x → after.left ≡ told.left → after.made ≡ told.made → after.taken ≡ option_map (λ bytes. bytes ++ byte ∷ []) told.taken → IsRun p 1 ending.Budget (snapshot_state v x y) v (snapshot_of (record { processor = a; steps = st; written = w; halt = m.halt })) told after
-  puts_turn q a byte st w told after goes no_take same on text steps written left left' made taken =
+  pub puts_turn : (q a : Processor) (byte st w : ℕ) (told after : Traffic) → step p (processor_state m.processor x y) ≡ next_instruction (processor_state m.processor x (y ++ byte ∷ [])) → asks_service p 3 (processor_state m.processor x y) ≡ false → processor_state q x (y ++ byte ∷ []) ≡ processor_state m.processor x (y ++ byte ∷ []) → Goes (processor_state a x (y ++ byte ∷ [])) ≡ next_instruction (processor_state q x (y ++ byte ∷ [])) → a.text.items ≡ m.processor.text.items → st ≡ next_count m.steps → w ≡ next_count m.written → after.made ≡ told.made → after.taken ≡ option_map (λ bytes. bytes ++ byte ∷ []) told.taken → IsRun p 1 ending.Budget (snapshot_state v x y) x v (snapshot_of (record { processor = a; steps = st; written = w; halt = m.halt })) told after
+  puts_turn q a byte st w told after goes no_take same on text steps written made taken =
       let s : State = processor_state m.processor x y in
       let z : List ℕ = y ++ byte ∷ [] in
       let t : State = processor_state a x z in
       let e : step p s ≡ Goes t = goes ∙ ap next_instruction (sym same) ∙ sym on in
-      from_here ending.Budget _ told after
-      (ran_from p 1 ending.Budget s t v _ told after 1 1 0 (byte ∷ []) (refl, exec_one p s (Goes t) e) (steps_one-goes p s t e) (takes_one-no p s (Goes t) no_take e) refl (moved_is a x z st w m.halt 1 1 ending.Budget text steps written still) (left' ∙ left) (made ∙ counted_none told.made) taken)
+      from_here ending.Budget x _ told after
+      (ran_from p 1 ending.Budget s t x v _ told after 1 1 0 (byte ∷ []) (refl, exec_one p s (Goes t) e) (steps_one-goes p s t e) (takes_one-no p s (Goes t) no_take e) refl (moved_is a x z st w m.halt 1 1 ending.Budget text steps written still) refl (made ∙ counted_none told.made) taken)
 
-  pub takes_turn : (q a : Processor) (byte : Option ℕ) (st : ℕ) (told after : Traffic) → step p (processor_state m.processor x y) ≡ next_instruction (with_taken (processor_state m.processor x y)) → asks_service p 3 (processor_state m.processor x y) ≡ true → processor_state q x y ≡ processor_state m.processor x y → Goes (processor_state a (drop 1 x) y) ≡ next_instruction (with_taken (processor_state q x y)) → a.text.items ≡ m.processor.text.items → st ≡ next_count m.steps → told.left ≡ Some x → after.left ≡ option_map (drop 1) told.left → after.made ≡ option_map next_count told.made → after.taken ≡ told.taken → IsRun p 1 ending.Budget (snapshot_state v x y) v (snapshot_of (record { processor = a; steps = st; written = m.written; halt = m.halt })) told after
-  takes_turn q a byte st told after goes take same on text steps left left' made taken =
+  pub takes_turn : (q a : Processor) (rest : List ℕ) (st : ℕ) (told after : Traffic) → step p (processor_state m.processor x y) ≡ next_instruction (with_taken (processor_state m.processor x y)) → asks_service p 3 (processor_state m.processor x y) ≡ true → processor_state q x y ≡ processor_state m.processor x y → Goes (processor_state a (drop 1 x) y) ≡ next_instruction (with_taken (processor_state q x y)) → a.text.items ≡ m.processor.text.items → st ≡ next_count m.steps → drop 1 x ≡ rest → after.made ≡ option_map next_count told.made → after.taken ≡ told.taken → IsRun p 1 ending.Budget (snapshot_state v x y) rest v (snapshot_of (record { processor = a; steps = st; written = m.written; halt = m.halt })) told after
+  takes_turn q a rest st told after goes take same on text steps left made taken =
       let s : State = processor_state m.processor x y in
       let t : State = processor_state a (drop 1 x) y in
       let e : step p s ≡ Goes t = goes ∙ ap (λ u. next_instruction (with_taken u)) (sym same) ∙ sym on in
-      from_here ending.Budget _ told after
-      (ran_from p 1 ending.Budget s t v _ told after 1 1 1 [] (refl, exec_one p s (Goes t) e) (steps_one-goes p s t e) (takes_one-yes p s t take e) (sym (append-nil y)) (moved_is a (drop 1 x) y st m.written m.halt 1 0 ending.Budget text steps refl still) (left' ∙ ap (option_map (drop 1)) left) made (taken ∙ taken_none told.taken))
+      from_here ending.Budget rest _ told after
+      (ran_from p 1 ending.Budget s t rest v _ told after 1 1 1 [] (refl, exec_one p s (Goes t) e) (steps_one-goes p s t e) (takes_one-yes p s t take e) (sym (append-nil y)) (moved_is a (drop 1 x) y st m.written m.halt 1 0 ending.Budget text steps refl still) left made (taken ∙ taken_none told.taken))

@@ -14,7 +14,8 @@ use Rattle.alpha_run.specs.declared.ending.Ending.TheVariants.{Done, Trap, Stuck
 use Rattle.alpha_run.specs.Snapshot.{Snapshot, snapshot_state, first_snapshot, IsMachineOf}
 use Rattle.alpha_run.specs.Services.{asks_service}
 use Rattle.alpha_run.specs.model.Stop.{stops_early}
-use Rattle.alpha_run.specs.Run.{last_step, steps_then, steps_in, takes_then, takes_in, input_calls, StopsAt, snapshot_after, IsRun, ImageGives, MachineBehaves}
+use Rattle.alpha_run.specs.model.MachineTurns.{TurnsOn}
+use Rattle.alpha_run.specs.Run.{last_step, steps_then, steps_in, takes_then, takes_in, input_calls, StopsAt, snapshot_after, IsRun, RunsOn, ImageGives, MachineBehaves, BehavesOn}
 
 -- ---- one step
 
@@ -57,8 +58,8 @@ unfolding takes_in
 takes_none p s = refl
 
 -- a record of a run by the numbers of its steps
-pub ran_from : (p : Program) (n : ℕ) (e : Ending) (s t : State) (old new : Snapshot) (told after : Traffic) (k steps takes : ℕ) (put : List ℕ) → StopsAt p n s e k t → steps_in p k s ≡ steps → takes_in p k s ≡ takes → t.output ≡ s.output ++ put → new ≡ snapshot_after old t steps (length put) e → after.left ≡ Some t.input → after.made ≡ option_map (count_plus (input_calls e takes)) told.made → after.taken ≡ option_map (λ bytes. bytes ++ put) told.taken → IsRun p n e s old new told after
-ran_from p n e s t old new told after k steps takes put stops i a puts machine left made taken = record {
+pub ran_from : (p : Program) (n : ℕ) (e : Ending) (s t : State) (rest : List ℕ) (old new : Snapshot) (told after : Traffic) (k steps takes : ℕ) (put : List ℕ) → StopsAt p n s e k t → steps_in p k s ≡ steps → takes_in p k s ≡ takes → t.output ≡ s.output ++ put → new ≡ snapshot_after old t steps (length put) e → t.input ≡ rest → after.made ≡ option_map (count_plus (input_calls e takes)) told.made → after.taken ≡ option_map (λ bytes. bytes ++ put) told.taken → IsRun p n e s rest old new told after
+ran_from p n e s t rest old new told after k steps takes put stops i a puts machine left made taken = record {
   tried = k;
   place = t;
   put = put;
@@ -162,13 +163,13 @@ moved_on : (old : Snapshot) (t u : State) (a b i j : ℕ) (e : Ending) → snaps
 moved_on old t u a b i j e = rw (counted_on b a old.steps, counted_on j i old.written) refl
 
 -- a run of k steps and one more step
-pub ran_on : (p : Program) (k : ℕ) (e : Ending) (s : State) (old mid new : Snapshot) (told between after : Traffic) → (r : IsRun p k Budget s old mid told between) → IsRun p 1 e r.place mid new between after → IsRun p (k + 1) e s old new told after
-ran_on p k e s old mid new told between after r l =
+pub ran_on : (p : Program) (k : ℕ) (e : Ending) (s : State) (more rest : List ℕ) (old mid new : Snapshot) (told between after : Traffic) → (r : IsRun p k Budget s more old mid told between) → IsRun p 1 e r.place rest mid new between after → IsRun p (k + 1) e s rest old new told after
+ran_on p k e s more rest old mid new told between after r l =
     let t = r.place in
     let x : exec p r.tried s ≡ Goes t = ap (λ j. exec p j s) r.stops.0 ∙ r.stops.1 in
     let i : steps_in p (k + l.tried) s ≡ steps_in p r.tried s + steps_in p l.tried t = ap (λ j. steps_in p (j + l.tried) s) (sym r.stops.0) ∙ steps_on p r.tried l.tried s t x in
     let a : takes_in p (k + l.tried) s ≡ takes_in p r.tried s + takes_in p l.tried t = ap (λ j. takes_in p (j + l.tried) s) (sym r.stops.0) ∙ takes_on p r.tried l.tried s t x in
-    ran_from p (k + 1) e s l.place old new told after (k + l.tried) (steps_in p r.tried s + steps_in p l.tried t) (takes_in p r.tried s + takes_in p l.tried t) (r.put ++ l.put)
+    ran_from p (k + 1) e s l.place rest old new told after (k + l.tried) (steps_in p r.tried s + steps_in p l.tried t) (takes_in p r.tried s + takes_in p l.tried t) (r.put ++ l.put)
     (stops_on p k s t l.place e l.tried r.stops.1 l.stops)
     i
     a
@@ -179,22 +180,22 @@ ran_on p k e s old mid new told between after r l =
     (l.taken ∙ ap (λ o. option_map (λ bytes. bytes ++ l.put) o) r.taken ∙ taken_on r.put l.put told.taken)
 
 -- a run that stopped before its steps were done stops there with more steps to do
-over_longer : (p : Program) (k n : ℕ) (s : State) (e : Ending) (h : Halt) (old new : Snapshot) (told after : Traffic) (r : IsRun p k e s old new told after) → k ≤ n → r.tried ≡ k → exec p k s ≡ Over h r.place → ((j : ℕ) → j ≡ n → exec p n s ≡ Over h r.place → StopsAt p n s e j r.place) → IsRun p n e s old new told after
-over_longer p k n s e h old new told after r le same x stops =
+over_longer : (p : Program) (k n : ℕ) (s : State) (rest : List ℕ) (e : Ending) (h : Halt) (old new : Snapshot) (told after : Traffic) (r : IsRun p k e s rest old new told after) → k ≤ n → r.tried ≡ k → exec p k s ≡ Over h r.place → ((j : ℕ) → j ≡ n → exec p n s ≡ Over h r.place → StopsAt p n s e j r.place) → IsRun p n e s rest old new told after
+over_longer p k n s rest e h old new told after r le same x stops =
     let whole : k + (n - k) ≡ n = omega arith in
     let o = over_on p k (n - k) s h r.place x in
-    ran_from p n e s r.place old new told after n (steps_in p r.tried s) (takes_in p r.tried s) r.put
+    ran_from p n e s r.place rest old new told after n (steps_in p r.tried s) (takes_in p r.tried s) r.put
     (stops n refl (ap (λ j. exec p j s) (sym whole) ∙ o.0))
     (ap (λ j. steps_in p j s) (sym whole) ∙ o.1 ∙ ap (λ j. steps_in p j s) (sym same))
     (ap (λ j. takes_in p j s) (sym whole) ∙ o.2 ∙ ap (λ j. takes_in p j s) (sym same))
     r.puts r.machine r.left r.made r.taken
 
-pub ran_longer : (p : Program) (k n : ℕ) (s : State) (e : Ending) (old new : Snapshot) (told after : Traffic) → k ≤ n → stops_early e ≡ true → IsRun p k e s old new told after → IsRun p n e s old new told after
-ran_longer p k n s (Done status) old new told after le early r = over_longer p k n s (Done status) (step.Done status) old new told after r le r.stops.0 r.stops.1 (λ j same x. (same, x))
-ran_longer p k n s (Trap code) old new told after le early r = over_longer p k n s (Trap code) (step.Trap code) old new told after r le r.stops.0 r.stops.1 (λ j same x. (same, x))
-ran_longer p k n s (Stuck pc) old new told after le early r = over_longer p k n s (Stuck pc) (step.Stuck pc) old new told after r le r.stops.0 r.stops.1 (λ j same x. (same, x))
-ran_longer p k n s Budget old new told after le early r = cc
-ran_longer p k n s InputFault old new told after le early r = record {
+pub ran_longer : (p : Program) (k n : ℕ) (s : State) (rest : List ℕ) (e : Ending) (old new : Snapshot) (told after : Traffic) → k ≤ n → stops_early e ≡ true → IsRun p k e s rest old new told after → IsRun p n e s rest old new told after
+ran_longer p k n s rest (Done status) old new told after le early r = over_longer p k n s rest (Done status) (step.Done status) old new told after r le r.stops.0 r.stops.1 (λ j same x. (same, x))
+ran_longer p k n s rest (Trap code) old new told after le early r = over_longer p k n s rest (Trap code) (step.Trap code) old new told after r le r.stops.0 r.stops.1 (λ j same x. (same, x))
+ran_longer p k n s rest (Stuck pc) old new told after le early r = over_longer p k n s rest (Stuck pc) (step.Stuck pc) old new told after r le r.stops.0 r.stops.1 (λ j same x. (same, x))
+ran_longer p k n s rest Budget old new told after le early r = cc
+ran_longer p k n s rest InputFault old new told after le early r = record {
   tried = r.tried;
   place = r.place;
   put = r.put;
@@ -205,7 +206,7 @@ ran_longer p k n s InputFault old new told after le early r = record {
   made = r.made;
   taken = r.taken;
 }
-ran_longer p k n s WriteFault old new told after le early r = record {
+ran_longer p k n s rest WriteFault old new told after le early r = record {
   tried = r.tried;
   place = r.place;
   put = r.put;
@@ -218,45 +219,70 @@ ran_longer p k n s WriteFault old new told after le early r = record {
 }
 
 -- a run of no steps
-pub ran_none : (p : Program) (bytes : List ℕ) (v : Snapshot) (told : Traffic) → v.halt ≡ None → told.left ≡ Some bytes → IsRun p 0 Budget (snapshot_state v bytes []) v v told told
-ran_none p bytes v told none left =
+pub ran_none : (p : Program) (bytes : List ℕ) (v : Snapshot) (told : Traffic) → v.halt ≡ None → IsRun p 0 Budget (snapshot_state v bytes []) bytes v v told told
+ran_none p bytes v told none =
     let s : State = snapshot_state v bytes [] in
-    ran_from p 0 Budget s s v v told told 0 0 0 [] (refl, exec_none p s) (steps_none p s) (takes_none p s) refl (ap (λ h. record v { halt = h }) none) left (counted_none told.made) (taken_none told.taken)
+    ran_from p 0 Budget s s bytes v v told told 0 0 0 [] (refl, exec_none p s) (steps_none p s) (takes_none p s) refl (ap (λ h. record v { halt = h }) none) refl (counted_none told.made) (taken_none told.taken)
 
 -- a run of all its steps
-pub ran_whole : (p : Program) (k n : ℕ) (s : State) (old new : Snapshot) (told after : Traffic) → k ≡ n → IsRun p k Budget s old new told after → IsRun p n Budget s old new told after
-ran_whole p k n s old new told after same r = subst (λ j. IsRun p j Budget s old new told after) same r
+pub ran_whole : (p : Program) (k n : ℕ) (s : State) (rest : List ℕ) (old new : Snapshot) (told after : Traffic) → k ≡ n → IsRun p k Budget s rest old new told after → IsRun p n Budget s rest old new told after
+ran_whole p k n s rest old new told after same r = subst (λ j. IsRun p j Budget s rest old new told after) same r
 
 -- one more turn
-pub ran_turn : (p : Program) (k : ℕ) (e : Ending) (s : State) (old mid new : Snapshot) (told between after : Traffic) → IsRun p k Budget s old mid told between → ((x y : List ℕ) → IsMachineOf p mid → mid.halt ≡ None → between.left ≡ Some x → IsRun p 1 e (snapshot_state mid x y) mid new between after) → IsMachineOf p mid → IsRun p (k + 1) e s old new told after
-ran_turn p k e s old mid new told between after r turn runs =
+pub ran_turn : (p : Program) (k : ℕ) (e : Ending) (s : State) (more rest : List ℕ) (old mid new : Snapshot) (told between after : Traffic) → IsRun p k Budget s more old mid told between → ((y : List ℕ) → IsMachineOf p mid → mid.halt ≡ None → IsRun p 1 e (snapshot_state mid more y) rest mid new between after) → IsMachineOf p mid → IsRun p (k + 1) e s rest old new told after
+ran_turn p k e s more rest old mid new told between after r turn runs =
     let t : State = r.place in
-    let here : snapshot_state mid t.input t.output ≡ t = ap (λ m. snapshot_state m t.input t.output) r.machine in
+    let here : snapshot_state mid more t.output ≡ t = ap (λ i. snapshot_state mid i t.output) (sym r.left) ∙ ap (λ m. snapshot_state m t.input t.output) r.machine in
     let none : mid.halt ≡ None = ap (λ m. m.halt) r.machine in
-    ran_on p k e s old mid new told between after r (subst (λ u. IsRun p 1 e u mid new between after) here (turn t.input t.output runs none r.left))
+    ran_on p k e s more rest old mid new told between after r (subst (λ u. IsRun p 1 e u rest mid new between after) here (turn t.output runs none))
 
 -- a run from the start is the behaviour of the image
-pub ran_gives : (p : Program) (stack : ℕ) (input : List ℕ) (n : ℕ) (e : Ending) (old new : Snapshot) (told after : Traffic) → (r : IsRun p n e (start_state p stack input) old new told after) → ImageGives p stack input n e r.put
-ran_gives p stack input n (Done status) old new told after r = ap behaviour r.stops.1 ∙ ap (λ o. behave.Done o status) r.puts
-ran_gives p stack input n (Trap code) old new told after r = ap behaviour r.stops.1 ∙ ap (λ o. behave.Trap o code) r.puts
-ran_gives p stack input n (Stuck pc) old new told after r = ap behaviour r.stops.1 ∙ ap (λ o. behave.Stuck o pc) r.puts
-ran_gives p stack input n Budget old new told after r = ap behaviour r.stops.1 ∙ ap (λ o. behave.More o) r.puts
-ran_gives p stack input n InputFault old new told after r = (r.tried, r.stops.0, ap behaviour r.stops.1 ∙ ap (λ o. behave.More o) r.puts)
-ran_gives p stack input n WriteFault old new told after r = (r.tried, r.stops.0, ap behaviour r.stops.1 ∙ ap (λ o. behave.More o) r.puts)
+pub ran_gives : (p : Program) (stack : ℕ) (input rest : List ℕ) (n : ℕ) (e : Ending) (old new : Snapshot) (told after : Traffic) → (r : IsRun p n e (start_state p stack input) rest old new told after) → ImageGives p stack input n e r.put
+ran_gives p stack input rest n (Done status) old new told after r = ap behaviour r.stops.1 ∙ ap (λ o. behave.Done o status) r.puts
+ran_gives p stack input rest n (Trap code) old new told after r = ap behaviour r.stops.1 ∙ ap (λ o. behave.Trap o code) r.puts
+ran_gives p stack input rest n (Stuck pc) old new told after r = ap behaviour r.stops.1 ∙ ap (λ o. behave.Stuck o pc) r.puts
+ran_gives p stack input rest n Budget old new told after r = ap behaviour r.stops.1 ∙ ap (λ o. behave.More o) r.puts
+ran_gives p stack input rest n InputFault old new told after r = (r.tried, r.stops.0, ap behaviour r.stops.1 ∙ ap (λ o. behave.More o) r.puts)
+ran_gives p stack input rest n WriteFault old new told after r = (r.tried, r.stops.0, ap behaviour r.stops.1 ∙ ap (λ o. behave.More o) r.puts)
 
 -- a machine that was just loaded runs its image, and has not come to an end
 pub loaded_runs : (p : Program) (stack : ℕ) (v : Snapshot) → v ≡ first_snapshot p stack → IsMachineOf p v × (v.halt ≡ None)
 loaded_runs p stack v e = (record { text = ap (λ u. u.text) e; size = ap (λ u. length u.data_bytes) e ∙ size_is p }, ap (λ u. u.halt) e)
 
-pub ran_behaves : (p : Program) (stack : ℕ) (input : List ℕ) (n : ℕ) (e : Ending) (old new : Snapshot) (told after : Traffic) → old ≡ first_snapshot p stack → IsRun p n e (snapshot_state old input []) old new told after → MachineBehaves p stack input n e told after
-ran_behaves p stack input n e old new told after same r =
-    let s : IsRun p n e (start_state p stack input) old new told after = subst (λ u. IsRun p n e (snapshot_state u input []) old new told after) same r in
+pub ran_behaves : (p : Program) (stack : ℕ) (input rest : List ℕ) (n : ℕ) (e : Ending) (old new : Snapshot) (told after : Traffic) → old ≡ first_snapshot p stack → IsRun p n e (snapshot_state old input []) rest old new told after → MachineBehaves p stack input rest n e told after
+ran_behaves p stack input rest n e old new told after same r =
+    let s : IsRun p n e (start_state p stack input) rest old new told after = subst (λ u. IsRun p n e (snapshot_state u input []) rest old new told after) same r in
     record {
       tried = s.tried;
       place = s.place;
       stops = s.stops;
-      gives = subst (λ o. ImageGives p stack input n e o) (sym s.puts) (ran_gives p stack input n e old new told after s);
+      gives = subst (λ o. ImageGives p stack input n e o) (sym s.puts) (ran_gives p stack input rest n e old new told after s);
       left = s.left;
       made = s.made;
       taken = s.taken ∙ ap (λ o. option_map (λ bytes. bytes ++ o) told.taken) (sym s.puts);
     }
+
+-- ---- runs on the input of the machine
+
+pub on_more : (k : ℕ) (e : Ending) (old mid new : Snapshot) (told between after : Traffic) → ((p : Program) → IsMachineOf p old → IsMachineOf p mid) → (input more rest : List ℕ) → RunsOn k Budget old mid told between input more → TurnsOn e mid new between after more rest → RunsOn (k + 1) e old new told after input rest
+on_more k e old mid new told between after runs input more rest first turn p is none =
+    ran_turn p k e (snapshot_state old input []) more rest old mid new told between after (first p is none) (turn p) (runs p is)
+
+pub on_longer : (k n : ℕ) (e : Ending) (old new : Snapshot) (told after : Traffic) → k ≤ n → stops_early e ≡ true → (input rest : List ℕ) → RunsOn k e old new told after input rest → RunsOn n e old new told after input rest
+on_longer k n e old new told after le early input rest run p is none =
+    ran_longer p k n (snapshot_state old input []) rest e old new told after le early (run p is none)
+
+pub on_whole : (k n : ℕ) (old new : Snapshot) (told after : Traffic) → k ≡ n → (input rest : List ℕ) → RunsOn k Budget old new told after input rest → RunsOn n Budget old new told after input rest
+on_whole k n old new told after same input rest run = subst (λ j. RunsOn j Budget old new told after input rest) same run
+
+pub on_behaving : (n : ℕ) (e : Ending) (old new : Snapshot) (told after : Traffic) (input rest : List ℕ) → RunsOn n e old new told after input rest → BehavesOn n e old told after input rest
+on_behaving n e old new told after input rest run p stack same =
+    let l = loaded_runs p stack old same in
+    ran_behaves p stack input rest n e old new told after same (run p l.0 l.1)
+
+-- a machine that came to its end does not run
+pub on_ended : (n : ℕ) (e : Ending) (h : Halt) (old new : Snapshot) (told after : Traffic) → old.halt ≡ Some h → (rest : List ℕ) → RunsOn n e old new told after rest rest
+on_ended n e h old new told after ended rest p is none = absurd (clash (sym ended ∙ none))
+  where
+    clash : ◌≡◌ {A = Option Halt} (Some h) None → ⊥
+    clash same = cc

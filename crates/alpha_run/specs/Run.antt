@@ -1,5 +1,5 @@
 -- What a run of a machine does, by the steps of the definition.
-use Rattle.std.specs.Prelude.{◌≡◌, ℕ, zero, suc, ◌+◌, ◌<◌, List, ◌++◌, length, Bool, true, false, Option, Some, None, option_map, IsTrue, if◌then◌else◌}
+use Rattle.std.specs.Prelude.{◌≡◌, ℕ, zero, suc, ◌+◌, ◌<◌, List, [], ◌++◌, length, Option, Some, None, option_map, IsTrue, if◌then◌else◌}
 use Rattle.alpha_isa.specs.Program.{Program}
 use Rattle.alpha_isa.specs.State.{State}
 use Rattle.alpha_isa.specs.Step.{Halt, MachineNext, Goes, Over, step, exec}
@@ -9,7 +9,7 @@ use Rattle.alpha_isa.specs.Behave as behave
 use Rattle.bk_io.specs.Outside.{next_count, count_plus, Traffic}
 use Rattle.alpha_run.specs.declared.ending.Ending.{Ending}
 use Rattle.alpha_run.specs.declared.ending.Ending.TheVariants.{Done, Trap, Stuck, Budget, InputFault, WriteFault}
-use Rattle.alpha_run.specs.Snapshot.{Snapshot}
+use Rattle.alpha_run.specs.Snapshot.{Snapshot, snapshot_state, first_snapshot, IsMachineOf}
 use Rattle.alpha_run.specs.Services.{asks_service}
 
 -- ---- counts
@@ -81,8 +81,9 @@ snapshot_after m t steps written e = record m {
   halt = halt_of e;
 }
 
--- a run of n steps from the state s: where it stopped, and what it did to the machine, the input and the output
-pub record IsRun (p : Program) (n : ℕ) (e : Ending) (s : State) (old new : Snapshot)
+-- a run of n steps from the state s, of whose input this rest is left: where it stopped, and what it did to the machine,
+-- the input and the output
+pub record IsRun (p : Program) (n : ℕ) (e : Ending) (s : State) (rest : List ℕ) (old new : Snapshot)
     (told after : Traffic) : Type 0 where
   pub tried : ℕ
   pub place : State
@@ -90,9 +91,15 @@ pub record IsRun (p : Program) (n : ℕ) (e : Ending) (s : State) (old new : Sna
   pub stops : StopsAt p n s e tried place
   pub puts : place.output ≡ s.output ++ put
   pub machine : new ≡ snapshot_after old place (steps_in p tried s) (length put) e
-  pub left : after.left ≡ Some place.input
+  pub left : place.input ≡ rest
   pub made : after.made ≡ option_map (count_plus (input_calls e (takes_in p tried s))) told.made
   pub taken : after.taken ≡ option_map (λ bytes. bytes ++ put) told.taken
+
+-- what n steps of a machine are on an input, of which this rest is left, whatever program it runs
+abbrev pub RunsOn : (n : ℕ) → Ending → (old new : Snapshot) → (told after : Traffic) → (input rest : List ℕ) → Type 0
+RunsOn n e old new told after input rest =
+    (p : Program) → IsMachineOf p old → old.halt ≡ None →
+    IsRun p n e (snapshot_state old input []) rest old new told after
 
 -- ---- a run from the start
 
@@ -105,15 +112,20 @@ ImageGives p stack input n (Stuck pc) put = behave_a p stack input n ≡ behave.
 ImageGives p stack input n Budget put = behave_a p stack input n ≡ behave.More put
 ImageGives p stack input n _ put = (k : ℕ) × (k < n) × (behave_a p stack input k ≡ behave.More put)
 
--- A run of n steps from the start of an image: where it stopped, and what it did to the input and the output. Where
--- the outside failed, it stood at the service that the outside failed at.
-pub record MachineBehaves (p : Program) (stack : ℕ) (input : List ℕ) (n : ℕ) (e : Ending)
+-- A run of n steps from the start of an image, of whose input this rest is left: where it stopped, and what it did to
+-- the input and the output. Where the outside failed, it stood at the service that the outside failed at.
+pub record MachineBehaves (p : Program) (stack : ℕ) (input rest : List ℕ) (n : ℕ) (e : Ending)
     (before after : Traffic) : Type 0 where
   pub tried : ℕ
   pub place : State
   pub stops : StopsAt p n (start_state p stack input) e tried place
   pub gives : ImageGives p stack input n e place.output
-  pub left : after.left ≡ Some place.input
+  pub left : place.input ≡ rest
   pub made : after.made ≡ option_map (count_plus (input_calls e (takes_in p tried (start_state p stack input))))
       before.made
   pub taken : after.taken ≡ option_map (λ bytes. bytes ++ place.output) before.taken
+
+-- what n steps of a machine are on an input, of which this rest is left, where an image was just loaded into it
+abbrev pub BehavesOn : (n : ℕ) → Ending → (old : Snapshot) → (told after : Traffic) → (input rest : List ℕ) → Type 0
+BehavesOn n e old told after input rest =
+    (p : Program) (stack : ℕ) → old ≡ first_snapshot p stack → MachineBehaves p stack input rest n e told after

@@ -4,3 +4,4 @@ pub mod ProcessorState
 pub mod Turns
 pub mod TakenWord
 pub mod Stop
+pub mod MachineTurns

@@ -73,8 +73,9 @@ impl Machine {
     ghost use Rattle.alpha_run.specs.Snapshot.{first_snapshot, snapshot_state, IsMachineOf};
     ghost use Rattle.alpha_run.specs.Ending.{halt_ending};
     ghost use Rattle.alpha_run.specs.model.Stop.{stops_early};
-    ghost use Rattle.alpha_run.specs.Run.{IsRun, MachineBehaves, halt_of, input_faults_after, output_faults_after};
-    ghost use Rattle.bk_io.specs.Outside.{traffic_of};
+    ghost use Rattle.alpha_run.specs.model.MachineTurns.{TurnsOn};
+    ghost use Rattle.alpha_run.specs.Run.{RunsOn, BehavesOn, halt_of, input_faults_after, output_faults_after};
+    ghost use Rattle.bk_io.specs.Outside.{traffic_of, OnInput};
 
     /// A machine with an image in it, and a stack of so many bytes, from 4,096 to 268,435,456 of them
     /// and a multiple of 16. It takes all the memory that its runs need.
@@ -111,19 +112,17 @@ impl Machine {
     /// Runs at most `budget` steps. A machine whose program came to its end answers that end again.
     ///
     /// `Budget` comes exactly where the machine still runs after so many steps. The input is asked once for
-    /// each byte that a step takes, the one that failed included, and at no other time.
+    /// each byte that a step takes, the one that failed included, and at no other time. What a run does is said of the
+    /// bytes that the input gave, with whatever it may still give behind them: where it tells what is left, that is
+    /// what was left, and where it tells nothing there is such an input.
     pub fn run<I: Source, O: Sink>(&mut self, budget: u64, input: &mut I, out: &mut O) -> Ending
-        ensures run { (p : Program) (bytes : List ℕ) →
-            IsMachineOf p self.old → self.old.halt ≡ None → I.left input.old ≡ Some bytes →
-            IsRun p budget result (snapshot_state self.old bytes []) self.old self.new
+        ensures run { OnInput (I.left input.old) (I.left input.new) (RunsOn budget result self.old self.new
             (traffic_of I.left I.made O.taken input.old out.old)
-            (traffic_of I.left I.made O.taken input.new out.new) }
+            (traffic_of I.left I.made O.taken input.new out.new)) }
         // a run of a machine that was just loaded is the behaviour of its image
-        ensures behaves { (p : Program) (stack : ℕ) (bytes : List ℕ) →
-            self.old ≡ first_snapshot p stack → I.left input.old ≡ Some bytes →
-            MachineBehaves p stack bytes budget result
+        ensures behaves { OnInput (I.left input.old) (I.left input.new) (BehavesOn budget result self.old
             (traffic_of I.left I.made O.taken input.old out.old)
-            (traffic_of I.left I.made O.taken input.new out.new) }
+            (traffic_of I.left I.made O.taken input.new out.new)) }
         ensures again { IfSome self.old.halt (λ h. (result ≡ halt_ending h) × (self.new ≡ self.old) ×
             (input.new ≡ input.old) × (out.new ≡ out.old)) }
         ensures halt { self.new.halt ≡ halt_of result }
@@ -144,11 +143,9 @@ impl Machine {
 
     /// One step. It answers why the machine stops, where it does.
     fn turn<I: Source, O: Sink>(&mut self, input: &mut I, out: &mut O) -> Option<Ending>
-        ensures run { (p : Program) (x y : List ℕ) →
-            IsMachineOf p self.old → self.old.halt ≡ None → I.left input.old ≡ Some x →
-            IsRun p 1 (unwrap_or result Ending.Budget) (snapshot_state self.old x y) self.old self.new
-            (traffic_of I.left I.made O.taken input.old out.old)
-            (traffic_of I.left I.made O.taken input.new out.new) }
+        ensures run { OnInput (I.left input.old) (I.left input.new) (TurnsOn (unwrap_or result Ending.Budget)
+            self.old self.new (traffic_of I.left I.made O.taken input.old out.old)
+            (traffic_of I.left I.made O.taken input.new out.new)) }
         ensures halt { self.old.halt ≡ None → self.new.halt ≡ halt_of (unwrap_or result Ending.Budget) }
         ensures early { IfSome result (λ e. IsTrue (stops_early e)) }
         ensures program { (p : Program) → IsMachineOf p self.old → IsMachineOf p self.new }

@@ -7,13 +7,13 @@ ghost use Rattle.selection_code.specs.Fields.{HasFields};
 ghost use Rattle.alpha_select.specs.Selection.{IsSelectedFunction, AreSelected};
 ghost use Rattle.alpha_select.specs.model.Limits.{IsWithinLimits};
 
-use crate::copies::copy_objects;
 use bk_containers::Seq;
 use pass_core::function::Func;
 use selection_code::blocks::function_blocks;
 use selection_code::temporaries::SCRATCH_COUNT;
 use std::alloc::{AllocError, Global};
 use suifvm_ir::insn::VmInsn;
+use temp_ir::copy::copy_objects;
 use temp_ir::insn::TempInsn;
 
 /// The selected function. It fails only where memory is short.

@@ -5,7 +5,6 @@
 //! and that its runs end alike in `selection_laws`.
 #![tactic(auto)]
 
-mod copies;
 mod functions;
 mod in_turn;
 mod programs;

@@ -8,8 +8,8 @@ ghost use Rattle.selection_laws.specs.Selected.{IsSelected};
 ghost use Rattle.selection_laws.specs.Laws.{SelectionKeeps};
 ghost use Rattle.alpha_select.specs.Selection.{AreSelected, CostLittle};
 
-use crate::copies::copy_globals;
 use crate::functions::select_functions;
+use mem_objects::copy_objects;
 use std::alloc::{AllocError, Global};
 use suifvm_ir::program::VmProgram;
 use temp_ir::program::TempProgram;
@@ -29,6 +29,6 @@ pub fn select(alloc: Global, program: &VmProgram) -> Result<TempProgram, AllocEr
         sum_by (λ (g : TempFn). 5 * length g.blocks + count_of g.blocks) p.functions < 2 ^ 30) }
 {
     let functions = select_functions(alloc, program.functions.as_slice())?;
-    let globals = copy_globals(alloc, program.globals.as_slice())?;
+    let globals = copy_objects(alloc, program.globals.as_slice())?;
     Ok(TempProgram { functions, globals })
 }

@@ -1,5 +1,6 @@
-//! Checks the tables of values, the machine, programs over virtual registers and over temporaries, frames, moves and
-//! outcomes: each row of the folder `data/` says what a public function is given and what is due.
+//! Checks the tables of values, the machine, programs over virtual registers and over temporaries, what is live in
+//! these, frames, moves and outcomes: each row of the folder `data/` says what a public function is given and what is
+//! due.
 //!
 //! The form of the files is described in `docs/rows.md`, and that of each kind of row at the head of its file.
 #![tactic(auto)]
@@ -14,6 +15,7 @@ fn main(rt: HostRuntime) -> Result<()> {
         machine_rows::check_rows(&rt)?,
         vm_rows::check_rows(&rt)?,
         temp_rows::check_rows(&rt)?,
+        live_rows::check_rows(&rt)?,
         frame_rows::check_rows(&rt)?,
         move_rows::check_rows(&rt)?,
         outcome_rows::check_rows(&rt)?,

@@ -1,11 +1,22 @@
 -- What the adapters do to the reader or writer under them, as far as it is known.
-use Rattle.std.specs.Prelude.{ℕ, ◌≤◌, Bool, List, [], ◌∷◌, take, length, Option, Some, None, Result, Ok, Err}
+use Rattle.std.specs.Prelude.{ℕ, ◌≤◌, Bool, List, [], ◌∷◌, take, length, true, false, Option, Some, None, Result, Ok, Err}
 use Rattle.std.specs.Io.KnownBytes.{Keeps, Appends as Gains, Consumes, IsAtEnd, append_known}
 
--- a reader as a source: the bytes that remain, where they are known, and the count of faults
+-- a reader as a source: the bytes that remain, where they are known, whether its end was found, and the count of faults
 pub record Inlet : Type 0 where
   pub remaining : Option (List ℕ)
+  pub has_ended : Bool
   pub faults : ℕ
+
+-- what a reader tells of the bytes that are left: that there are none, once its end was found
+abbrev pub left_by_end : (has_ended : Bool) → Option (List ℕ)
+left_by_end true = Some []
+left_by_end false = None
+
+-- whether the end was found, after a call
+abbrev pub ended_after : {E : Type 0} → Result (Option ℕ) E → Bool → Bool
+ended_after (Ok None) has_ended = true
+ended_after _ has_ended = has_ended
 
 -- a writer as a sink: the bytes that were written to it, where they are known, those that are held back, whether a
 -- write failed that no call has reported, and the count of faults

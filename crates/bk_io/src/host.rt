@@ -1,12 +1,12 @@
 //! Adapters to the system. They count the calls that fail, and tell nothing of the bytes through the traits;
 //! what they do to the reader or writer under them is said by clauses of their own.
 
-ghost use Rattle.std.specs.Prelude.{◌≡◌, ◌↔◌, ◌≤◌, ◌<◌, ◌+◌, true, false, [], IfOk, IsOk, OnOk, OnErr, IsErr, IfErr, length, MatchResult, ⊤};
+ghost use Rattle.std.specs.Prelude.{◌≡◌, ◌↔◌, ◌≤◌, ◌<◌, ◌+◌, true, false, [], Ok, None, IfOk, IsOk, OnOk, OnErr, IsErr, IfErr, length, MatchResult, ⊤};
 ghost use Rattle.std.specs.Io.KnownBytes.{Keeps, IsAtEnd};
 ghost use Rattle.std.specs.Io.Buffered.{reader_remaining, writer_buffer, writer_contents};
 ghost use Rattle.bk_io.specs.Outside.{count_end, faults_after, next_count};
 ghost use Rattle.bk_io.specs.Shelf.{faults_after_read, Appends, HasCause};
-ghost use Rattle.bk_io.specs.Adapters.{GivesByte, Writes, outlet_bytes};
+ghost use Rattle.bk_io.specs.Adapters.{GivesByte, left_by_end, ended_after, Writes, outlet_bytes};
 ghost use Rattle.bk_io.specs.model.Steps.{WritesSome, AppendsRead, AppendsPart, AppendsNone};
 
 use crate::outside::{Failed, FileFault, Files, ReadExtent, Sink, Source};
@@ -18,34 +18,42 @@ use std::{fs, rt};
 /// How many bytes of a file one read asks for, and how many of the output are held.
 const CHUNK: usize = 65536;
 
-/// A reader of the system as a source, read ahead through a buffer.
+/// A reader of the system as a source, read ahead through a buffer. Once it has found the end it does not read again.
 #[derive(Drop)]
 pub struct HostSource<R: Read + Drop> {
     reader: BufReader<R>,
+    has_ended: bool,
     faults: u64,
 }
 
 impl<R: Read + Drop> Model for HostSource<R> {
-    ghost use Rattle.std.specs.Prelude.{◌≤◌};
+    ghost use Rattle.std.specs.Prelude.{◌≡◌, ◌≤◌, true};
     ghost use Rattle.std.specs.Io.Buffered.{reader_remaining};
+    ghost use Rattle.std.specs.Io.KnownBytes.{IsAtEnd};
     ghost use Rattle.bk_io.specs.Outside.{count_end};
     ghost use Rattle.bk_io.specs.Adapters.{Inlet};
 
     ghost Value = { Inlet };
 
-    ghost view = { λ s. record { remaining = reader_remaining R.remaining s.reader; faults = s.faults } };
+    ghost view = { λ s. record {
+      remaining = reader_remaining R.remaining s.reader;
+      has_ended = s.has_ended;
+      faults = s.faults;
+    } };
 
-    ghost invariant = { λ s. s.faults ≤ count_end };
+    ghost invariant = { λ s. (s.faults ≤ count_end)
+        × (s.has_ended ≡ true → IsAtEnd (reader_remaining R.remaining s.reader)) };
 }
 
 impl<R: Read + Drop> HostSource<R> {
     /// A source over a reader, as the standard input. The buffer is all that it allocates.
     pub fn new(alloc: Global, reader: R) -> Result<HostSource<R>, AllocError>
         ensures remaining { IfOk result (λ s. Keeps (R.remaining reader) s.remaining) }
-        ensures count { IfOk result (λ s. s.faults ≡ 0) }
+        ensures begins { IfOk result (λ s. (s.has_ended ≡ false) × (s.faults ≡ 0)) }
     {
         Ok(HostSource {
             reader: BufReader::new(alloc, reader).map_err(|_| AllocError)?,
+            has_ended: false,
             faults: 0,
         })
     }
@@ -68,23 +76,30 @@ impl<R: Read + Drop> Source for HostSource<R> {
 
     ghost faults = { λ s. s.faults };
 
-    ghost left = { λ _. None };
+    ghost left = { λ s. left_by_end s.has_ended };
 
     ghost made = { λ _. None };
 
     fn next(&mut self) -> Result<Option<u8>, Failed>
         ensures gives { GivesByte result self.old.remaining self.new.remaining }
+        ensures end { self.old.has_ended ≡ true → (result ≡ Ok None) × (self.new ≡ self.old) }
+        ensures ended { self.new.has_ended ≡ ended_after result self.old.has_ended }
         ensures count { self.new.faults ≡ faults_after result self.old.faults }
     {
+        if self.has_ended {
+            return Ok(None);
+        }
         let answer = read_byte(&mut self.reader);
-        if answer.is_err() {
-            self.faults = self.faults.saturating_add(1);
+        match answer {
+            Ok(None) => self.has_ended = true,
+            Ok(Some(_)) => {}
+            Err(_) => self.faults = self.faults.saturating_add(1),
         }
         answer
     }
 
     fn may_wait(&self) -> bool {
-        self.reader.buffer().is_empty()
+        !self.has_ended && self.reader.buffer().is_empty()
     }
 }
 

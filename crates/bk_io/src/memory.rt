@@ -67,11 +67,13 @@ impl Source for MemSource {
             self.faults = self.faults.saturating_add(1);
             return Err(Failed);
         }
-        let byte = self.bytes.get(self.next).copied();
-        if byte.is_some() {
-            self.next += 1;
+        match self.bytes.get(self.next).copied() {
+            None => Ok(None),
+            Some(byte) => {
+                self.next += 1;
+                Ok(Some(byte))
+            }
         }
-        Ok(byte)
     }
 }
 

@@ -1,7 +1,7 @@
 //! The traits of the outside: a source of bytes, a sink of bytes, and a store of named files.
 
 ghost use Rattle.std.specs.Prelude.{◌≡◌, ℕ, ◌↔◌, List, IfOk, IfErr, IfSome, IsOk, IsTrue, IsErrOf, Option, option_map, slice_get};
-ghost use Rattle.bk_io.specs.Outside.{next_count, faults_after, left_after, taken_after, TakesSlice};
+ghost use Rattle.bk_io.specs.Outside.{next_count, faults_after, left_after, given_by, Gives, taken_after, TakesSlice};
 ghost use Rattle.bk_io.specs.Shelf.{Shelf, is_due, file_of, after_call, faults_after_read, Appends, AppendsFile, HasCause};
 
 use bk_memory::memory_is_short;
@@ -61,13 +61,13 @@ pub trait Source {
     /// How many faults there were so far, at most 2^64 - 1: one for each call that failed.
     ghost faults: { Self → ℕ };
 
-    /// The bytes that are left, where the source tells them.
+    /// The bytes that are left, where the source tells them. Once it has found its end, it tells that there are none.
     ghost left: { Self → Option (List ℕ) };
 
     /// The number of calls so far, at most 2^64 - 1, where the source tells it.
     ghost made: { Self → Option ℕ };
 
-    /// The next byte, or `None` at the end. A failed call takes no byte.
+    /// The next byte, or `None` at the end, where it stays. A failed call takes no byte.
     fn next(&mut self) -> Result<Option<u8>, Failed>
         ensures byte { IfOk result (λ byte. IfSome (left self.old) (λ bytes. byte ≡ slice_get bytes 0)) }
         ensures left { left self.new ≡ left_after result (left self.old) }
@@ -135,6 +135,7 @@ fn flush_before<I: Source, O: Sink>(input: &I, out: &mut O)
 pub fn ask<I: Source, O: Sink>(input: &mut I, out: &mut O) -> Result<Option<u8>, Failed>
     ensures byte { IfOk result (λ byte. IfSome (I.left input.old) (λ bytes. byte ≡ slice_get bytes 0)) }
     ensures left { I.left input.new ≡ left_after result (I.left input.old) }
+    ensures gives { Gives (given_by result) (I.left input.old) (I.left input.new) }
     ensures made { I.made input.new ≡ option_map next_count (I.made input.old) }
     ensures input_count { I.faults input.new ≡ faults_after result (I.faults input.old) }
     ensures taken { O.taken out.new ≡ O.taken out.old }

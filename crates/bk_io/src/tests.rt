@@ -1,12 +1,17 @@
 //! What no clause can say: what the system gives and takes, and that calls succeed where memory is left.
+//!
+//! What a test asks of an adapter stands in a function that has it by reference: each test is proved, and every exit of a
+//! function that holds an adapter lets it go.
 
 use crate::host::{HostFiles, HostSink, HostSource};
 use crate::memory::{MemFiles, MemSink, MemSource};
 use crate::outside::{Failed, FileFault, Files, ReadExtent, Sink, Source, ask};
-use std::fs;
+use std::alloc::{AllocError, AllocGlobal, Global};
 use std::fs::File;
 use std::io::{self, ErrorKind, IsTerminal, Read, Write};
+use std::process::Abort;
 use std::test::Fail;
+use std::{fs, rt};
 
 /// A reader whose reads fail.
 #[derive(Drop)]
@@ -80,25 +85,77 @@ impl IsTerminal for Once {
     }
 }
 
+/// A source gives these bytes, ends and faults, in order.
+fn gives<S: Source>(
+    rt: &impl Abort,
+    source: &mut S,
+    wanted: &[Result<Option<u8>, Failed>],
+) -> Result<(), Fail> {
+    for want in wanted {
+        assert_eq!(rt; source.next(), *want);
+    }
+    Ok(())
+}
+
+/// A sink answers each of these bytes so.
+fn answers<S: Sink>(
+    rt: &impl Abort,
+    sink: &mut S,
+    byte: u8,
+    wanted: &[Result<(), Failed>],
+) -> Result<(), Fail> {
+    for want in wanted {
+        assert_eq!(rt; sink.put(byte), *want);
+    }
+    Ok(())
+}
+
+/// A file has so many bytes.
+fn has_len<R: rt::Files + AllocGlobal + Abort>(rt: &R, name: &str, len: usize) -> Result<(), Fail> {
+    assert_eq!(rt; fs::read(rt, name)?.len(), len);
+    Ok(())
+}
+
+/// A file has these bytes.
+fn has<R: rt::Files + AllocGlobal + Abort>(rt: &R, name: &str, bytes: &[u8]) -> Result<(), Fail> {
+    assert_eq!(rt; fs::read(rt, name)?.as_slice(), bytes);
+    Ok(())
+}
+
+/// A read of a file is answered so, and appends these bytes.
+fn reads<F: Files>(
+    rt: &impl Abort,
+    alloc: Global,
+    files: &mut F,
+    name: &str,
+    limit: u64,
+    want: Result<ReadExtent, FileFault>,
+    bytes: &[u8],
+) -> Result<(), Fail> {
+    let mut into = Vec::new(alloc);
+    let got = files.read(name, &mut into, limit);
+    assert_eq!(rt; into.as_slice(), bytes, "{name} up to {limit}");
+    assert_eq!(rt; got, want, "{name} up to {limit}");
+    Ok(())
+}
+
 #[test]
 fn a_read_error_is_no_end(rt: HostRuntime) -> Result<(), Fail> {
     let mut source = HostSource::new(rt.alloc(), BrokenReader)?;
-    assert_eq!(rt; source.next(), Err(Failed));
-    assert_eq!(rt; source.next(), Err(Failed));
-    Ok(())
+    gives(&rt, &mut source, &[Err(Failed), Err(Failed)])
 }
 
 #[test]
 fn a_write_of_nothing_fails(rt: HostRuntime) -> Result<(), Fail> {
     let mut sink = HostSink::with_capacity(rt.alloc(), 0, Full)?;
-    assert_eq!(rt; sink.put(1), Err(Failed));
-    assert_eq!(rt; sink.put_slice(b"ab"), Err(Failed));
+    let one = sink.put(1);
+    let two = sink.put_slice(b"ab");
+    assert_eq!(rt; [one, two], [Err(Failed), Err(Failed)]);
     Ok(())
 }
 
-#[test]
-fn what_is_held_takes_one_write(rt: HostRuntime) -> Result<(), Fail> {
-    let mut sink = HostSink::new(rt.alloc(), Once { is_written: false })?;
+/// What 65,536 bytes and then one more come to, where one write is taken.
+fn takes_one_write<S: Sink>(rt: &impl Abort, sink: &mut S) -> Result<(), Fail> {
     for _byte in 0..65536 {
         assert_eq!(rt; sink.put(10), Ok(()));
     }
@@ -110,8 +167,13 @@ fn what_is_held_takes_one_write(rt: HostRuntime) -> Result<(), Fail> {
 }
 
 #[test]
-fn a_failed_write_is_reported_later(rt: HostRuntime) -> Result<(), Fail> {
-    let mut sink = HostSink::new(rt.alloc(), Once { is_written: true })?;
+fn what_is_held_takes_one_write(rt: HostRuntime) -> Result<(), Fail> {
+    let mut sink = HostSink::new(rt.alloc(), Once { is_written: false })?;
+    takes_one_write(&rt, &mut sink)
+}
+
+/// What bytes come to, where no write is taken.
+fn reports_later<S: Sink>(rt: &impl Abort, sink: &mut S) -> Result<(), Fail> {
     assert_eq!(rt; sink.put(1), Ok(()));
     sink.flush();
     assert_eq!(rt; sink.put(2), Err(Failed));
@@ -121,148 +183,245 @@ fn a_failed_write_is_reported_later(rt: HostRuntime) -> Result<(), Fail> {
 }
 
 #[test]
-fn bytes_go_when_there_are_more_and_at_the_end(rt: HostRuntime) -> Result<(), Fail> {
-    let name = "held.bytes";
-    let mut sink = HostSink::new(rt.alloc(), File::create(&rt, name)?)?;
-    for at in 0..200_000u32 {
+fn a_failed_write_is_reported_later(rt: HostRuntime) -> Result<(), Fail> {
+    let mut sink = HostSink::new(rt.alloc(), Once { is_written: true })?;
+    reports_later(&rt, &mut sink)
+}
+
+/// Puts so many bytes, of which each tells its place.
+fn puts_places<S: Sink>(rt: &impl Abort, sink: &mut S, count: u32) -> Result<(), Fail> {
+    for at in 0..count {
         assert_eq!(rt; sink.put((at % 251) as u8), Ok(()));
     }
-    assert_eq!(rt; fs::read(&rt, name)?.len(), 196_608, "three times 65,536");
-    assert_eq!(rt; sink.finish(), Ok(()));
-    let written = fs::read(&rt, name)?;
-    assert_eq!(rt; written.len(), 200_000);
-    for at in [0, 65_535, 65_536, 196_608, 199_999] {
-        assert_eq!(rt; written[at], (at % 251) as u8, "{at}");
-    }
-    fs::remove_file(&rt, name)?;
     Ok(())
+}
+
+/// Each of these bytes tells its place.
+fn has_places(rt: &impl Abort, written: &[u8]) -> Result<(), Fail> {
+    for (at, byte) in written.iter().enumerate() {
+        assert_eq!(rt; *byte, (at % 251) as u8, "{at}");
+    }
+    Ok(())
+}
+
+/// Lets go the rest of what was put.
+fn finishes<S: Sink>(rt: &impl Abort, sink: &mut S) -> Result<(), Fail> {
+    assert_eq!(rt; sink.finish(), Ok(()));
+    Ok(())
+}
+
+/// What so many bytes come to in a file.
+fn goes_in_pieces<R: rt::Files + AllocGlobal + Abort, S: Sink>(
+    rt: &R,
+    sink: &mut S,
+    name: &str,
+) -> Result<(), Fail> {
+    puts_places(rt, sink, 200_000)?;
+    has_len(rt, name, 196_608)?;
+    finishes(rt, sink)?;
+    has_len(rt, name, 200_000)?;
+    has_places(rt, fs::read(rt, name)?.as_slice())?;
+    Ok(fs::remove_file(rt, name)?)
+}
+
+#[test]
+fn bytes_go_when_there_are_more_and_at_the_end(rt: HostRuntime) -> Result<(), Fail> {
+    let file = File::create(&rt, "held.bytes")?;
+    let mut sink = HostSink::new(rt.alloc(), file)?;
+    goes_in_pieces(&rt, &mut sink, "held.bytes")
+}
+
+/// What bytes come to in a file that says that it is a terminal.
+fn goes_by_lines<R: rt::Files + AllocGlobal + Abort, S: Sink>(
+    rt: &R,
+    sink: &mut S,
+    name: &str,
+) -> Result<(), Fail> {
+    assert_eq!(rt; sink.put_slice(b"ab"), Ok(()));
+    has(rt, name, b"")?;
+    assert_eq!(rt; sink.put(10), Ok(()));
+    has(rt, name, b"ab\n")?;
+    assert_eq!(rt; sink.put(99), Ok(()));
+    sink.flush();
+    has(rt, name, b"ab\nc")?;
+    Ok(fs::remove_file(rt, name)?)
 }
 
 #[test]
 fn a_line_feed_lets_go_on_a_terminal(rt: HostRuntime) -> Result<(), Fail> {
-    let name = "screen.bytes";
-    let file = File::create(&rt, name)?;
+    let file = File::create(&rt, "screen.bytes")?;
     let mut sink = HostSink::new(rt.alloc(), Screen { file })?;
-    assert_eq!(rt; sink.put_slice(b"ab"), Ok(()));
-    assert_eq!(rt; fs::read(&rt, name)?.len(), 0);
-    assert_eq!(rt; sink.put(10), Ok(()));
-    assert_eq!(rt; fs::read(&rt, name)?.len(), 3);
-    assert_eq!(rt; sink.put(99), Ok(()));
-    sink.flush();
-    assert_eq!(rt; fs::read(&rt, name)?.as_slice(), b"ab\nc".as_slice());
-    fs::remove_file(&rt, name)?;
-    Ok(())
+    goes_by_lines(&rt, &mut sink, "screen.bytes")
+}
+
+/// What is asked of an input with two bytes, and what of the output stands in its file by then.
+fn lets_go_first<R: rt::Files + AllocGlobal + Abort, I: Source, O: Sink>(
+    rt: &R,
+    input: &mut I,
+    out: &mut O,
+    name: &str,
+) -> Result<(), Fail> {
+    assert_eq!(rt; out.put(1), Ok(()));
+    has_len(rt, name, 0)?;
+    assert_eq!(rt; ask(input, out), Ok(Some(b'x')));
+    has_len(rt, name, 1)?;
+    assert_eq!(rt; out.put(2), Ok(()));
+    assert_eq!(rt; ask(input, out), Ok(Some(b'y')));
+    has_len(rt, name, 1)?;
+    assert_eq!(rt; ask(input, out), Ok(None));
+    has_len(rt, name, 2)?;
+    fs::remove_file(rt, "asked.bytes")?;
+    Ok(fs::remove_file(rt, name)?)
 }
 
 #[test]
 fn an_output_goes_before_its_input_waits(rt: HostRuntime) -> Result<(), Fail> {
-    let (questions, answers) = ("asked.bytes", "answered.bytes");
-    fs::write(&rt, questions, b"xy")?;
-    let mut input = HostSource::new(rt.alloc(), File::open(&rt, questions)?)?;
-    let mut out = HostSink::new(rt.alloc(), File::create(&rt, answers)?)?;
-    assert_eq!(rt; out.put(1), Ok(()));
-    assert_eq!(rt; fs::read(&rt, answers)?.len(), 0);
-    assert_eq!(rt; ask(&mut input, &mut out), Ok(Some(b'x')));
-    assert_eq!(rt; fs::read(&rt, answers)?.len(), 1);
-    assert_eq!(rt; out.put(2), Ok(()));
-    assert_eq!(rt; ask(&mut input, &mut out), Ok(Some(b'y')));
-    assert_eq!(rt; fs::read(&rt, answers)?.len(), 1, "the second was there");
-    assert_eq!(rt; ask(&mut input, &mut out), Ok(None));
-    assert_eq!(rt; fs::read(&rt, answers)?.len(), 2);
-    fs::remove_file(&rt, questions)?;
-    fs::remove_file(&rt, answers)?;
-    Ok(())
+    fs::write(&rt, "asked.bytes", b"xy")?;
+    let mut input = HostSource::new(rt.alloc(), File::open(&rt, "asked.bytes")?)?;
+    let mut out = HostSink::new(rt.alloc(), File::create(&rt, "answered.bytes")?)?;
+    lets_go_first(&rt, &mut input, &mut out, "answered.bytes")
 }
 
 #[test]
 fn a_folder_is_no_file(rt: HostRuntime) -> Result<(), Fail> {
     let mut files = HostFiles::new(rt.alloc(), rt.clone()?)?;
-    let mut into = Vec::new(rt.alloc());
-    assert_eq!(rt; files.read("/", &mut into, 6), Err(FileFault::Failed));
-    assert_eq!(rt; into.len(), 0);
-    Ok(())
+    reads(
+        &rt,
+        rt.alloc(),
+        &mut files,
+        "/",
+        6,
+        Err(FileFault::Failed),
+        b"",
+    )
 }
 
 #[test]
 fn host_source_gives_the_bytes_of_a_reader(rt: HostRuntime) -> Result<(), Fail> {
     fs::write(&rt, "source.bytes", b"\x00\xff")?;
     let mut source = HostSource::new(rt.alloc(), File::open(&rt, "source.bytes")?)?;
-    for want in [Some(0), Some(255), None, None] {
-        assert_eq!(rt; source.next(), Ok(want));
+    gives(
+        &rt,
+        &mut source,
+        &[Ok(Some(0)), Ok(Some(255)), Ok(None), Ok(None)],
+    )
+}
+
+/// What three bytes come to in a file.
+fn goes_at_once<R: rt::Files + AllocGlobal + Abort, S: Sink>(
+    rt: &R,
+    sink: &mut S,
+    name: &str,
+) -> Result<(), Fail> {
+    for byte in [0, 10, 255] {
+        assert_eq!(rt; sink.put(byte), Ok(()));
     }
-    fs::remove_file(&rt, "source.bytes")?;
-    Ok(())
+    has(rt, name, &[0, 10, 255])?;
+    Ok(fs::remove_file(rt, name)?)
 }
 
 #[test]
 fn host_sink_that_holds_none_writes_each_byte(rt: HostRuntime) -> Result<(), Fail> {
-    let mut sink = HostSink::with_capacity(rt.alloc(), 0, File::create(&rt, "sink.bytes")?)?;
-    for byte in [0, 10, 255] {
-        assert_eq!(rt; sink.put(byte), Ok(()));
-    }
-    let written = fs::read(&rt, "sink.bytes")?;
-    assert_eq!(rt; written.as_slice(), [0, 10, 255].as_slice());
-    fs::remove_file(&rt, "sink.bytes")?;
+    let file = File::create(&rt, "sink.bytes")?;
+    let mut sink = HostSink::with_capacity(rt.alloc(), 0, file)?;
+    goes_at_once(&rt, &mut sink, "sink.bytes")
+}
 
-    let mut closed = HostSink::with_capacity(rt.alloc(), 0, File::open(&rt, "/dev/null")?)?;
-    assert_eq!(rt; closed.put(1), Err(Failed), "opened for reading alone");
-    Ok(())
+#[test]
+fn a_file_that_was_opened_for_reading_takes_no_byte(rt: HostRuntime) -> Result<(), Fail> {
+    let file = File::open(&rt, "/dev/null")?;
+    let mut closed = HostSink::with_capacity(rt.alloc(), 0, file)?;
+    answers(&rt, &mut closed, 1, &[Err(Failed)])
+}
+
+/// What reads of a file with five bytes come to.
+fn reads_to_limits<F: Files>(rt: &impl Abort, alloc: Global, files: &mut F) -> Result<(), Fail> {
+    reads(
+        rt,
+        alloc,
+        files,
+        "five.bytes",
+        6,
+        Ok(ReadExtent::Whole),
+        b"abcde",
+    )?;
+    reads(
+        rt,
+        alloc,
+        files,
+        "five.bytes",
+        5,
+        Ok(ReadExtent::Cut),
+        b"abcde",
+    )?;
+    reads(
+        rt,
+        alloc,
+        files,
+        "five.bytes",
+        2,
+        Ok(ReadExtent::Cut),
+        b"ab",
+    )?;
+    reads(
+        rt,
+        alloc,
+        files,
+        "missing.bytes",
+        6,
+        Err(FileFault::Failed),
+        b"",
+    )
 }
 
 #[test]
 fn host_files_reads_up_to_the_limit(rt: HostRuntime) -> Result<(), Fail> {
     fs::write(&rt, "five.bytes", b"abcde")?;
     let mut files = HostFiles::new(rt.alloc(), rt.clone()?)?;
-    let cases = [
-        ("five.bytes", 6, Ok(ReadExtent::Whole), 5),
-        ("five.bytes", 5, Ok(ReadExtent::Cut), 5),
-        ("five.bytes", 2, Ok(ReadExtent::Cut), 2),
-        ("missing.bytes", 6, Err(FileFault::Failed), 0),
-    ];
-    for (name, limit, want, count) in cases {
-        let mut into = Vec::new(rt.alloc());
-        assert_eq!(rt;
-            files.read(name, &mut into, limit),
-            want,
-            "{name} up to {limit}"
-        );
-        assert_eq!(rt; into.len(), count, "{name} up to {limit}");
-        assert!(rt;
-            b"abcde".starts_with(into.as_slice()),
-            "{name} up to {limit}"
-        );
-    }
-    fs::remove_file(&rt, "five.bytes")?;
-    Ok(())
+    reads_to_limits(&rt, rt.alloc(), &mut files)
 }
 
 #[test]
-fn forms_in_memory_fail_at_the_listed_calls(rt: HostRuntime) -> Result<(), Fail> {
-    let alloc = rt.alloc();
-    let mut source = MemSource::new([7, 8].to_vec(alloc)?, [1].to_vec(alloc)?);
-    for want in [Ok(Some(7)), Err(Failed), Ok(Some(8)), Ok(None)] {
-        assert_eq!(rt; source.next(), want);
-    }
+fn a_source_in_memory_fails_at_the_listed_calls(rt: HostRuntime) -> Result<(), Fail> {
+    let bytes = [7, 8].to_vec(rt.alloc())?;
+    let mut source = MemSource::new(bytes, [1].to_vec(rt.alloc())?);
+    gives(
+        &rt,
+        &mut source,
+        &[Ok(Some(7)), Err(Failed), Ok(Some(8)), Ok(None)],
+    )
+}
 
-    let mut sink = MemSink::new(alloc, 2, [0].to_vec(alloc)?)?;
-    for want in [Err(Failed), Ok(()), Ok(()), Err(Failed)] {
-        assert_eq!(rt; sink.put(5), want);
-    }
+#[test]
+fn a_sink_in_memory_fails_at_the_listed_calls(rt: HostRuntime) -> Result<(), Fail> {
+    let mut sink = MemSink::new(rt.alloc(), 2, [0].to_vec(rt.alloc())?)?;
+    answers(
+        &rt,
+        &mut sink,
+        5,
+        &[Err(Failed), Ok(()), Ok(()), Err(Failed)],
+    )?;
     assert_eq!(rt; sink.taken_bytes(), [5, 5].as_slice());
+    Ok(())
+}
 
+/// Files in memory, of which the second call fails.
+fn files_in_memory(alloc: Global) -> Result<MemFiles, AllocError> {
     let mut name_and_bytes = Vec::new(alloc);
     name_and_bytes.push(("a.c".to_string(alloc)?, b"int".to_vec(alloc)?))?;
-    let mut files = MemFiles::new(name_and_bytes, [1].to_vec(alloc)?);
-    let mut into = Vec::new(alloc);
-    let cases = [
-        ("a.c", Ok(ReadExtent::Whole)),
-        ("a.c", Err(FileFault::Failed)),
-        ("b.c", Err(FileFault::Failed)),
-        ("a.c", Ok(ReadExtent::Whole)),
-    ];
-    for (name, want) in cases {
-        assert_eq!(rt; files.read(name, &mut into, 4), want, "{name}");
-    }
-    assert_eq!(rt; into.as_slice(), b"intint".as_slice());
-    Ok(())
+    Ok(MemFiles::new(name_and_bytes, [1].to_vec(alloc)?))
+}
+
+/// What reads of them come to.
+fn reads_until_due<F: Files>(rt: &impl Abort, alloc: Global, files: &mut F) -> Result<(), Fail> {
+    reads(rt, alloc, files, "a.c", 4, Ok(ReadExtent::Whole), b"int")?;
+    reads(rt, alloc, files, "a.c", 4, Err(FileFault::Failed), b"")?;
+    reads(rt, alloc, files, "b.c", 4, Err(FileFault::Failed), b"")?;
+    reads(rt, alloc, files, "a.c", 4, Ok(ReadExtent::Whole), b"int")
+}
+
+#[test]
+fn files_in_memory_fail_at_the_listed_calls(rt: HostRuntime) -> Result<(), Fail> {
+    let mut files = files_in_memory(rt.alloc())?;
+    reads_until_due(&rt, rt.alloc(), &mut files)
 }

@@ -9,7 +9,7 @@ use Rattle.temp_ir.specs.Insns.{targets_of, flows_on_of}
 use Rattle.temp_ir.specs.Programs.{TempFn}
 use Rattle.block_pass_laws.specs.argument_laws.Kept.{KeepArguments}
 use Rattle.block_pass_laws.specs.back_laws.Bulks.{most_edges, GrowBySplits}
-use Rattle.block_passes.specs.Keeps.{KeepsFunction, WritesWithinCalls, Keeps, KeepsIsReflexive, KeepsIsTransitive}
+use Rattle.block_passes.specs.Keeps.{KeepsFunction, WritesWithinCalls, KeepsIsReflexive, KeepsIsTransitive}
 
 -- ---- sizes
 

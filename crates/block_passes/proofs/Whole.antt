@@ -1,5 +1,5 @@
 -- What passes give of programs.
-use Rattle.std.proofs.Common.{◌≡◌, ℕ, ◌+◌, ◌^◌, ◌<◌, ◌≤◌, List, [], ◌∷◌, length, sum_by, All, sym, arith}
+use Rattle.std.proofs.Common.{◌≡◌, ℕ, ◌+◌, ◌^◌, ◌<◌, ◌≤◌, List, [], ◌∷◌, length, sum_by, All, sym, subst, arith}
 use Rattle.std.specs.Prelude.{IsTrue}
 use Rattle.std.specs.List.{AllZip}
 use Rattle.std.proofs.lemmas.List.Sums.{sum_by-cons}
@@ -9,15 +9,17 @@ use Rattle.temp_ir.specs.declared.insn.TempInsn.{TempInsn}
 use Rattle.temp_ir.specs.declared.program.TempProgram.{TempProgram}
 use Rattle.temp_ir.specs.Insns.{flows_on_of}
 use Rattle.temp_ir.specs.Programs.{TempFn}
+use Rattle.cfg.specs.Paths.{IsReachable}
 use Rattle.block_pass_laws.specs.argument_laws.Kept.{AreWithinBlocks}
-use Rattle.block_pass_laws.specs.temp_walk_laws.SameRuns.{AreWithin, SameTempFunction, SameTempFunctions}
+use Rattle.block_pass_laws.specs.temp_walk_laws.SameRuns.{SameTempFunctions}
 use Rattle.block_pass_laws.proofs.BackLaws.Splits.{same_count}
 use Rattle.block_pass_laws.proofs.ArgumentLaws.Widths.{functions_within}
 use Rattle.block_pass_laws.proofs.EndingLaws.Kept.{endings_kept}
+use Rattle.block_coalescing.specs.Kept.{IsCoalesced, KeepsShape, CoalescedProgramsKeepEndings}
 use Rattle.block_passes.specs.Clauses.{IsReached, IsSplit}
 use Rattle.block_passes.specs.Keeps.{KeepsFunction, WritesWithinCalls, Keeps}
 use Rattle.block_passes.specs.model.Limits.{split_size, CanBeSplit}
-use Rattle.block_passes.specs.model.Walks.{KeepsWalks, IsReachedPart, HasSplitEdges}
+use Rattle.block_passes.specs.model.Walks.{KeepsWalks, IsReachedPart, HasFewerCopies, HasSplitEdges}
 use Rattle.block_passes.proofs.Edges.{few_edges}
 use Rattle.block_passes.proofs.Turns.{each_gives, all_give}
 
@@ -62,6 +64,45 @@ splits_reached fs gs h all = all_give HasSplitEdges IsReached IsReached (λ f g 
 
 pub splits_split : (fs gs : List TempFn) → AllZip HasSplitEdges fs gs → All IsSplit gs
 splits_split fs gs h = all_give HasSplitEdges (λ f. Unit {0}) IsSplit (λ f g p none. p.split) fs gs h (λ k d lt. tt)
+
+-- ---- copies and dead instructions
+
+pub copies_keep : (fs gs : List TempFn) → AllZip HasFewerCopies fs gs → AllZip (KeepsFunction 0) fs gs
+copies_keep fs gs h = each_gives HasFewerCopies (KeepsFunction 0) (λ f g p. p.keeps) fs gs h
+
+pub copies_coalesced : (fs gs : List TempFn) → AllZip HasFewerCopies fs gs → AllZip IsCoalesced fs gs
+copies_coalesced fs gs h = each_gives HasFewerCopies IsCoalesced (λ f g p. p.coalesced) fs gs h
+
+pub copies_reached : (fs gs : List TempFn) → AllZip HasFewerCopies fs gs → All IsReached fs → All IsReached gs
+copies_reached fs gs h all = all_give HasFewerCopies IsReached IsReached (λ f g p. p.reached) fs gs h all
+
+-- a function with the edges of another one, and no more blocks
+pub still_reached : (f g : TempFn) → KeepsShape f g → IsReached f → IsReached g
+still_reached f g shape reached block within =
+    let blocks = shape.sizes.blocks in
+    subst (λ nexts. IsReachable nexts block) (sym shape.edges) (reached block (omega (arith, blocks, within)))
+
+pub coalesced_keeps : (f g : TempFn) → IsCoalesced f g → KeepsShape f g → KeepsFunction 0 f g
+coalesced_keeps f g is shape =
+    let temps = is.temps in
+    record {
+      name = is.name;
+      params = is.params;
+      temps = omega (arith, temps);
+      objects = is.objects;
+      settled = shape.settled;
+      marks = shape.marks;
+      names = shape.names;
+      arguments = shape.arguments;
+      sizes = shape.sizes;
+    }
+
+pub coalesced_program_keeps : CoalescedProgramsKeepEndings → (before after : TempProgram) → AllZip HasFewerCopies before.functions after.functions → after.globals ≡ before.globals → Keeps 0 before after
+coalesced_program_keeps keep before after h globals = record {
+  functions = copies_keep before.functions after.functions h;
+  globals = globals;
+  endings = λ within. keep before after globals (copies_coalesced before.functions after.functions h);
+}
 
 -- ---- sizes
 

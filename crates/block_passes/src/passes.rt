@@ -4,9 +4,10 @@ ghost use Rattle.std.specs.Prelude.{All, IfOk};
 ghost use Rattle.std.specs.List.{AllZip};
 ghost use Rattle.temp_ir.specs.Programs.{TempFn};
 ghost use Rattle.block_passes.specs.model.Limits.{CanBeSplit};
-ghost use Rattle.block_passes.specs.model.Walks.{IsReachedPart, HasSplitEdges};
+ghost use Rattle.block_passes.specs.model.Walks.{IsReachedPart, HasFewerCopies, HasSplitEdges};
 
 use bk_containers::Seq;
+use block_coalescing::coalesce;
 use cfg::remove_unreachable;
 use cfg_edges::split_edges;
 use pass_core::function::Func;
@@ -33,6 +34,19 @@ impl FunctionPass for RemoveUnreachable {
     fn run(&self, alloc: Global, f: Func<TempInsn>) -> Result<Func<TempInsn>, AllocError> {
         let reached = remove_unreachable(alloc, f)?;
         Ok(reached)
+    }
+}
+
+/// Lets copies between temporaries and dead instructions go.
+#[derive(Drop)]
+pub(crate) struct Coalesce;
+
+impl FunctionPass for Coalesce {
+    ghost gives = { HasFewerCopies };
+
+    fn run(&self, alloc: Global, f: Func<TempInsn>) -> Result<Func<TempInsn>, AllocError> {
+        let coalesced = coalesce(alloc, f)?;
+        Ok(coalesced)
     }
 }
 

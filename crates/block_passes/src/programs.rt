@@ -8,7 +8,8 @@ ghost use Rattle.block_passes.specs.Keeps.{Keeps};
 ghost use Rattle.block_passes.specs.model.Limits.{CanBeSplit};
 
 use crate::laws::keeps_is_transitive;
-use crate::passes::{RemoveUnreachable, SplitEdges, run_each};
+use crate::passes::{Coalesce, RemoveUnreachable, SplitEdges, run_each};
+use block_coalescing::laws::coalesced_programs_keep_endings;
 use std::alloc::{AllocError, Global};
 use temp_ir::program::TempProgram;
 
@@ -20,6 +21,18 @@ fn remove_unreachable_blocks(alloc: Global, program: TempProgram) -> Result<Temp
 {
     let TempProgram { functions, globals } = program;
     let functions = run_each(alloc, &RemoveUnreachable, functions)?;
+    Ok(TempProgram { functions, globals })
+}
+
+/// The program in whose functions copies between temporaries and dead instructions go.
+fn coalesce_temporaries(alloc: Global, program: TempProgram) -> Result<TempProgram, AllocError>
+    requires { All CanBeSplit program.functions }
+    ensures keeps { IfOk result (λ p. Keeps 0 program p) }
+    ensures reached { IfOk result (λ p. All IsReached program.functions → All IsReached p.functions) }
+{
+    coalesced_programs_keep_endings();
+    let TempProgram { functions, globals } = program;
+    let functions = run_each(alloc, &Coalesce, functions)?;
     Ok(TempProgram { functions, globals })
 }
 
@@ -36,7 +49,8 @@ fn split_critical_edges(alloc: Global, program: TempProgram) -> Result<TempProgr
 }
 
 /// All passes, one after the other: the program each of whose functions is without the blocks to which no path leads,
-/// and then has its critical edges split; the objects of static storage stay. It fails only where memory is short.
+/// then without copies between temporaries and dead instructions, and then has its critical edges split; the objects of
+/// static storage stay. It fails only where memory is short.
 ///
 /// Five times the blocks of all functions and their instructions are below 2^30.
 pub fn clean_and_split(alloc: Global, program: TempProgram) -> Result<TempProgram, AllocError>
@@ -48,6 +62,7 @@ pub fn clean_and_split(alloc: Global, program: TempProgram) -> Result<TempProgra
 {
     keeps_is_transitive();
     let reached = remove_unreachable_blocks(alloc, program)?;
-    let split = split_critical_edges(alloc, reached)?;
+    let coalesced = coalesce_temporaries(alloc, reached)?;
+    let split = split_critical_edges(alloc, coalesced)?;
     Ok(split)
 }

@@ -15,7 +15,7 @@ use Rattle.temp_ir.specs.Cost.{bulk, bulk_when_split}
 use Rattle.suifvm_zero_branches.specs.Tests.{tested_block}
 use Rattle.suifvm_zero_branches.proofs.Functions.{tested_function, size_kept}
 use Rattle.alloc_model.specs.Effect.{widest_call}
-use Rattle.lowering.specs.Lowered.{IsLowered, AreLowered, IsWithinWeight, AreWithinWeight}
+use Rattle.lowering.specs.Lowered.{StandsFor, AllStandFor}
 use Rattle.alpha_select.specs.Selection.{IsSelectedFunction, AreSelected, CostLittle}
 use Rattle.frame_emitter.specs.Settings.{most_arguments}
 use Rattle.frame_bounds.specs.Near.{IsNear}
@@ -45,21 +45,20 @@ module _ (selected_within : SelectedBlocksAreWithin) (calls_narrow : SelectedCal
         narrow = omega (arith, narrow, less);
       }
 
-  one : (f : TypedFn) (v : VmFunction) (s g : TempFn) → IsLowered ds f v → IsWithinWeight ds f v → function_size v ≤ 2 ^ 24 → IsSelectedFunction v s → bulk_when_split s ≤ cost v → KeepsFunction 1 s g → IsSplit g → IsTempFunctionOf ds f g
-  one f v s g lowered within small selected little p split =
+  one : (f : TypedFn) (v : VmFunction) (s g : TempFn) → StandsFor ds f v → function_size v ≤ 2 ^ 24 → IsSelectedFunction v s → bulk_when_split s ≤ cost v → KeepsFunction 1 s g → IsSplit g → IsTempFunctionOf ds f g
+  one f v s g stands small selected little p split =
       let size : function_size (tested_function v) ≤ 2 ^ 24 = omega (arith, size_kept v, small) in
       let near : AllInsns IsNear s.blocks = subst (AllInsns IsNear) (sym selected.blocks) (selected_near (tested_function v) size) in
       let writes : AreWithinBlocks s.blocks = subst AreWithinBlocks (sym selected.blocks) (selected_within v.params (map tested_block v.blocks)) in
-      let narrow : widest_call s.blocks ≤ function_weight ds f = subst (λ bs. widest_call bs ≤ function_weight ds f) (sym selected.blocks) (calls_narrow v.params (function_weight ds f) v.blocks within.arguments) in
-      let cost_within = within.cost in
+      let narrow : widest_call s.blocks ≤ function_weight ds f = subst (λ bs. widest_call bs ≤ function_weight ds f) (sym selected.blocks) (calls_narrow v.params (function_weight ds f) v.blocks stands.within.arguments) in
+      let cost_within = stands.within.cost in
       let bulk_within = bulk_kept s g p in
       let temps = p.temps in
       let selected_temps = selected.temps in
       record {
         code = v;
-        lowered = lowered;
-        within = within;
-        name = p.name ∙ selected.name ∙ lowered.name;
+        stands = stands;
+        name = p.name ∙ selected.name ∙ stands.name;
         params = p.params ∙ selected.params;
         temps = omega (arith, temps, selected_temps);
         objects = p.objects ∙ selected.objects;
@@ -103,21 +102,21 @@ module _ (selected_within : SelectedBlocksAreWithin) (calls_narrow : SelectedCal
       splits zero y h = let same : g ≡ y = cc in subst IsSplit same new.split
       splits (suc n) y h = rest.split n y h
 
-  all : (fs : List TypedFn) (vs : List VmFunction) (ss gs : List TempFn) → AreLowered ds fs vs → AreWithinWeight ds fs vs → program_size vs ≤ 2 ^ 24 → AreSelected vs ss → CostLittle vs ss → AllZip (KeepsFunction 1) ss gs → All IsSplit gs → AreBehind fs gs
-  all [] [] [] [] lowered within small selected little p split = none
-  all [] [] [] (g ∷ gs) lowered within small selected little p split = absurd p
-  all [] [] (s ∷ ss) gs lowered within small selected little p split = absurd selected
-  all [] (v ∷ vs) ss gs lowered within small selected little p split = absurd lowered
-  all (f ∷ fs) [] ss gs lowered within small selected little p split = absurd lowered
-  all (f ∷ fs) (v ∷ vs) [] gs lowered within small selected little p split = absurd selected
-  all (f ∷ fs) (v ∷ vs) (s ∷ ss) [] lowered within small selected little p split = absurd p
-  all (f ∷ fs) (v ∷ vs) (s ∷ ss) (g ∷ gs) lowered within small selected little p split =
+  all : (fs : List TypedFn) (vs : List VmFunction) (ss gs : List TempFn) → AllStandFor ds fs vs → program_size vs ≤ 2 ^ 24 → AreSelected vs ss → CostLittle vs ss → AllZip (KeepsFunction 1) ss gs → All IsSplit gs → AreBehind fs gs
+  all [] [] [] [] stand small selected little p split = none
+  all [] [] [] (g ∷ gs) stand small selected little p split = absurd p
+  all [] [] (s ∷ ss) gs stand small selected little p split = absurd selected
+  all [] (v ∷ vs) ss gs stand small selected little p split = absurd stand
+  all (f ∷ fs) [] ss gs stand small selected little p split = absurd stand
+  all (f ∷ fs) (v ∷ vs) [] gs stand small selected little p split = absurd selected
+  all (f ∷ fs) (v ∷ vs) (s ∷ ss) [] stand small selected little p split = absurd p
+  all (f ∷ fs) (v ∷ vs) (s ∷ ss) (g ∷ gs) stand small selected little p split =
       let sum = sum_by-cons function_size v vs in
       more f g fs gs
-      (one f v s g lowered.0 within.0 (omega (arith, sum, small)) selected.0 little.0 p.0 (All-head IsSplit g gs split))
-      (all fs vs ss gs lowered.1 within.1 (omega (arith, sum, small)) selected.1 little.1 p.1 (All-tail IsSplit g gs split))
+      (one f v s g stand.0 (omega (arith, sum, small)) selected.0 little.0 p.0 (All-head IsSplit g gs split))
+      (all fs vs ss gs stand.1 (omega (arith, sum, small)) selected.1 little.1 p.1 (All-tail IsSplit g gs split))
 
 pub functions_fit : SelectedBlocksAreWithin → SelectedCallsAreNarrow → SelectedFunctionsAreNear → BlocksAreWithinFunctions → TempFunctionsFit
-functions_fit selected_within calls_narrow selected_near functions_within unit program selected after lowered within small s little p split =
-    let b = all selected_within calls_narrow selected_near functions_within unit.structs unit.functions program.functions selected.functions after.functions lowered within small s little p.functions split in
+functions_fit selected_within calls_narrow selected_near functions_within unit program selected after stand small s little p split =
+    let b = all selected_within calls_narrow selected_near functions_within unit.structs unit.functions program.functions selected.functions after.functions stand small s little p.functions split in
     record { count = b.count; functions = b.functions; near = b.near; split = b.split }

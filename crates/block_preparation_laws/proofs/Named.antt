@@ -10,7 +10,7 @@ use Rattle.c_typed_tree.specs.declared.units.TypedUnit.{TypedUnit}
 use Rattle.c_typed_tree.specs.Lawful.{IsTypedFn}
 use Rattle.suifvm_ir.specs.Programs.{VmFunction}
 use Rattle.temp_ir.specs.Programs.{TempFn}
-use Rattle.lowering.specs.Lowered.{AreLowered}
+use Rattle.lowering.specs.Lowered.{AllStandFor}
 use Rattle.alpha_select.specs.Selection.{AreSelected}
 use Rattle.block_passes.specs.Keeps.{KeepsFunction}
 use Rattle.block_preparation_laws.specs.Fit.{TempFunctionsHaveNames}
@@ -34,7 +34,7 @@ module _ (unit : TypedUnit) where
         (rest.names (All-tail (IsTypedFn unit) f fs h));
   }
 
-  all : (splits : ℕ) (ds : List StructDef) (fs : List TypedFn) (vs : List VmFunction) (ss gs : List TempFn) → AreLowered ds fs vs → AreSelected vs ss → AllZip (KeepsFunction splits) ss gs → AreNamed fs gs
+  all : (splits : ℕ) (ds : List StructDef) (fs : List TypedFn) (vs : List VmFunction) (ss gs : List TempFn) → AllStandFor ds fs vs → AreSelected vs ss → AllZip (KeepsFunction splits) ss gs → AreNamed fs gs
   all splits ds [] [] [] [] lowered selected p = none
   all splits ds [] [] [] (g ∷ gs) lowered selected p = absurd p
   all splits ds [] [] (s ∷ ss) gs lowered selected p = absurd selected

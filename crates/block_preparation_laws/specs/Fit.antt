@@ -13,7 +13,7 @@ use Rattle.suifvm_ir.specs.Programs.{VmFunction, program_size}
 use Rattle.temp_ir.specs.declared.program.TempProgram.{TempProgram}
 use Rattle.temp_ir.specs.Programs.{TempFn}
 use Rattle.temp_ir.specs.Cost as words
-use Rattle.lowering.specs.Lowered.{IsLowered, AreLowered, IsWithinWeight, AreWithinWeight}
+use Rattle.lowering.specs.Lowered.{StandsFor, AllStandFor}
 use Rattle.frame_bounds.specs.Near.{IsNear}
 use Rattle.alpha_select.specs.Selection.{AreSelected, CostLittle}
 use Rattle.block_passes.specs.Clauses.{IsSplit}
@@ -27,8 +27,7 @@ use Rattle.block_preparation_laws.specs.selected_widths.Widths.{HasWidths}
 pub record IsTempFunctionOf (ds : List StructDef) (f : TypedFn) (g : TempFn) : Type 0 where
   -- the code over virtual registers
   pub code : VmFunction
-  pub lowered : IsLowered ds f code
-  pub within : IsWithinWeight ds f code
+  pub stands : StandsFor ds f code
   pub name : g.name ≡ f.name
   pub params : g.params ≡ code.params
   pub temps : g.temps ≤ code.temps + 4
@@ -49,8 +48,7 @@ pub record AreTempFunctionsOf (unit : TypedUnit) (program : TempProgram) : Type 
 abbrev pub TempFunctionsFit : Type 0
 TempFunctionsFit =
     (unit : TypedUnit) (program : VmProgram) (selected after : TempProgram) →
-    AreLowered unit.structs unit.functions program.functions →
-    AreWithinWeight unit.structs unit.functions program.functions → program_size program.functions ≤ 2 ^ 24 →
+    AllStandFor unit.structs unit.functions program.functions → program_size program.functions ≤ 2 ^ 24 →
     AreSelected program.functions selected.functions → CostLittle program.functions selected.functions →
     Keeps 1 selected after → All IsSplit after.functions → AreTempFunctionsOf unit after
 
@@ -62,5 +60,5 @@ pub record HaveNames (unit : TypedUnit) (program : TempProgram) : Type 0 where
 abbrev pub TempFunctionsHaveNames : Type 0
 TempFunctionsHaveNames =
     (splits : ℕ) (unit : TypedUnit) (program : VmProgram) (selected after : TempProgram) →
-    AreLowered unit.structs unit.functions program.functions → AreSelected program.functions selected.functions →
+    AllStandFor unit.structs unit.functions program.functions → AreSelected program.functions selected.functions →
     Keeps splits selected after → HaveNames unit after

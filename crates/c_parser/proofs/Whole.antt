@@ -1,6 +1,7 @@
 -- A whole text: its tokens, its nesting and its reading.
 use Rattle.std.proofs.Common.{◌≡◌, ℕ, ◌≤◌, ◌*◌, ◌<◌, List, length, map, Result, Ok, Err, inl, inr, sym, ap, ◌∙◌, subst, arith}
-use Rattle.std.specs.Prelude.{IfOk, IfErr}
+use Rattle.std.specs.Prelude.{◌⊎◌, [], IfOk, IfErr}
+use Rattle.bk_memory.specs.Shortage.{MemoryIsShort}
 use Rattle.c_lexer.specs.declared.token.Token.{Token}
 use Rattle.c_lexer.specs.Pieces.{Lexeme, Toks}
 use Rattle.c_tree.specs.declared.declarations.TranslationUnit.{TranslationUnit}
@@ -8,7 +9,9 @@ use Rattle.c_tree.specs.Nodes.{unit_nodes, unit_height}
 use Rattle.c_parser_nesting.specs.Nesting.{nesting, nesting_of}
 use Rattle.c_lexer.specs.Limits.{text_limit}
 use Rattle.c_parser_nesting.specs.HasNesting.{IsTokens, HasNesting, toks_of, role_of_token}
+use Rattle.c_parser_nesting.specs.OpenConstructs.{open_constructs, most_open_from, kind_of_token}
 use Rattle.c_parser_nesting.proofs.Reading.{roles-lexemes}
+use Rattle.c_parser_nesting.proofs.Opening.{kinds-lexemes}
 use Rattle.c_parser_grammar.specs.ParseUnits.{unit}
 use Rattle.c_parser_grammar.proofs.ReadUnits.{complete}
 use Rattle.c_parser_grammar.proofs.SoundUnits.{sound}
@@ -17,8 +20,8 @@ use Rattle.c_parser_grammar.proofs.FewUnits.{unit_few}
 use Rattle.c_parser_cursor.proofs.Lexemes.{length_lexemes}
 use Rattle.c_parser.specs.declared.fault.ParseFault.{ParseFault}
 use Rattle.c_parser.specs.declared.fault.ParseFault.TheVariants.{Lex, Nesting, Syntax, NoMemory}
-use Rattle.c_parser.specs.Limits.{most_nesting, most_nodes, most_height}
-use Rattle.c_parser.specs.Reading.{IsRead, IsNotRead}
+use Rattle.c_parser.specs.Limits.{most_nesting, most_nodes, most_height, most_open}
+use Rattle.c_parser.specs.Reading.{IsRead, IsNotRead, HasTooManyOpen}
 use Rattle.c_parser.specs.model.Gives.{Gives}
 
 pub nesting-roles : (text : List ℕ) (ts : List Token) (n : ℕ) → n ≡ nesting (map role_of_token ts) → n ≡ nesting_of (toks_of text ts).items
@@ -56,11 +59,28 @@ not_read_of text ts (Err (Syntax at)) are within gives = record {
   place = gives.place;
 }
 not_read_of text ts (Err NoMemory) are within (inl short) = inl short
-not_read_of text ts (Err NoMemory) are within (inr high) = inr (record {
+not_read_of text ts (Err NoMemory) are within (inr high) = inr (inl (record {
   tree = high.tree;
   read = record { toks = toks_of text ts; are_tokens = are; within = within; reads = sound (toks_of text ts) high.tree high.spelled };
   high = high.high;
-})
+}))
+
+too_many : (text : List ℕ) (ts : List Token) → IsTokens text ts → nesting_of (toks_of text ts).items ≤ most_nesting → most_open < most_open_from [] (map kind_of_token ts) → HasTooManyOpen text
+too_many text ts are within many = record {
+  toks = toks_of text ts;
+  are_tokens = are;
+  within = within;
+  many = subst (λ kinds. most_open < most_open_from [] kinds) (sym (kinds-lexemes text ts)) many;
+}
+
+by_count : (text : List ℕ) (ts : List Token) → IsTokens text ts → nesting_of (toks_of text ts).items ≤ most_nesting → MemoryIsShort ⊎ (most_open < most_open_from [] (map kind_of_token ts)) → IsNotRead text NoMemory
+by_count text ts are within (inl short) = inl short
+by_count text ts are within (inr many) = inr (inr (too_many text ts are within many))
+
+-- the refusal of tokens of which too many constructs are open
+pub not_few_open : (text : List ℕ) (ts : List Token) (e : ParseFault) → IsTokens text ts → nesting_of (toks_of text ts).items ≤ most_nesting
+    → (e ≡ NoMemory) × (MemoryIsShort ⊎ (most_open < most_open_from [] (map kind_of_token ts))) → IsNotRead text e
+not_few_open text ts e are within told = subst (IsNotRead text) (sym told.0) (by_count text ts are within told.1)
 
 pub few_of : (text : List ℕ) (ts : List Token) (r : Result TranslationUnit ParseFault) → length ts ≤ length text → length text ≤ text_limit → Gives (toks_of text ts) r → IfOk r (λ tree. unit_nodes tree ≤ most_nodes)
 few_of text ts (Ok tree) few short gives =

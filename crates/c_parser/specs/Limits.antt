@@ -12,3 +12,7 @@ most_nodes = 33554432
 -- the most of them that stand one under the other
 abbrev pub most_height : ℕ
 most_height = 2048
+
+-- the most constructs of it that are open at once
+abbrev pub most_open : ℕ
+most_open = 1024

@@ -23,8 +23,8 @@ pub enum ParseFault {
     /// The grammar refuses the token at the offset `at`, or the end of the text there.
     #[error("the token at offset {at} is refused")]
     Syntax { at: u32 },
-    /// Memory is short, or more constructs are open, or more nodes stand one under the other, than are
-    /// taken.
+    /// Memory is short, or more constructs are open at once, or more nodes stand one under the other, than
+    /// are taken.
     #[error("out of memory")]
     NoMemory,
 }

@@ -1,11 +1,13 @@
 //! Whole texts.
 
-ghost use Rattle.std.specs.Prelude.{◌≤◌, ◌<◌, ◌≡◌, length, IfOk, IfErr};
+ghost use Rattle.std.specs.Prelude.{◌≤◌, ◌<◌, ◌≡◌, ◌⊎◌, [], length, map, IfOk, IfErr};
+ghost use Rattle.bk_memory.specs.Shortage.{MemoryIsShort};
 ghost use Rattle.c_tree.specs.Nodes.{unit_nodes, unit_height};
 ghost use Rattle.c_lexer.specs.Limits.{text_limit};
 ghost use Rattle.c_parser_nesting.specs.HasNesting.{IsTokens, toks_of};
+ghost use Rattle.c_parser_nesting.specs.OpenConstructs.{most_open_from, kind_of_token};
 ghost use Rattle.c_parser.specs.declared.fault.ParseFault.TheVariants.{Nesting, NoMemory};
-ghost use Rattle.c_parser.specs.Limits.{most_nesting, most_nodes, most_height};
+ghost use Rattle.c_parser.specs.Limits.{most_nesting, most_nodes, most_height, most_open};
 ghost use Rattle.c_parser.specs.Reading.{IsRead, IsNotRead};
 ghost use Rattle.c_parser.specs.model.Gives.{Gives};
 
@@ -13,7 +15,7 @@ use crate::fault::ParseFault;
 use crate::units::externals;
 use c_lexer::Token;
 use c_parser_cursor::{Tokens, TypedefScope};
-use c_parser_nesting::{nesting_of, tokens};
+use c_parser_nesting::{nesting_of, open_constructs, tokens};
 use c_tree::{TranslationUnit, is_within_height};
 use std::alloc::Global;
 
@@ -22,6 +24,9 @@ const MOST_NESTING: u32 = 256;
 
 /// The most nodes that stand one under the other.
 const MOST_HEIGHT: u32 = 2048;
+
+/// The most constructs that are open at once.
+const MOST_OPEN: usize = 1024;
 
 /// The unit, where its tree is no higher than is taken.
 fn low_enough(unit: TranslationUnit) -> Result<TranslationUnit, ParseFault>
@@ -49,6 +54,29 @@ fn nests_within(counted: u32) -> Result<(), ParseFault>
         Err(ParseFault::Nesting { counted })
     } else {
         Ok(())
+    }
+}
+
+/// Whether so many constructs may be open at once.
+fn opens_within(counted: usize) -> Result<(), ParseFault>
+    ensures { IfErr result (λ e. (e ≡ NoMemory) × (most_open < counted)) }
+{
+    if counted > MOST_OPEN {
+        Err(ParseFault::NoMemory)
+    } else {
+        Ok(())
+    }
+}
+
+/// Whether no more constructs of the tokens are open at once than are taken.
+fn few_open(alloc: Global, tokens: &[Token]) -> Result<(), ParseFault>
+    requires { length tokens.now ≤ text_limit }
+    ensures { IfErr result (λ e. (e ≡ NoMemory) × (MemoryIsShort ⊎ (most_open < most_open_from []
+        (map kind_of_token tokens.now)))) }
+{
+    match open_constructs(alloc, tokens) {
+        Err(error) => Err(ParseFault::from(error)),
+        Ok(counted) => opens_within(counted),
     }
 }
 
@@ -81,7 +109,10 @@ fn unit_within(alloc: Global, text: &[u8], tokens: &[Token]) -> Result<Translati
         Err(error) => Err(ParseFault::from(error)),
         Ok(counted) => match nests_within(counted) {
             Err(fault) => Err(fault),
-            Ok(()) => unit_of(alloc, text, tokens),
+            Ok(()) => match few_open(alloc, tokens) {
+                Err(fault) => Err(fault),
+                Ok(()) => unit_of(alloc, text, tokens),
+            },
         },
     }
 }
@@ -95,8 +126,8 @@ fn unit_within(alloc: Global, text: &[u8], tokens: &[Token]) -> Result<Translati
 /// [`ParseFault::Nesting`] where it has none and its nesting exceeds 256, with the nesting;
 /// [`ParseFault::Syntax`] where neither holds and its tokens have no reading, with the offset of the
 /// refused token, the first that ends no front of any list of tokens with a reading, or the text's
-/// length where each front can go on; and [`ParseFault::NoMemory`], also where more than 1,024
-/// constructs are open inside the outermost one, or the tree would be higher.
+/// length where each front can go on; and [`ParseFault::NoMemory`] where memory is short, the tree would
+/// be higher, or more than 1,024 constructs are open at once.
 pub fn parse(alloc: Global, text: &[u8]) -> Result<TranslationUnit, ParseFault>
     requires { length text.now ≤ text_limit }
     ensures read { IfOk result (IsRead text.now) }

@@ -62,7 +62,6 @@ fn init(
     if depth == 0 {
         return Err(ParseStop::Refused);
     }
-    tokens.open(depth)?;
     if !tokens.sees(Punct::LeftBrace) {
         return Ok(Init::Value(expr(alloc, scope, tokens, depth, levels::ASSIGNMENT)?));
     }
@@ -451,7 +450,6 @@ pub fn externals(
         if left == 0 {
             return Ok(found);
         }
-        tokens.count_from(left);
         let more = external(alloc, scope, tokens, left)?;
         found = append(found, more)?;
     }

@@ -18,7 +18,7 @@ use std::marker::Model;
 pub enum ParseStop {
     /// The grammar's function refuses the token at the cursor.
     Refused,
-    /// Memory is short, or too many constructs are open. Nothing is known of the cursor then.
+    /// Memory is short. Nothing is known of the cursor then.
     NoMemory,
 }
 
@@ -35,10 +35,6 @@ impl From<AllocError> for ParseStop {
     }
 }
 
-/// The most constructs that are open inside the outermost one. What reads each of them stands on the
-/// machine's stack, so one more is want of memory.
-const MOST_OPEN: usize = 1024;
-
 /// The tokens that are still to be read, which contracts see with their spellings.
 ///
 /// A function that takes them by `&mut` goes past what it reads. Where it answers [`ParseStop::Refused`], the
@@ -49,8 +45,6 @@ pub struct Tokens<'a> {
     /// The text that they are of.
     text: &'a [u8],
     rest: &'a [Token],
-    /// The least depth at which a construct may be opened.
-    least_depth: usize,
 }
 
 impl<'a> Model for Tokens<'a> {
@@ -70,32 +64,7 @@ impl<'a> Tokens<'a> {
     pub fn new(text: &'a [u8], rest: &'a [Token]) -> Tokens<'a>
         ensures { result ≡ lexemes text.now rest.now }
     {
-        Tokens {
-            text,
-            rest,
-            least_depth: rest.len().saturating_sub(MOST_OPEN),
-        }
-    }
-
-    /// Begins to count the open constructs at this depth, which falls by one with each construct inside
-    /// another.
-    pub fn count_from(&mut self, depth: usize)
-        ensures { self.new ≡ self.old }
-    {
-        self.least_depth = depth.saturating_sub(MOST_OPEN);
-    }
-
-    /// Opens a construct at this depth.
-    ///
-    /// # Errors
-    ///
-    /// [`AllocError`] where [`MOST_OPEN`] are open.
-    pub fn open(&self, depth: usize) -> Result<(), AllocError> {
-        if depth < self.least_depth {
-            Err(AllocError)
-        } else {
-            Ok(())
-        }
+        Tokens { text, rest }
     }
 
     /// How many are left.
@@ -161,12 +130,10 @@ impl<'a> Tokens<'a> {
             [] => Tokens {
                 text: self.text,
                 rest: &[],
-                least_depth: self.least_depth,
             },
             [_, rest @ ..] => Tokens {
                 text: self.text,
                 rest,
-                least_depth: self.least_depth,
             },
         }
     }

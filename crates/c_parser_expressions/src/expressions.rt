@@ -591,7 +591,6 @@ pub fn expr(
     if depth == 0 {
         return Err(ParseStop::Refused);
     }
-    tokens.open(depth)?;
     let at = tokens.place();
     let first = operand(alloc, scope, tokens, depth - 1, least)?;
     climb(alloc, scope, tokens, depth - 1, at, least, first)
@@ -730,7 +729,6 @@ pub fn declarator(
     if depth == 0 {
         return Err(ParseStop::Refused);
     }
-    tokens.open(depth)?;
     if tokens.sees(Punct::Star) {
         tokens.take();
         return pointer_declarator(alloc, scope, tokens, depth - 1, naming);

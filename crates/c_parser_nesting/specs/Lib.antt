@@ -1,3 +1,4 @@
 pub mod Nesting
+pub mod OpenConstructs
 pub mod HasNesting
 pub mod model

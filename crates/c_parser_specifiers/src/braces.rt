@@ -257,7 +257,6 @@ pub fn specifier(
     if depth == 0 {
         return Err(ParseStop::Refused);
     }
-    tokens.open(depth)?;
     match read_words(tokens) {
         SpecifierStart::Basic(basic) => Ok(SpecifierType::basic(basic)),
         SpecifierStart::Other(Specifier::Struct) => {

@@ -522,7 +522,6 @@ pub fn stmt(
     if depth == 0 {
         return Err(ParseStop::Refused);
     }
-    tokens.open(depth)?;
     let at = tokens.place();
     let inner = depth - 1;
     let head = head_of(tokens.peek());

@@ -6,7 +6,7 @@ ghost use Rattle.c_typed_tree.specs.Lawful.{IsLawfulUnit};
 use crate::copy_statements::copy_stmt;
 use crate::{Local, Member, StructDef, TypedFn, TypedUnit};
 use bk_containers::Seq;
-use mem_objects::{DataCell, DataObject};
+use mem_objects::copy_objects;
 use std::alloc::{AllocError, Global};
 
 fn copy_member(alloc: Global, member: &Member) -> Result<Member, AllocError>
@@ -52,37 +52,6 @@ fn copy_structs(alloc: Global, list: &Seq<StructDef>) -> Result<Seq<StructDef>, 
     let mut copies = Seq::new(alloc);
     for structure in list.as_slice() {
         copies.push(copy_struct(alloc, structure)?)?;
-    }
-    Ok(copies)
-}
-
-fn copy_cells(alloc: Global, list: &Seq<DataCell>) -> Result<Seq<DataCell>, AllocError>
-    ensures { IfOk result (λ r. r ≡ list.now) }
-{
-    Ok(Seq::from_vec(Vec::from_slice(alloc, list.as_slice())?))
-}
-
-fn copy_object(alloc: Global, object: &DataObject) -> Result<DataObject, AllocError>
-    ensures { IfOk result (λ r. r ≡ object.now) }
-{
-    let name = object.name.copy()?;
-    let cells = copy_cells(alloc, &object.cells)?;
-    Ok(DataObject {
-        name,
-        size: object.size,
-        align: object.align,
-        offset: object.offset,
-        writable: object.writable,
-        cells,
-    })
-}
-
-fn copy_objects(alloc: Global, list: &Seq<DataObject>) -> Result<Seq<DataObject>, AllocError>
-    ensures { IfOk result (λ r. r ≡ list.now) }
-{
-    let mut copies = Seq::new(alloc);
-    for object in list.as_slice() {
-        copies.push(copy_object(alloc, object)?)?;
     }
     Ok(copies)
 }
@@ -140,7 +109,7 @@ pub fn copy_unit(alloc: Global, unit: &TypedUnit) -> Result<TypedUnit, AllocErro
     ensures lawful { IfOk result (λ r. IsLawfulUnit unit.now → IsLawfulUnit r) }
 {
     let structs = copy_structs(alloc, &unit.structs)?;
-    let globals = copy_objects(alloc, &unit.globals)?;
+    let globals = copy_objects(alloc, unit.globals.as_slice())?;
     let functions = copy_functions(alloc, &unit.functions)?;
     Ok(TypedUnit {
         structs,

@@ -7,6 +7,7 @@ use Rattle.c_typed_tree.specs.declared.types.StructDef.{StructDef}
 use Rattle.c_typed_tree.specs.declared.units.TypedFn.{TypedFn}
 use Rattle.c_typed_tree.specs.declared.units.TypedUnit.{TypedUnit}
 use Rattle.c_typing_faults.specs.Faults.{head}
+use Rattle.c_typing_state.specs.declared.notes.Notes.{Notes}
 use Rattle.c_typing_state.specs.Checks.{append_part}
 use Rattle.c_typing_globals.specs.declared.objects.UnitObject.{UnitObject}
 use Rattle.c_typing_globals.specs.Globals.{globals}
@@ -43,9 +44,14 @@ abbrev pub unit_with :
     List StructDef → List UnitObject → (texts : List (List ℕ)) → (count : ℕ) → List UnitFunction → Option TypedUnit
 unit_with ds os texts count fs = typed_from ds os texts (append_functions (Some []) (functions_in count fs))
 
--- what is known behind the last declaration
+-- of what is known behind the last declaration, what was noted
+abbrev pub notes_in : UnitSoFar × TagScope → Notes
+notes_in s = s.1.1.1
+
+-- and the unit that it makes
 abbrev pub typed_unit_of : UnitSoFar × TagScope → Option TypedUnit
-typed_unit_of s = unit_with s.1.1.1.structs s.0.objects s.1.1.1.texts s.0.names.functions s.0.functions
+typed_unit_of s =
+    unit_with (notes_in s).structs s.0.objects (notes_in s).texts s.0.names.functions s.0.functions
 
 abbrev pub typed_unit : TranslationUnit → Option TypedUnit
 typed_unit unit = typed_unit_of (whole_unit unit)

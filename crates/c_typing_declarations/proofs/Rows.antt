@@ -4,7 +4,7 @@ use mathlib.Core.Former.{Count}
 use Rattle.c_tree.specs.declared.types.TypeNode as t
 use Rattle.c_tree.specs.declared.types.Parameter.{Parameter}
 use Rattle.c_tree.specs.declared.expressions.Expr.TheBlock as k
-use Rattle.c_typing_declared_types.specs.declared.declared.DeclaredType.{DeclaredType}
+use Rattle.c_typing_rules.specs.declared.c_typing_declared_types.declared.DeclaredType.{DeclaredType}
 use Rattle.c_typing_state.specs.declared.notes.Notes.{Notes}
 use Rattle.c_typing_state.specs.Checks.{pure, and_then}
 use Rattle.c_typing_declarations.specs.Functions.{name_row, name_judged, type_where, defined_type}

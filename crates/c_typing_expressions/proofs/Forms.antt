@@ -3,7 +3,7 @@ use Rattle.std.proofs.Common.{◌≡◌, ℕ, List, [], Option, Some, Result, Ok
 use Rattle.c_tree.specs.declared.expressions.Expr as e
 use Rattle.c_tree.specs.declared.types.TypeNode as t
 use Rattle.c_tree.specs.declared.types.Parameter.{Parameter}
-use Rattle.c_typing_declared_types.specs.declared.declared.DeclaredType.{DeclaredType}
+use Rattle.c_typing_rules.specs.declared.c_typing_declared_types.declared.DeclaredType.{DeclaredType}
 use Rattle.c_typed_tree.specs.declared.types.CType.{CType}
 use Rattle.c_typing_rules.specs.declared.typed.TypedExpression.{TypedExpression}
 use Rattle.c_typing_state.specs.declared.env.Env.{Env}

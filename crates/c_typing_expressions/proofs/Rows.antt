@@ -5,7 +5,7 @@ use Rattle.c_tree.specs.declared.expressions.Expr as e
 use Rattle.c_tree.specs.declared.types.TypeNode as t
 use Rattle.c_tree.specs.declared.types.Parameter.{Parameter}
 use Rattle.c_tree.specs.declared.expressions.Expr.TheBlock as k
-use Rattle.c_typing_declared_types.specs.declared.declared.DeclaredType.{DeclaredType}
+use Rattle.c_typing_rules.specs.declared.c_typing_declared_types.declared.DeclaredType.{DeclaredType}
 use Rattle.c_typed_tree.specs.declared.types.CType.{CType}
 use Rattle.c_typing_rules.specs.declared.typed.TypedExpression.{TypedExpression}
 use Rattle.c_typing_state.specs.Checks.{and_then, both_parts, walk, append_part}

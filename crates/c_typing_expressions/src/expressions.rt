@@ -8,7 +8,6 @@ ghost use Rattle.c_typing_expressions.specs.model.Parts as model;
 use bk_containers::{Box, Seq};
 use c_tree::{Expr, Parameter, TypeName, TypeNode};
 use c_typed_tree::CType;
-use c_typing_declared_types::DeclaredType;
 use c_typing_judgements::calls::call_by_meaning;
 use c_typing_judgements::leaves::leaf;
 use c_typing_judgements::members::{arrow_of, field_of};
@@ -22,6 +21,7 @@ use c_typing_judgements::types::{
     array, function, given_length, parameter_declared, pointer, type_named,
 };
 use c_typing_rules::TypedExpression;
+use c_typing_rules::c_typing_declared_types::DeclaredType;
 use c_typing_state::{Env, Notes, append_part, enter, keep_apart, leave, meaning_of, rejoin};
 use std::alloc::{AllocError, Global};
 

@@ -3,7 +3,7 @@
 use Rattle.std.specs.Prelude.{ℕ, if◌then◌else◌, Bool, true, false, List, Option, Some, None, is_some}
 use Rattle.c_tree.specs.declared.expressions.Expr as e
 use Rattle.c_typed_tree.specs.declared.types.CType.{CType}
-use Rattle.c_typing_operators.specs.Null.{take_value}
+use Rattle.c_typing_judgements.specs.c_typing_operators.Null.{take_value}
 use Rattle.c_typed_tree.specs.Layout.{integer_of}
 use Rattle.c_typed_tree.specs.View.{type_view}
 use Rattle.c_typing_faults.specs.declared.faults.Kind.TheVariants.{BadInit}

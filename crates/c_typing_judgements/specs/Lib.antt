@@ -6,3 +6,4 @@ pub mod Members
 pub mod Leaves
 pub mod Types
 pub mod model
+pub mod c_typing_operators

@@ -6,16 +6,16 @@ use Rattle.c_tree.specs.declared.expressions.BinaryOp.{BinaryOp}
 use Rattle.c_tree.specs.declared.expressions.AssignOp.{AssignOp}
 use Rattle.c_tree.specs.declared.expressions.StepOp.{StepOp}
 use Rattle.c_typing_faults.specs.declared.faults.Kind.TheVariants.{BadOperand}
-use Rattle.c_typing_declared_types.specs.declared.declared.DeclaredType.{DeclaredType}
+use Rattle.c_typing_rules.specs.declared.c_typing_declared_types.declared.DeclaredType.{DeclaredType}
 use Rattle.c_typing_rules.specs.declared.typed.LvalueKind.{LvalueKind}
 use Rattle.c_typing_rules.specs.declared.typed.TypedExpression.{TypedExpression}
 use Rattle.c_typing_place_rules.specs.Members.{size}
 use Rattle.c_typing_place_rules.specs.Places.{step_behind}
 use Rattle.c_typing_primary_rules.specs.Commas.{comma_value}
-use Rattle.c_typing_operators.specs.Unary.{unary_ruling}
-use Rattle.c_typing_operators.specs.Binary.{binary_ruling, subscript, conditional_ruling}
-use Rattle.c_typing_operators.specs.Assigned.{assign}
-use Rattle.c_typing_operators.specs.Casts.{cast_to, size_of_type}
+use Rattle.c_typing_judgements.specs.c_typing_operators.Unary.{unary_ruling}
+use Rattle.c_typing_judgements.specs.c_typing_operators.Binary.{binary_ruling, subscript, conditional_ruling}
+use Rattle.c_typing_judgements.specs.c_typing_operators.Assigned.{assign}
+use Rattle.c_typing_judgements.specs.c_typing_operators.Casts.{cast_to, size_of_type}
 use Rattle.c_typing_state.specs.declared.notes.Notes.{Notes}
 use Rattle.c_typing_state.specs.Notes.{with_address}
 use Rattle.c_typing_state.specs.Checks.{Check, fault, each, both_parts, note_fault}

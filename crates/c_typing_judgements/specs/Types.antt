@@ -3,9 +3,9 @@
 use Rattle.std.specs.Prelude.{ℕ, if◌then◌else◌, List, Option, Some, None}
 use Rattle.std.specs.Option.{option_map}
 use Rattle.c_typing_scopes.specs.Names.{find}
-use Rattle.c_typing_declared_types.specs.declared.declared.DeclaredType.{DeclaredType}
-use Rattle.c_typing_declared_types.specs.Declarators.{pointer_to, array_of, adjusted_parameter, function_of}
-use Rattle.c_typing_declared_types.specs.Depth.{is_declarable, is_deep_at_most}
+use Rattle.c_typing_rules.specs.declared.c_typing_declared_types.declared.DeclaredType.{DeclaredType}
+use Rattle.c_typing_rules.specs.c_typing_declared_types.Declarators.{pointer_to, array_of, adjusted_parameter, function_of}
+use Rattle.c_typing_rules.specs.c_typing_declared_types.Depth.{is_declarable, is_deep_at_most}
 use Rattle.c_typed_tree.specs.Typing.{most_depth}
 use Rattle.c_typed_tree.specs.declared.types.CType.{CType}
 use Rattle.c_typing_faults.specs.declared.faults.Kind.{Kind}

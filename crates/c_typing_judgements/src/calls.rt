@@ -5,11 +5,11 @@ ghost use Rattle.std.specs.Option.{option_copied};
 ghost use Rattle.c_typing_state.specs.Checks.{Finds, each};
 ghost use Rattle.c_typing_judgements.specs.Calls as spec;
 
+use crate::c_typing_operators::take_value;
 use crate::names::{faulty, use_of_undefined};
 use bk_containers::{Box, Seq};
 use c_typed_tree::{CType, Callee, TExpr};
 use c_typing_faults::Kind;
-use c_typing_operators::take_value;
 use c_typing_primary_rules::calls::{call, count_arguments};
 use c_typing_rules::TypedExpression;
 use c_typing_state::{NameMeaning, Notes, append_part, note_fault};

@@ -5,6 +5,7 @@
 //! expression.
 #![tactic(auto)]
 
+pub mod c_typing_operators;
 pub mod calls;
 pub mod leaves;
 pub mod members;

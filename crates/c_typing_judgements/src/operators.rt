@@ -4,14 +4,16 @@ ghost use Rattle.std.specs.Prelude.{◌≡◌, OnOk};
 ghost use Rattle.c_typing_state.specs.Checks.{Finds, each, both_parts};
 ghost use Rattle.c_typing_judgements.specs.Operators as spec;
 
+use crate::c_typing_operators::{
+    assign, binary, cast_to, conditional, size_of_type, subscript, unary,
+};
 use bk_containers::Seq;
 use c_tree::{AssignOp, BinaryOp, StepOp, UnaryOp};
-use c_typing_declared_types::DeclaredType;
 use c_typing_faults::Kind;
-use c_typing_operators::{assign, binary, cast_to, conditional, size_of_type, subscript, unary};
 use c_typing_place_rules::members::size;
 use c_typing_place_rules::places::step_behind;
 use c_typing_primary_rules::commas::comma;
+use c_typing_rules::c_typing_declared_types::DeclaredType;
 use c_typing_rules::{LvalueKind, TypedExpression};
 use c_typing_state::{Notes, note, note_fault, take_address};
 use std::alloc::{AllocError, Global};

@@ -9,12 +9,12 @@ use crate::leaves::no_type;
 use bk_containers::{Name, Seq};
 use c_typed_tree::CType;
 use c_typing_constants::c_constant_rules::values::length;
-use c_typing_declared_types::{
+use c_typing_faults::Kind;
+use c_typing_rules::TypedExpression;
+use c_typing_rules::c_typing_declared_types::{
     DeclaredType, MOST_DEPTH, array_of, function_of, is_declarable, is_deep_at_most, parameter_of,
     pointer_to,
 };
-use c_typing_faults::Kind;
-use c_typing_rules::TypedExpression;
 use c_typing_state::{Env, NameMeaning, Notes, declare, note, note_fault, stands_here};
 use std::alloc::{AllocError, Global};
 

@@ -5,3 +5,4 @@ pub mod Arithmetic
 pub mod Comparisons
 pub mod Conversions
 pub mod model
+pub mod c_typing_declared_types

@@ -1,2 +1,3 @@
 -- Definitions that only proofs and private contracts use.
 pub mod Opens
+pub mod c_typing_declared_types

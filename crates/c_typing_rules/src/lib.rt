@@ -5,6 +5,7 @@
 #![tactic(auto)]
 
 pub mod arithmetic;
+pub mod c_typing_declared_types;
 pub mod comparisons;
 pub mod conversions;
 mod refusal;

@@ -2,7 +2,7 @@
 
 use bk_containers::Seq;
 use c_typed_tree::{CType, Callee};
-use c_typing_declared_types::DeclaredType;
+use c_typing_rules::c_typing_declared_types::DeclaredType;
 
 /// What a name means that is no tag and no member (C99 6.2.3).
 #[derive(Drop)]

@@ -10,7 +10,7 @@ use Rattle.c_tree.specs.declared.statements.ForFirst.{ForFirst}
 use Rattle.c_tree.specs.declared.statements.ForFirst.TheVariants as g
 use Rattle.c_tree.specs.declared.statements.Label.{Label}
 use Rattle.c_tree.specs.declared.statements.Label.TheVariants as l
-use Rattle.c_typing_declared_types.specs.declared.declared.DeclaredType.{DeclaredType}
+use Rattle.c_typing_rules.specs.declared.c_typing_declared_types.declared.DeclaredType.{DeclaredType}
 use Rattle.c_typed_tree.specs.declared.types.CType.{CType}
 use Rattle.c_typed_tree.specs.declared.expressions.TExpr.{TExpr}
 use Rattle.c_typed_tree.specs.declared.statements.TStmt.{TStmt}
@@ -25,10 +25,10 @@ use Rattle.c_typing_judgements.specs.Leaves.{leaf}
 use Rattle.c_typing_judgements.specs.Types.{JudgementState, in_env}
 use Rattle.c_typing_expressions.specs.Expressions.{judge, derive}
 use Rattle.c_typing_statement_rules.specs.declared.labels.Labels.{Labels}
-use Rattle.c_typing_local_rules.specs.declared.locals.NewLocal.{NewLocal}
+use Rattle.c_typing_statement_parts.specs.declared.c_typing_local_rules.locals.NewLocal.{NewLocal}
 use Rattle.c_typing_statement_rules.specs.Values.{condition_check, switch_check, full_expression, return_value, return_nothing}
 use Rattle.c_typing_statement_rules.specs.Labels.{LabelState, beside_labels, case_label, default_label}
-use Rattle.c_typing_local_rules.specs.Locals.{BodyState, locals_beside, in_body, local_declared, local_with_value, without_initialiser}
+use Rattle.c_typing_statement_parts.specs.c_typing_local_rules.Locals.{BodyState, locals_beside, in_body, local_declared, local_with_value, without_initialiser}
 use Rattle.c_typing_statement_rules.specs.Forms.{some_part, first_value, first_locals}
 
 -- ---- expressions

@@ -2,6 +2,7 @@
 //! is in it (C99 6.7, 6.8). They are expressions, locals with their initialisers, and labels.
 #![tactic(auto)]
 
+pub mod c_typing_local_rules;
 mod parts;
 
 pub use parts::{

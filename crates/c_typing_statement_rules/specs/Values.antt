@@ -13,7 +13,7 @@ use Rattle.c_typing_rules.specs.Conversions.{decay}
 use Rattle.c_typing_rules.specs.Comparisons as rule
 use Rattle.c_typing_primary_rules.specs.declared.switches.SwitchValue.{SwitchValue}
 use Rattle.c_typing_primary_rules.specs.Switches as w
-use Rattle.c_typing_operators.specs.Null.{take_value}
+use Rattle.c_typing_judgements.specs.c_typing_operators.Null.{take_value}
 use Rattle.c_typing_state.specs.Checks.{Check, pure, and_then, fault, note_fault}
 
 -- the condition of an `if` or a loop (6.8.4.1, 6.8.5)

@@ -8,7 +8,7 @@ ghost use Rattle.c_typing_statement_rules.specs.Values as spec;
 use bk_containers::Box;
 use c_typed_tree::{CType, TExpr, TStmt};
 use c_typing_faults::Kind;
-use c_typing_operators::take_value;
+use c_typing_judgements::c_typing_operators::take_value;
 use c_typing_primary_rules::switches::{self, SwitchValue};
 use c_typing_rules::conversions::decay;
 use c_typing_rules::types::is_void;

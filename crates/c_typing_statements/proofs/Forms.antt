@@ -10,7 +10,7 @@ use Rattle.c_typed_tree.specs.declared.units.Local.{Local}
 use Rattle.c_typing_primary_rules.specs.declared.switches.SwitchValue.{SwitchValue}
 use Rattle.c_typing_state.specs.Checks.{and_then, Finds}
 use Rattle.c_typing_judgements.specs.Types.{JudgementState}
-use Rattle.c_typing_local_rules.specs.Locals.{BodyState, locals_beside}
+use Rattle.c_typing_statement_parts.specs.c_typing_local_rules.Locals.{BodyState, locals_beside}
 use Rattle.c_typing_statement_rules.specs.declared.jumps.Jumps.{Jumps}
 use Rattle.c_typing_statement_rules.specs.Jumps.{in_switch}
 use Rattle.c_typing_statement_parts.specs.Parts.{operand_of}

@@ -15,7 +15,7 @@ use Rattle.c_typing_state.specs.Checks.{pure, and_then, walk, append_part}
 use Rattle.c_typing_statement_rules.specs.declared.jumps.Jumps.{Jumps}
 use Rattle.c_typing_statement_rules.specs.Jumps.{in_switch}
 use Rattle.c_typing_statement_rules.specs.Labels.{no_labels}
-use Rattle.c_typing_local_rules.specs.Locals.{BodyState, locals_beside}
+use Rattle.c_typing_statement_parts.specs.c_typing_local_rules.Locals.{BodyState, locals_beside}
 use Rattle.c_typing_statement_rules.specs.Forms.{if_else, switch, switch_type, section_under, block}
 use Rattle.c_typing_statement_parts.specs.Parts.{condition_of, operand_of, label_of}
 use Rattle.c_typing_statements.specs.Statements.{SwitchState, beside_locals, in_scope, behind_scope, statement, statement_row, judge_section_row}

@@ -16,7 +16,7 @@ use Rattle.c_typing_statement_rules.specs.declared.jumps.Jumps.{Jumps}
 use Rattle.c_typing_statement_rules.specs.declared.labels.Labels.{Labels}
 use Rattle.c_typing_statement_rules.specs.Jumps.{in_loop, in_switch, break_statement, continue_statement}
 use Rattle.c_typing_statement_rules.specs.Labels.{no_labels, beside_labels}
-use Rattle.c_typing_local_rules.specs.Locals.{BodyState, locals_beside, in_body}
+use Rattle.c_typing_statement_parts.specs.c_typing_local_rules.Locals.{BodyState, locals_beside, in_body}
 use Rattle.c_typing_statement_rules.specs.Forms.{if_else, while_loop, do_loop, for_loop, switch, section_under, switch_type, block, expression_statement, local_statement}
 use Rattle.c_typing_statement_parts.specs.Parts.{condition_of, full_value, operand_of, optional_condition, optional_value, return_statement, local_of, first_of, label_of}
 

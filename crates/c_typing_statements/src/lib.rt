@@ -4,6 +4,7 @@
 //! where it is left.
 #![tactic(auto)]
 
+pub mod c_typing_function_bodies;
 mod descent;
 
 pub use descent::{statement, statements};

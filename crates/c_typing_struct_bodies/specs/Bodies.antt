@@ -3,7 +3,7 @@
 use Rattle.std.specs.Prelude.{ℕ, List, Option, None}
 use Rattle.c_tree.specs.declared.types.TypeNode as t
 use Rattle.c_tree.specs.declared.expressions.Expr.TheBlock as k
-use Rattle.c_typing_declared_types.specs.declared.declared.DeclaredType.{DeclaredType}
+use Rattle.c_typing_rules.specs.declared.c_typing_declared_types.declared.DeclaredType.{DeclaredType}
 use Rattle.c_typing_state.specs.Checks.{and_then}
 use Rattle.c_typing_judgements.specs.Leaves.{leaf}
 use Rattle.c_typing_judgements.specs.Types.{JudgementState, in_env}

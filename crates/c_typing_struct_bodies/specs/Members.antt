@@ -1,9 +1,9 @@
 -- The members of a body (C99 6.7.2.1). A name is that of one member; which type one has is judged where it stands.
 use Rattle.std.specs.Prelude.{ℕ, if◌then◌else◌, Bool, true, false, ◌&&◌, List, [], ◌∷◌, ◌++◌, Option, Some, None, length, is_some}
 use Rattle.c_typing_scopes.specs.Names.{find}
-use Rattle.c_typing_declared_types.specs.declared.declared.DeclaredType.{DeclaredType}
-use Rattle.c_typing_declared_types.specs.declared.declared.DeclaredType.TheVariants as d
-use Rattle.c_typing_declared_types.specs.Depth.{is_deep_at_most}
+use Rattle.c_typing_rules.specs.declared.c_typing_declared_types.declared.DeclaredType.{DeclaredType}
+use Rattle.c_typing_rules.specs.declared.c_typing_declared_types.declared.DeclaredType.TheVariants as d
+use Rattle.c_typing_rules.specs.c_typing_declared_types.Depth.{is_deep_at_most}
 use Rattle.c_typed_tree.specs.declared.types.CType.{CType}
 use Rattle.c_typed_tree.specs.declared.types.StructDef.{StructDef}
 use Rattle.c_typed_tree.specs.Layout.{is_object}

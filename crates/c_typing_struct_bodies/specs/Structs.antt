@@ -2,8 +2,8 @@
 use Rattle.std.specs.Prelude.{ℕ, if◌then◌else◌, Bool, true, false, List, [], ◌∷◌, Option, Some, None, is_some, slice_get, slice_set}
 use Rattle.std.specs.List.{list_all}
 use Rattle.c_typing_scopes.specs.Names.{Entry, find}
-use Rattle.c_typing_declared_types.specs.declared.declared.DeclaredType.{DeclaredType}
-use Rattle.c_typing_declared_types.specs.declared.declared.DeclaredType.TheVariants as d
+use Rattle.c_typing_rules.specs.declared.c_typing_declared_types.declared.DeclaredType.{DeclaredType}
+use Rattle.c_typing_rules.specs.declared.c_typing_declared_types.declared.DeclaredType.TheVariants as d
 use Rattle.c_typing_struct_layout.specs.declared.fields.Field.{Field}
 use Rattle.c_typing_struct_layout.specs.StructLayout.{struct_of}
 use Rattle.c_typed_tree.specs.declared.types.StructDef.{StructDef}

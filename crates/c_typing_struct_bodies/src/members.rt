@@ -7,8 +7,8 @@ ghost use Rattle.c_typing_struct_bodies.specs.Members as spec;
 
 use bk_containers::{Name, Seq};
 use c_typed_tree::{CType, StructDef};
-use c_typing_declared_types::{DeclaredType, MOST_DEPTH, is_deep_at_most};
 use c_typing_faults::Kind;
+use c_typing_rules::c_typing_declared_types::{DeclaredType, MOST_DEPTH, is_deep_at_most};
 use c_typing_rules::types::is_object;
 use c_typing_scopes::NameTable;
 use c_typing_state::{Notes, note};

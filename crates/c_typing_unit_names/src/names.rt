@@ -7,10 +7,10 @@ ghost use Rattle.c_typing_state.specs.Checks.{Finds};
 ghost use Rattle.c_typing_unit_names.specs.UnitNames as spec;
 
 use c_typed_tree::{CType, Callee};
-use c_typing_declared_types::DeclaredType;
 use c_typing_definitions::{Definitions, defines_function, defines_object};
 use c_typing_faults::Kind;
 use c_typing_judgements::leaves::{copy_declared, copy_types};
+use c_typing_rules::c_typing_declared_types::DeclaredType;
 use c_typing_rules::types::is_same;
 use c_typing_scopes::NameTable;
 use c_typing_state::{Env, NameMeaning, Notes, declare, meaning_of, note};

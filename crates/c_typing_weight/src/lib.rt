@@ -15,3 +15,6 @@ pub use expressions::expr_weight;
 pub use locals::locals_bytes;
 pub use statements::stmt_weight;
 pub use units::{data_size, function_weight, weight};
+
+/// The weight that a unit may have.
+pub const MOST_WEIGHT: u64 = 131_072;

@@ -1,6 +1,7 @@
 -- Bytes that hold an image are executed as the image behaves.
 use Rattle.std.proofs.Common.{◌≡◌, ◌≢◌, ℕ, List, inl, inr, Some, None, refl, sym, ap, ◌∙◌, subst}
-use Rattle.bk_io.specs.Outside.{taken_with, Traffic}
+use Rattle.bk_io.specs.Outside.{taken_with, Traffic, OnInput}
+use Rattle.bk_io.proofs.Inputs.{on_nothing, on_same}
 use Rattle.alpha_isa.specs.Program.{Program}
 use Rattle.alpha_isa.specs.ImageFormat.{IsImage}
 use Rattle.alpha_isa.specs.Behave.{Behaviour, output_of}
@@ -14,7 +15,7 @@ use Rattle.call_outcomes.specs.declared.outcome.Outcome.{Outcome}
 use Rattle.call_outcomes.specs.declared.outcome.Outcome.TheVariants.{FileFault, BadImage, NoMemory}
 use Rattle.call_outcomes.specs.FromFile.{IsCause}
 use Rattle.call_words.specs.declared.compile_options.MachineLimits.{MachineLimits}
-use Rattle.call_images.specs.RunImage.{outcome_of_ending, RunsImage, RefusesBytes, Executes}
+use Rattle.call_images.specs.RunImage.{outcome_of_ending, RunsImageOn, RunsImage, RefusesBytes, Executes}
 use Rattle.call_images.specs.ExecuteImage.{outcome_of_behaviour, behaviour_within, ExecutesImage}
 use Rattle.call_images.specs.ExecuteImage.ExecutesImage.{as_behaved, input_fault, write_fault, file_fault, no_memory}
 use Rattle.call_images.proofs.MigrateImages.{no_refusal}
@@ -31,24 +32,35 @@ behaved limits input p b before after is taken =
     as_behaved (ap (outcome_of_behaviour limits.budget) (sym is)) (taken ∙ ap (λ x. taken_with (output_of x) before.taken) (sym is))
 
 -- how a run ends is how the image behaves
-ended : (limits : MachineLimits) (input : List ℕ) (p : Program) (e : Ending) (before after : Traffic) → MachineBehaves p limits.stack input limits.budget e before after → ExecutesImage limits p input before after (outcome_of_ending limits.budget e)
-ended limits input p (ending.Done status) before after m = behaved limits input p (behave.Done m.place.output status) before after m.gives m.taken
-ended limits input p (ending.Trap code) before after m = behaved limits input p (behave.Trap m.place.output code) before after m.gives m.taken
-ended limits input p (ending.Stuck pc) before after m = behaved limits input p (behave.Stuck m.place.output pc) before after m.gives m.taken
-ended limits input p ending.Budget before after m = behaved limits input p (behave.More m.place.output) before after m.gives m.taken
-ended limits input p ending.InputFault before after m = input_fault refl (record { steps = m.gives.0; put = m.place.output; fewer = m.gives.1; goes_on = m.gives.2; taken = m.taken })
-ended limits input p ending.WriteFault before after m = write_fault refl (record { steps = m.gives.0; put = m.place.output; fewer = m.gives.1; goes_on = m.gives.2; taken = m.taken })
+ended : (limits : MachineLimits) (input rest : List ℕ) (p : Program) (e : Ending) (before after : Traffic) → MachineBehaves p limits.stack input rest limits.budget e before after → ExecutesImage limits p input before after (outcome_of_ending limits.budget e)
+ended limits input rest p (ending.Done status) before after m = behaved limits input p (behave.Done m.place.output status) before after m.gives m.taken
+ended limits input rest p (ending.Trap code) before after m = behaved limits input p (behave.Trap m.place.output code) before after m.gives m.taken
+ended limits input rest p (ending.Stuck pc) before after m = behaved limits input p (behave.Stuck m.place.output pc) before after m.gives m.taken
+ended limits input rest p ending.Budget before after m = behaved limits input p (behave.More m.place.output) before after m.gives m.taken
+ended limits input rest p ending.InputFault before after m = input_fault refl (record { steps = m.gives.0; put = m.place.output; fewer = m.gives.1; goes_on = m.gives.2; taken = m.taken })
+ended limits input rest p ending.WriteFault before after m = write_fault refl (record { steps = m.gives.0; put = m.place.output; fewer = m.gives.1; goes_on = m.gives.2; taken = m.taken })
 
-run : (limits : MachineLimits) (input : List ℕ) (p : Program) (answer : Outcome) (before after : Traffic) → before.left ≡ Some input → RunsImage limits p answer before after → ExecutesImage limits p input before after answer
-run limits input p answer before after left runs = elim runs [
-  | inl none ↦ no_memory none.0 none.1 none.2
-  | inr e ↦ subst (ExecutesImage limits p input before after) (sym e.1) (ended limits input p e.0 before after (e.2 input left))
+-- what is answered on an input
+abbrev AnswersOn : MachineLimits → Program → Outcome → Traffic → Traffic → (input rest : List ℕ) → Type 0
+AnswersOn limits p answer before after input rest = ExecutesImage limits p input before after answer
+
+-- where nothing was done it is answered on each input
+on_each : (limits : MachineLimits) (p : Program) (answer : Outcome) (before after : Traffic) → after ≡ before → ((input : List ℕ) → ExecutesImage limits p input before after answer) → OnInput before.left after.left (AnswersOn limits p answer before after)
+on_each limits p answer before after same answers =
+    subst (λ t. OnInput before.left t.left (AnswersOn limits p answer before after)) (sym same)
+    (on_nothing before.left (AnswersOn limits p answer before after) (λ rest may. answers rest))
+
+run : (limits : MachineLimits) (p : Program) (answer : Outcome) (before after : Traffic) → RunsImage limits p answer before after → OnInput before.left after.left (AnswersOn limits p answer before after)
+run limits p answer before after runs = elim runs [
+  | inl none ↦ on_each limits p answer before after none.1 (λ input. no_memory none.0 none.1 none.2)
+  | inr e ↦ on_same before.left after.left (RunsImageOn limits p e.0 before after) (AnswersOn limits p answer before after)
+      (λ input rest behaves. subst (ExecutesImage limits p input before after) (sym e.1) (ended limits input rest p e.0 before after behaves)) e.2
 ]
 
-pub executed_image : (bytes input : List ℕ) (p : Program) (limits : MachineLimits) (answer : Outcome) (before after : Traffic) → IsImage bytes p → before.left ≡ Some input → Executes limits (Some bytes) answer before after → ExecutesImage limits p input before after answer
-executed_image bytes input p limits answer before after is left executes = elim executes [
-  | inl c ↦ by_cause limits bytes input p answer before after (no_fault bytes p is) c.0 c.1
-  | inr m ↦ subst (λ q. ExecutesImage limits q input before after answer) (one bytes m.0 p m.1 is) (run limits input m.0 answer before after left m.2)
+pub executed_image : (bytes : List ℕ) (p : Program) (limits : MachineLimits) (answer : Outcome) (before after : Traffic) → IsImage bytes p → Executes limits (Some bytes) answer before after → OnInput before.left after.left (λ input rest. ExecutesImage limits p input before after answer)
+executed_image bytes p limits answer before after is executes = elim executes [
+  | inl c ↦ on_each limits p answer before after c.1 (λ input. by_cause limits bytes input p answer before after (no_fault bytes p is) c.0 c.1)
+  | inr m ↦ subst (λ q. OnInput before.left after.left (AnswersOn limits q answer before after)) (one bytes m.0 p m.1 is) (run limits m.0 answer before after m.2)
 ]
 
 -- ---- no image is a bad one

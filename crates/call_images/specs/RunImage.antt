@@ -6,7 +6,7 @@ use Rattle.alpha_isa.specs.ImageFormat.{IsImage}
 use Rattle.alpha_run.specs.declared.ending.Ending.{Ending}
 use Rattle.alpha_run.specs.declared.ending.Ending.TheVariants as ending
 use Rattle.alpha_run.specs.Run.{MachineBehaves}
-use Rattle.bk_io.specs.Outside.{Traffic}
+use Rattle.bk_io.specs.Outside.{Traffic, OnInput}
 use Rattle.alpha_image.specs.ImageFault.{image_fault}
 use Rattle.call_outcomes.specs.declared.outcome.Outcome.{Outcome}
 use Rattle.call_outcomes.specs.declared.outcome.Outcome.TheVariants.{Ran, Trapped, Stuck, Budget, InputFault, WriteFault, BadImage, NoMemory}
@@ -22,10 +22,13 @@ outcome_of_ending budget ending.Budget = Budget budget
 outcome_of_ending budget ending.InputFault = InputFault
 outcome_of_ending budget ending.WriteFault = WriteFault
 
--- the run of an image on its stack and within its steps, on the input that is left, where it is told
+-- the run of an image on its stack and within its steps, on an input, of which this rest is left
+abbrev pub RunsImageOn : MachineLimits → Program → Ending → Traffic → Traffic → (input rest : List ℕ) → Type 0
+RunsImageOn limits p e before after input rest = MachineBehaves p limits.stack input rest limits.budget e before after
+
+-- there is such an input: the one that was left, where it is told
 abbrev pub ImageRunsBy : MachineLimits → Program → Ending → Traffic → Traffic → Type 0
-ImageRunsBy limits p e before after =
-    (input : List ℕ) → before.left ≡ Some input → MachineBehaves p limits.stack input limits.budget e before after
+ImageRunsBy limits p e before after = OnInput before.left after.left (RunsImageOn limits p e before after)
 
 -- what is answered for an image: how its run ends, or want of memory, before anything is read or put
 abbrev pub RunsImage : MachineLimits → Program → Outcome → Traffic → Traffic → Type 0

@@ -1,7 +1,7 @@
 //! Laws of images, on functions that do nothing.
 
 ghost use Rattle.std.specs.Prelude.{◌≡◌, ◌≢◌, ◌⊎◌, List, ℕ, Option, Some};
-ghost use Rattle.bk_io.specs.Outside.{Traffic};
+ghost use Rattle.bk_io.specs.Outside.{Traffic, OnInput};
 ghost use Rattle.alpha_isa.specs.Program.{Program};
 ghost use Rattle.alpha_isa.specs.ImageFormat.{IsImage};
 ghost use Rattle.call_outcomes.specs.declared.outcome.Outcome.{Outcome as Answer};
@@ -18,12 +18,12 @@ pub fn an_image_is_migrated()
         (answer ≡ Built) ⊎ (answer ≡ NoMemory) }
 {}
 
-/// Bytes that hold an image are executed as it behaves on its stack and within its steps, on each input that is told,
-/// unless the outside fails or memory is short. They are never refused.
+/// Bytes that hold an image are executed as it behaves on its stack and within its steps, on the input that was left
+/// where it is told, and else on some input, unless the outside fails or memory is short. They are never refused.
 pub fn an_image_is_executed()
-    ensures answers { (bytes input : List ℕ) (p : Program) (limits : MachineLimits) (answer : Answer)
-        (before after : Traffic) → IsImage bytes p → before.left ≡ Some input →
-        Executes limits (Some bytes) answer before after → ExecutesImage limits p input before after answer }
+    ensures answers { (bytes : List ℕ) (p : Program) (limits : MachineLimits) (answer : Answer)
+        (before after : Traffic) → IsImage bytes p → Executes limits (Some bytes) answer before after →
+        OnInput before.left after.left (λ input rest. ExecutesImage limits p input before after answer) }
     ensures accepts { (bytes : List ℕ) (p : Program) (limits : MachineLimits) (answer : Answer)
         (before after : Traffic) (at : ℕ) → IsImage bytes p →
         Executes limits (Some bytes) answer before after → answer ≢ BadImage at }

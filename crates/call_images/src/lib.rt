@@ -10,5 +10,5 @@ pub mod migrate;
 mod run;
 mod write;
 
-pub use run::run_image;
+pub use run::{outcome_of, run_image};
 pub use write::write_image;

@@ -14,7 +14,7 @@ use call_words::compile_options::MachineLimits;
 use std::alloc::Global;
 
 /// The outcome of a run of so many steps at most that ended so.
-fn outcome_of(ending: Ending, budget: u64) -> Outcome
+pub fn outcome_of(ending: Ending, budget: u64) -> Outcome
     ensures { result ≡ outcome_of_ending budget ending }
 {
     match ending {

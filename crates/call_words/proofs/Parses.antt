@@ -1,5 +1,5 @@
 -- What comes of a parse of the command line.
-use Rattle.std.proofs.Common.{◌≡◌, ℕ, List, [], ◌∷◌, Bool, true, false, inl, inr, refl, sym, ap, ap₂, ◌∙◌}
+use Rattle.std.proofs.Common.{◌≡◌, List, [], ◌∷◌, true, false, inl, inr, refl, sym, ap, ap₂, ◌∙◌}
 use Rattle.clap.proofs.OnLiterals.{clap_on_literals}
 use Rattle.clap.specs.Words.{AddsArg, App, HasKind, HasMatchesOf, IsAmong, Kinds, Rule, Text, app_of, fault_of, is_simple, is_simple_and_free, matches_of, rule_of, with_rule}
 use Rattle.clap.specs.declared.builder.arg.Arg.{Arg}

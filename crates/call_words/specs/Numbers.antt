@@ -3,7 +3,7 @@ use Rattle.std.specs.Prelude.{ℕ, Bool, ◌==◌, ◌&&◌, ◌%◌, nat_le, Li
 use Rattle.std.specs.Char.{is_ascii_digit}
 use Rattle.std.specs.List.{list_all}
 use Rattle.std.specs.Str.Parse.{digits_value}
-use Rattle.call_words.specs.Limits.{least_stack, most_stack, least_budget, most_budget, most_digits}
+use Rattle.call_words.specs.Limits.{least_stack, most_stack, least_budget, most_budget, most_digits, most_seed, least_size, most_size}
 
 -- one to twenty decimal digits
 abbrev pub is_decimal : List ℕ → Bool
@@ -26,3 +26,9 @@ stack_at text = option_and_then when_whole (number_within least_stack most_stack
 
 abbrev pub budget_at : List ℕ → Option ℕ
 budget_at text = number_within least_budget most_budget text
+
+abbrev pub text_seed_at : List ℕ → Option ℕ
+text_seed_at text = number_within 0 most_seed text
+
+abbrev pub text_size_at : List ℕ → Option ℕ
+text_size_at text = number_within least_size most_size text

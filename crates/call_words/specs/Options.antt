@@ -5,15 +5,16 @@ use Rattle.std.specs.Option.{option_map_or}
 use Rattle.clap.specs.Words.{Row}
 use Rattle.call_words.specs.declared.compile_options.Allocator.{Allocator}
 use Rattle.call_words.specs.declared.compile_options.Allocator.TheVariants.{Plain}
+use Rattle.call_words.specs.declared.compile_options.Generation.{Generation}
 use Rattle.call_words.specs.declared.compile_options.MachineLimits.{MachineLimits}
 use Rattle.call_words.specs.declared.compile_options.Options.{Options}
 use Rattle.call_words.specs.declared.compile_options.PassName.{PassName}
 use Rattle.call_words.specs.declared.compile_options.PassName.TheVariants as pass
 use Rattle.call_words.specs.declared.request.OptionName.{OptionName}
-use Rattle.call_words.specs.declared.request.OptionName.TheVariants.{Pass, Alloc, Stack, Budget}
+use Rattle.call_words.specs.declared.request.OptionName.TheVariants.{Pass, Alloc, Stack, Budget, Seed, Size}
 use Rattle.call_words.specs.Limits.{default_stack, default_budget}
 use Rattle.call_words.specs.Line.{option_in}
-use Rattle.call_words.specs.Numbers.{stack_at, budget_at}
+use Rattle.call_words.specs.Numbers.{stack_at, budget_at, text_seed_at, text_size_at}
 
 -- none of these options is given
 abbrev pub gives_none : List OptionName → List Row → Bool
@@ -37,7 +38,9 @@ pass_at word =
     else if bytes_eq word (codes "vm") then Some pass.Vm
     else if bytes_eq word (codes "graph") then Some pass.Graph
     else if bytes_eq word (codes "select") then Some pass.Select
+    else if bytes_eq word (codes "live") then Some pass.Live
     else if bytes_eq word (codes "alloc") then Some pass.Alloc
+    else if bytes_eq word (codes "journal") then Some pass.Journal
     else if bytes_eq word (codes "asm") then Some pass.Asm
     else None
 
@@ -55,3 +58,18 @@ with_stack stack budget = option_map (λ n. record { stack = stack; budget = n }
 
 abbrev pub limits_in : List Row → Option MachineLimits
 limits_in rows = option_and_then (λ stack. with_stack stack (budget_in rows)) (stack_in rows)
+
+-- the seed and the size of a text that is made, which have to be given
+abbrev pub seed_option_in : List Row → Option ℕ
+seed_option_in rows = option_and_then text_seed_at (option_in Seed rows)
+
+abbrev pub size_option_in : List Row → Option ℕ
+size_option_in rows = option_and_then text_size_at (option_in Size rows)
+
+abbrev pub generation_of : ℕ → ℕ → Options → MachineLimits → Generation
+generation_of seed size options limits = record { seed = seed; size = size; options = options; limits = limits }
+
+abbrev pub generation_in : List Row → Option Generation
+generation_in rows =
+    option_and_then (λ seed. option_and_then (λ size. option_and_then (λ options. option_map
+    (generation_of seed size options) (limits_in rows)) (options_in rows)) (size_option_in rows)) (seed_option_in rows)

@@ -22,6 +22,17 @@ pub struct MachineLimits {
     pub budget: u64,
 }
 
+/// A text that is made by a seed and a size, and how it is compiled and run.
+#[derive(Clone, Copy, Debug, PartialEq, Eq)]
+pub struct Generation {
+    /// What the choices of the text begin with.
+    pub seed: u32,
+    /// How many functions it has beside `main`, from 1 to 2,000.
+    pub size: u32,
+    pub options: Options,
+    pub limits: MachineLimits,
+}
+
 /// What is printed of a text.
 #[derive(Clone, Copy, Debug, PartialEq, Eq)]
 pub enum PassName {
@@ -33,8 +44,12 @@ pub enum PassName {
     Graph,
     /// Its code over temporaries.
     Select,
+    /// What is live at the ends of its blocks, and where its temporaries are wanted.
+    Live,
     /// Its allocations.
     Alloc,
+    /// What the allocator did, visit by visit.
+    Journal,
     /// Its assembly.
     Asm,
 }

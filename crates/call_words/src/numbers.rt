@@ -13,6 +13,11 @@ const LEAST_BUDGET: u64 = 1;
 
 const MOST_BUDGET: u64 = 1_000_000_000_000;
 
+/// The least and the greatest size of a text that is made.
+const LEAST_SIZE: u64 = 1;
+
+const MOST_SIZE: u64 = 2_000;
+
 /// How many digits a number may have.
 const MOST_DIGITS: usize = 20;
 
@@ -65,4 +70,27 @@ pub(crate) fn budget_at(text: &str) -> Option<u64>
     ensures { result ≡ spec.budget_at text.now }
 {
     number_within(LEAST_BUDGET, MOST_BUDGET, text)
+}
+
+/// The number of a text, where it is from the one to the other and below 2^32.
+fn short_number_within(low: u64, high: u64, text: &str) -> Option<u32>
+    requires { high < 2 ^ 32 }
+    ensures { result ≡ spec.number_within low high text.now }
+{
+    let n = number_within(low, high, text)?;
+    Some(n as u32)
+}
+
+/// The seed of a text, any number below 2^32.
+pub(crate) fn text_seed_at(text: &str) -> Option<u32>
+    ensures { result ≡ spec.text_seed_at text.now }
+{
+    short_number_within(0, u64::from(u32::MAX), text)
+}
+
+/// The size of a text.
+pub(crate) fn text_size_at(text: &str) -> Option<u32>
+    ensures { result ≡ spec.text_size_at text.now }
+{
+    short_number_within(LEAST_SIZE, MOST_SIZE, text)
 }

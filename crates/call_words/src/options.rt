@@ -6,9 +6,9 @@ ghost use Rattle.clap.specs.Words.{found_of, rows_of};
 ghost use Rattle.call_words.specs.Line as line;
 ghost use Rattle.call_words.specs.Options as spec;
 
-use crate::compile_options::{Allocator, MachineLimits, Options, PassName};
+use crate::compile_options::{Allocator, Generation, MachineLimits, Options, PassName};
 use crate::line::option_in;
-use crate::numbers::{budget_at, stack_at};
+use crate::numbers::{budget_at, stack_at, text_seed_at, text_size_at};
 use crate::request::OptionName;
 use clap::ArgMatches;
 
@@ -65,7 +65,9 @@ fn pass_at(word: &str) -> Option<PassName>
         "vm" => Some(PassName::Vm),
         "graph" => Some(PassName::Graph),
         "select" => Some(PassName::Select),
+        "live" => Some(PassName::Live),
         "alloc" => Some(PassName::Alloc),
+        "journal" => Some(PassName::Journal),
         "asm" => Some(PassName::Asm),
         _ => None,
     }
@@ -107,4 +109,35 @@ pub(crate) fn limits_in(matches: &ArgMatches<'_>) -> Option<MachineLimits>
     let stack = stack_in(matches)?;
     let budget = budget_in(matches)?;
     Some(MachineLimits { stack, budget })
+}
+
+/// The seed of a text that is made, which has to be given.
+fn seed_option_in(matches: &ArgMatches<'_>) -> Option<u32>
+    ensures { result ≡ spec.seed_option_in (rows_of (found_of matches.now)) }
+{
+    text_seed_at(option_in(OptionName::Seed, matches)?)
+}
+
+/// The size of a text that is made, which has to be given.
+fn size_option_in(matches: &ArgMatches<'_>) -> Option<u32>
+    ensures { result ≡ spec.size_option_in (rows_of (found_of matches.now)) }
+{
+    text_size_at(option_in(OptionName::Size, matches)?)
+}
+
+/// The text that is to be made, and how it is compiled and run.
+pub(crate) fn generation_in(matches: &ArgMatches<'_>) -> Option<Generation>
+    ensures value { result ≡ spec.generation_in (rows_of (found_of matches.now)) }
+    ensures stack { IfSome result (λ generation. IsStack generation.limits.stack) }
+{
+    let seed = seed_option_in(matches)?;
+    let size = size_option_in(matches)?;
+    let options = options_in(matches)?;
+    let limits = limits_in(matches)?;
+    Some(Generation {
+        seed,
+        size,
+        options,
+        limits,
+    })
 }

@@ -1,8 +1,8 @@
 //! What a call asks for.
 
-use crate::compile_options::{MachineLimits, Options, PassName};
+use crate::compile_options::{Generation, MachineLimits, Options, PassName};
 
-/// What is asked for.
+/// What is asked for over a file.
 #[derive(Clone, Copy, Debug, PartialEq, Eq)]
 pub enum Command {
     /// To compile a C file, and write its image.
@@ -21,11 +21,13 @@ pub enum Command {
     Print(PassName, Options),
 }
 
-/// A command and the name of its file.
+/// What the words ask for.
 #[derive(Clone, Copy, Debug, PartialEq, Eq)]
-pub struct Request<'a> {
-    pub command: Command,
-    pub file: &'a str,
+pub enum Request<'a> {
+    /// A command over the file of a name.
+    OnFile { command: Command, file: &'a str },
+    /// `gen`: to make a text, compile it, run its image on an empty input, and write how that went.
+    Generate(Generation),
 }
 
 /// The options that there are.

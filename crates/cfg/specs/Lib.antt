@@ -3,6 +3,7 @@ pub mod Walks
 pub mod Paths
 pub mod Contents
 pub mod Measures
+pub mod ReachedParts
 pub mod Renumber
 pub mod model
 pub mod cfg_text

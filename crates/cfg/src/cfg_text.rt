@@ -3,6 +3,5 @@
 //! `specs/cfg_text/Text.antt` says what it is.
 
 mod graphs;
-mod words;
 
 pub use graphs::graph_text;

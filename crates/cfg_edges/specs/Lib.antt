@@ -1,3 +1,4 @@
 pub mod Critical
 pub mod Added
+pub mod SplitFunctions
 pub mod model

@@ -1,14 +1,9 @@
 //! Functions in which no edge leads from a block with two successors to one with two predecessors.
 
-ghost use Rattle.std.specs.Prelude.{◌≡◌, ◌≤◌, ◌<◌, ◌+◌, ◌*◌, ◌^◌, All, IsTrue, length, map, IfOk};
+ghost use Rattle.std.specs.Prelude.{◌≡◌, ◌<◌, ◌+◌, ◌*◌, ◌^◌, All, IsTrue, length, IfOk};
 ghost use Rattle.pass_core.specs.Functions.{AllInsns, GoesToBlocks, EndsLate, stops, count_of};
-ghost use Rattle.cfg.specs.Edges.{successors_from, predecessors, edge_count};
-ghost use Rattle.cfg.specs.Walks.{SameWalks};
-ghost use Rattle.cfg.specs.Paths.{AllReached};
-ghost use Rattle.cfg.specs.Contents.{KeepsBlocks, KeepsBack};
-ghost use Rattle.cfg_edges.specs.Critical.{NoneCritical, critical_count};
-ghost use Rattle.cfg_edges.specs.Added.{AddsJumps};
-ghost use Rattle.cfg_edges.specs.model.Split.{is_split};
+ghost use Rattle.cfg.specs.Edges.{successors_from, predecessors};
+ghost use Rattle.cfg_edges.specs.SplitFunctions.{IsSplitOf};
 ghost use Rattle.cfg_edges.specs.model.SplitPart.{IsSplitPart};
 
 use crate::marks::{numbers_of, splits_of};
@@ -47,23 +42,7 @@ fn split_part<I: Insn>(
 /// jumps to its target.
 pub fn split_edges<I: Insn>(alloc: Global, f: Func<I>) -> Result<Func<I>, AllocError>
     requires { 5 * length f.blocks + count_of f.blocks < 2 ^ 30 }
-    ensures split { IfOk result (λ g. NoneCritical I.targets I.flows_on g.blocks) }
-    ensures walks { IfOk result (λ g. SameWalks I.targets I.with_target I.flows_on f.blocks g.blocks) }
-    ensures contents { IfOk result (λ g. KeepsBlocks I.targets I.with_target I.flows_on f.blocks g.blocks) }
-    ensures back { IfOk result (λ g. KeepsBack I.targets I.with_target I.flows_on f.blocks g.blocks) }
-    ensures reached { IfOk result (λ g.
-        AllReached I.targets I.flows_on f.blocks → AllReached I.targets I.flows_on g.blocks) }
-    ensures added { IfOk result (λ g. AddsJumps I.targets I.with_target I.jump_to f.blocks g.blocks) }
-    ensures blocks { IfOk result (λ g.
-        length g.blocks ≤ length f.blocks + 2 * critical_count I.targets I.flows_on f.blocks) }
-    ensures insns { IfOk result (λ g.
-        count_of g.blocks ≤ count_of f.blocks + 2 * critical_count I.targets I.flows_on f.blocks) }
-    ensures edges { IfOk result (λ g.
-        length g.blocks ≤ length f.blocks + edge_count (successors_from I.targets I.flows_on 0 f.blocks)) }
-    ensures name { IfOk result (λ g. g.name ≡ f.name) }
-    ensures params { IfOk result (λ g. g.params ≡ f.params) }
-    ensures temps { IfOk result (λ g. g.temps ≡ f.temps) }
-    ensures objects { IfOk result (λ g. g.objects ≡ f.objects) }
+    ensures { IfOk result (λ g. IsSplitOf I.targets I.with_target I.jump_to I.flows_on f g) }
 {
     let graph = build(alloc, &f)?;
     let Func {

@@ -1,26 +1,26 @@
 -- What `vm` answers for a text that has a unit.
-use Rattle.std.proofs.Common.{◌≡◌, ◌≢◌, ℕ, ◌<◌, List, All, inl, inr, Some, refl, sym, ap, ◌∙◌, subst}
+use Rattle.std.proofs.Common.{◌≡◌, ◌≢◌, ℕ, List, inl, inr, Some, refl, sym, ap, ◌∙◌, subst}
 use Rattle.mem_model.specs.World.{World, Rooms}
 use Rattle.mem_model.specs.Ending.{Ending, Done, Trap, Undefined, More, ending_output}
 use Rattle.suifvm_meaning.specs.Behave.{behave_vm}
 use Rattle.suifvm_meaning.specs.Laws.{OneVmEnding, VmKeepsOutput}
 use Rattle.machine_model.specs.Laws.{IsPrefix}
-use Rattle.bk_io.specs.Outside.{taken_with, Traffic}
+use Rattle.bk_io.specs.Outside.{taken_with, Traffic, OnInput}
+use Rattle.bk_io.proofs.Inputs.{on_nothing, on_same}
 use Rattle.c_mean.specs.Behaviour as c
 use Rattle.c_mean.specs.Behaviour.{CBehaviour, output_of}
 use Rattle.c_typed_tree.specs.declared.units.TypedUnit.{TypedUnit}
-use Rattle.c_typed_tree.specs.Lawful.{IsTypedUnit}
 use Rattle.c_semantics.specs.Behaves.{behave_c, behaviour_of, rooms_of}
 use Rattle.suifvm_ir.specs.declared.program.VmProgram.{VmProgram}
 use Rattle.suifvm_run.specs.declared.ending.VmEnding.{VmEnding}
 use Rattle.suifvm_run.specs.declared.ending.VmEnding.TheVariants as ending
-use Rattle.suifvm_run.specs.Run.{VmBehaves, GoesOn, program_run}
-use Rattle.lowering_theorem.specs.Laws.{IsCodeOf, BehavesAsUnit, BehavioursAreKept}
+use Rattle.suifvm_run.specs.Run.{VmBehaves, VmBehavesOn, GoesOn, program_run}
+use Rattle.lowering_theorem.specs.Laws.{CodeRunsAs, BehavesAsUnit, BehavioursAreKept}
 use Rattle.call_outcomes.specs.declared.outcome.Outcome.{Outcome}
 use Rattle.call_outcomes.specs.declared.outcome.Outcome.TheVariants.{Ran, Trapped, Budget}
 use Rattle.compile_calls.specs.Built.{IsBuilt}
 use Rattle.compile_calls.specs.Vm.{outcome_of_ending, RunsProgram}
-use Rattle.compile_call_laws.specs.Laws.{IsOutcomeOf, PutsFrontOf, AnswersAs, TextsWithAUnitAreNotRefused, VmAnswersAsTheTextMeans}
+use Rattle.compile_call_laws.specs.Laws.{IsOutcomeOf, PutsFrontOf, AnswersAs, AnswersOn, TextsWithAUnitAreNotRefused, VmAnswersAsTheTextMeans}
 use Rattle.compile_calls.proofs.Units.{OneTree}
 use Rattle.compile_call_laws.proofs.Builds.{of_text, same_unit}
 use Rattle.compile_call_laws.proofs.Fronts.{front_of_ending}
@@ -50,32 +50,43 @@ module _ (text : List ℕ) (turns : ℕ) (before after : Traffic) (b : CBehaviou
         let of_e : IsPrefix last.outer.output (output_of (behaviour_of e)) = of_behaviour last.outer.output e (λ u. ne (sym is ∙ u)) front in
         (last.outer.output, subst (λ x. IsPrefix last.outer.output (output_of x)) is of_e, taken)
 
-    by_ending : (v : VmEnding) → VmBehaves rooms program input turns v before after → AnswersAs text turns b before after (outcome_of_ending turns v)
-    by_ending (ending.Ended status) r = meant (Done r.last status) (Ran status) (same (Done r.last status) r.stops) refl r.taken
-    by_ending (ending.Trapped code) r = meant (Trap r.last code) (Trapped code) (same (Trap r.last code) r.stops) refl r.taken
-    by_ending (ending.Undefined pc) r = absurd (ne (sym (same (Undefined r.last pc) r.stops)))
-    by_ending (ending.Budget left) r = meant (More r.last) (Budget turns) (same (More r.last) r.stops.1) refl r.taken
-    by_ending ending.InputFault r = AnswersAs.input_fault refl (puts_front r.last r.stops.before r.taken)
-    by_ending ending.WriteFault r = AnswersAs.write_fault refl (puts_front r.last r.stops.before r.taken)
-    by_ending ending.NoMemory r = AnswersAs.short_later refl r.stops.1 (puts_front r.last r.stops.0 r.taken)
+    by_ending : (rest : List ℕ) (v : VmEnding) → VmBehaves rooms program input rest turns v before after → AnswersAs text turns b before after (outcome_of_ending turns v)
+    by_ending rest (ending.Ended status) r = meant (Done r.last status) (Ran status) (same (Done r.last status) r.stops) refl r.taken
+    by_ending rest (ending.Trapped code) r = meant (Trap r.last code) (Trapped code) (same (Trap r.last code) r.stops) refl r.taken
+    by_ending rest (ending.Undefined pc) r = absurd (ne (sym (same (Undefined r.last pc) r.stops)))
+    by_ending rest (ending.Budget left) r = meant (More r.last) (Budget turns) (same (More r.last) r.stops.1) refl r.taken
+    by_ending rest ending.InputFault r = AnswersAs.input_fault refl (puts_front r.last r.stops.before r.taken)
+    by_ending rest ending.WriteFault r = AnswersAs.write_fault refl (puts_front r.last r.stops.before r.taken)
+    by_ending rest ending.NoMemory r = AnswersAs.short_later refl r.stops.1 (puts_front r.last r.stops.0 r.taken)
+
+-- where nothing was done this is due on each input
+on_each : (text : List ℕ) (unit : TypedUnit) (turns : ℕ) (answer : Outcome) (before after : Traffic) → after ≡ before → ((b : CBehaviour) → AnswersAs text turns b before after answer) → OnInput before.left after.left (AnswersOn text unit turns answer before after)
+on_each text unit turns answer before after same answers =
+    subst (λ t. OnInput before.left t.left (AnswersOn text unit turns answer before after)) (sym same)
+    (on_nothing before.left (AnswersOn text unit turns answer before after) (λ rest may bytes ne. answers (behave_c unit rest turns)))
 
 module _ (one_tree : OneTree) (not_refused : TextsWithAUnitAreNotRefused) (one_ending : OneVmEnding) (keeps : VmKeepsOutput) (kept : BehavioursAreKept) where
-  by_program : (text input : List ℕ) (unit : TypedUnit) (turns : ℕ) (answer : Outcome) (before after : Traffic) (program : VmProgram) → IsTypedUnit unit → IsCodeOf unit program
-      → before.left ≡ Some input → All (λ byte. byte < 256) input → behave_c unit input turns ≢ c.Undefined → RunsProgram turns program answer before after
-      → AnswersAs text turns (behave_c unit input turns) before after answer
-  by_program text input unit turns answer before after program typed code told bytes ne runs =
-      let it : BehavesAsUnit unit program input turns = kept unit program typed code input turns bytes ne in
-      subst (AnswersAs text turns (behave_c unit input turns) before after) (sym runs.1)
-      (by_ending text turns before after (behave_c unit input turns) one_ending keeps ne (rooms_of unit) program input it.ending it.ends it.behaviour runs.0 (runs.2 (rooms_of unit) input told))
+  by_ending_on : (text : List ℕ) (unit : TypedUnit) (turns : ℕ) (before after : Traffic) (program : VmProgram) (v : VmEnding) → CodeRunsAs unit program
+      → (input rest : List ℕ) → VmBehavesOn program turns v before after input rest → AnswersOn text unit turns (outcome_of_ending turns v) before after input rest
+  by_ending_on text unit turns before after program v does input rest behaves bytes ne =
+      let it : BehavesAsUnit unit program input turns = kept unit program does input turns bytes ne in
+      by_ending text turns before after (behave_c unit input turns) one_ending keeps ne (rooms_of unit) program input it.ending it.ends it.behaviour rest v (behaves (rooms_of unit))
+
+  by_program : (text : List ℕ) (unit : TypedUnit) (turns : ℕ) (answer : Outcome) (before after : Traffic) (program : VmProgram) → CodeRunsAs unit program
+      → RunsProgram turns program answer before after → OnInput before.left after.left (AnswersOn text unit turns answer before after)
+  by_program text unit turns answer before after program does runs =
+      subst (λ a. OnInput before.left after.left (AnswersOn text unit turns a before after)) (sym runs.1)
+      (on_same before.left after.left (VmBehavesOn program turns runs.0 before after) (AnswersOn text unit turns (outcome_of_ending turns runs.0) before after)
+      (by_ending_on text unit turns before after program runs.0 does) runs.2)
 
   pub answers : VmAnswersAsTheTextMeans
-  answers text input unit allocator turns answer before after has told bytes ne runs = elim runs [
+  answers text unit allocator turns answer before after has runs = elim runs [
     | inl w ↦ elim (not_refused text unit answer has w.0) [
-      | inl file ↦ AnswersAs.file_fault file w.1
-      | inr memory ↦ AnswersAs.no_memory memory.0 w.1 memory.1
+      | inl file ↦ on_each text unit turns answer before after w.1 (λ b. AnswersAs.file_fault file w.1)
+      | inr memory ↦ on_each text unit turns answer before after w.1 (λ b. AnswersAs.no_memory memory.0 w.1 memory.1)
     ]
     | inr m ↦
         let is : IsBuilt text allocator m.0 = of_text text allocator m.0 m.1 in
         let same : m.0.typed.unit ≡ unit = same_unit one_tree text unit allocator m.0 has is in
-        by_program text input unit turns answer before after m.0.vm (subst IsTypedUnit same m.0.typed.lawful.typed) (subst (λ u. IsCodeOf u m.0.vm) same is.made.code) told bytes ne m.2
+        by_program text unit turns answer before after m.0.vm (subst (λ u. CodeRunsAs u m.0.vm) same is.made.code_runs) m.2
   ]

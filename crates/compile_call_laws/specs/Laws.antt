@@ -1,7 +1,7 @@
 -- What the commands that compile answer for a text is what the text means (C99 5.1.2.3).
 use Rattle.std.specs.Prelude.{◌≡◌, ◌≢◌, ℕ, ◌<◌, ◌≤◌, ◌⊎◌, List, All, length, Option, Some}
 use Rattle.bk_memory.specs.Shortage.{MemoryIsShort}
-use Rattle.bk_io.specs.Outside.{taken_with, Traffic}
+use Rattle.bk_io.specs.Outside.{taken_with, Traffic, OnInput}
 use Rattle.machine_model.specs.Laws.{IsPrefix}
 use Rattle.mem_model.specs.Bytes.{AreBytes}
 use Rattle.alpha_isa.specs.Program.{Program, IsLawful}
@@ -11,7 +11,7 @@ use Rattle.c_mean.specs.Behaviour as c
 use Rattle.c_mean.specs.Behaviour.{Meaning, CBehaviour, Good, output_of}
 use Rattle.c_lexer.specs.Limits.{text_limit}
 use Rattle.c_tree.specs.declared.declarations.TranslationUnit.{TranslationUnit}
-use Rattle.c_parser.specs.Reading.{IsTooHigh}
+use Rattle.c_parser.specs.Reading.{IsTooDeep}
 use Rattle.c_typed_tree.specs.declared.units.TypedUnit.{TypedUnit}
 use Rattle.c_typed_tree.specs.Weight.{unit_weight}
 use Rattle.c_semantics.specs.Behaves.{meaning, behave_c, IsEnded}
@@ -34,9 +34,9 @@ pub record HasUnit (text : List ℕ) (unit : TypedUnit) : Type 0 where
   pub tree : TranslationUnit
   pub is_unit : IsUnitWithin text tree unit
 
--- why there is no memory for a text: it is short, or the tree of the text is higher than is taken
+-- why there is no memory for a text: it is short, or the text is deeper than is taken
 abbrev pub IsShortFor : List ℕ → Type 0
-IsShortFor text = MemoryIsShort ⊎ IsTooHigh text
+IsShortFor text = MemoryIsShort ⊎ IsTooDeep text
 
 abbrev pub TextsWithAUnitAreNotRefused : Type 0
 TextsWithAUnitAreNotRefused =
@@ -90,13 +90,17 @@ pub data RunsUnit (text : List ℕ) (unit : TypedUnit) (input : List ℕ) (budge
   file_fault : after ≡ before → RunsUnit text unit input budget before after FileFault
   no_memory : after ≡ before → IsShortFor text → RunsUnit text unit input budget before after NoMemory
 
+-- what is due on an input of bytes, where the unit promises something on it
+abbrev pub RunsUnitOn : (text : List ℕ) → TypedUnit → MachineLimits → Outcome → Traffic → Traffic →
+    (input rest : List ℕ) → Type 0
+RunsUnitOn text unit limits answer before after input rest =
+    AreBytes input → Good (meaning unit) input limits.stack → RunsUnit text unit input limits.budget before after answer
+
 abbrev pub RunDoesWhatTheTextMeans : Type 0
 RunDoesWhatTheTextMeans =
-    (text input : List ℕ) (unit : TypedUnit) (limits : MachineLimits) (answer : Outcome)
-    (before after : Traffic) → HasUnit text unit → IsStack limits.stack → before.left ≡ Some input →
-    AreBytes input → Good (meaning unit) input limits.stack →
-    Runs limits (Some text) answer before after →
-    RunsUnit text unit input limits.budget before after answer
+    (text : List ℕ) (unit : TypedUnit) (limits : MachineLimits) (answer : Outcome) (before after : Traffic) →
+    HasUnit text unit → IsStack limits.stack → Runs limits (Some text) answer before after →
+    OnInput before.left after.left (RunsUnitOn text unit limits answer before after)
 
 -- ---- `vm`
 
@@ -127,9 +131,15 @@ pub data AnswersAs (text : List ℕ) (turns : ℕ) (b : CBehaviour) (before afte
   file_fault : answer ≡ FileFault → after ≡ before → AnswersAs text turns b before after answer
   no_memory : answer ≡ NoMemory → after ≡ before → IsShortFor text → AnswersAs text turns b before after answer
 
+-- what is due on an input of bytes, where the unit's behaviour on it is defined
+abbrev pub AnswersOn : (text : List ℕ) → TypedUnit → (turns : ℕ) → Outcome → Traffic → Traffic →
+    (input rest : List ℕ) → Type 0
+AnswersOn text unit turns answer before after input rest =
+    All (λ byte. byte < 256) input → behave_c unit input turns ≢ c.Undefined →
+    AnswersAs text turns (behave_c unit input turns) before after answer
+
 abbrev pub VmAnswersAsTheTextMeans : Type 0
 VmAnswersAsTheTextMeans =
-    (text input : List ℕ) (unit : TypedUnit) (allocator : Allocator) (turns : ℕ) (answer : Outcome)
-    (before after : Traffic) → HasUnit text unit → before.left ≡ Some input → All (λ byte. byte < 256) input →
-    behave_c unit input turns ≢ c.Undefined → RunsText allocator turns (Some text) answer before after →
-    AnswersAs text turns (behave_c unit input turns) before after answer
+    (text : List ℕ) (unit : TypedUnit) (allocator : Allocator) (turns : ℕ) (answer : Outcome)
+    (before after : Traffic) → HasUnit text unit → RunsText allocator turns (Some text) answer before after →
+    OnInput before.left after.left (AnswersOn text unit turns answer before after)

@@ -23,10 +23,10 @@ pub fn build_writes_what_the_text_means()
     read_or_refused();
 }
 
-/// `run` ends or traps for such a text as the unit does, on each input of bytes that is told and on which the unit
-/// promises something with the stack of the run, unless its steps are too few, the outside fails or memory is short;
-/// it puts what the unit puts, or a front of that, and is never stuck. Where the unit ends within `n` turns,
-/// `1_228_800 * w * (n + 1)` steps are enough, for its weight `w`.
+/// `run` ends or traps for such a text as the unit does, where that promises something on the input with the stack of the
+/// run, unless its steps are too few, the outside fails or memory is short; it puts what the unit puts, or a front of
+/// that, and is never stuck. Where the unit ends within `n` turns, `1_228_800 * w * (n + 1)` steps are enough, for its
+/// weight `w`. The input is what was left, where that is told, and else there is such an input.
 pub fn run_does_what_the_text_means()
     ensures { RunDoesWhatTheTextMeans }
 {
@@ -34,9 +34,10 @@ pub fn run_does_what_the_text_means()
     read_or_refused();
 }
 
-/// `vm` answers for such a text as the unit behaves within the turns asked for, on each input of bytes that is told,
-/// wherever that is defined, and puts what the unit puts; or a front of that where the input or the output fails, or
-/// memory gets short on the way; or nothing where the file fails or memory is short.
+/// `vm` answers for such a text as the unit behaves on the input within the turns asked for, wherever that is defined,
+/// and puts what the unit puts; or a front of that where the input or the output fails, or memory gets short on the way;
+/// or nothing where the file fails or memory is short. The input is what was left, where that is told, and else there is
+/// such an input.
 pub fn vm_answers_as_the_text_means()
     ensures { VmAnswersAsTheTextMeans }
 {

@@ -15,7 +15,7 @@ compile_cause text (Limit Nesting counted) low h = (low, h)
 compile_cause text (Limit Weight counted) low h = (low, h)
 compile_cause text (Limit Data counted) low h = (low, h)
 compile_cause text NoMemory low (inl short) = inl short
-compile_cause text NoMemory low (inr high) = inr (low, high)
+compile_cause text NoMemory low (inr deep) = inr (low, deep)
 
 pub no_compile_fault : (f : CompileFault) → IsNoFault (outcome_of_compile_fault f)
 no_compile_fault (Source source) = (λ e. cc, λ e. cc, λ e. cc)

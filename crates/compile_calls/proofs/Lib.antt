@@ -5,3 +5,5 @@ pub mod Made
 pub mod Units
 pub mod Steps
 pub mod Runs
+pub mod GeneratedRuns
+pub mod Summaries

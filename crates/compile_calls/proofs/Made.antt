@@ -13,7 +13,8 @@ use Rattle.compiler.specs.Correct.{IsCorrectImage}
 use Rattle.compile_calls.specs.Compile.{HasCorrectImage}
 use Rattle.compile_calls.specs.Build.{Builds, BuildsMade}
 use Rattle.compile_calls.specs.Run.{Runs, RunsMade}
-use Rattle.compile_calls.specs.model.Images.{IsImageOfShortText, HasFileImage}
+use Rattle.compile_calls.specs.Images.{IsImageOfShortText}
+use Rattle.compile_calls.specs.model.Images.{HasFileImage}
 use Rattle.compile_calls.proofs.Told.{IsReadOf, built_told}
 
 pub image_told : (told : Option Shelf) (name text : List ℕ) (allocator : Allocator) (image : Program) → IsReadOf told name text → IsImageOfShortText text allocator image → HasFileImage (file_bytes told name) allocator image

@@ -1,6 +1,7 @@
 -- How many steps are enough.
 use Rattle.std.proofs.Common.{◌≡◌, ℕ, ◌+◌, ◌-◌, ◌*◌, ◌≤◌, List, inl, inr, length, Option, refl, sym, ap, ◌∙◌, subst, arith}
-use Rattle.bk_io.specs.Outside.{Traffic}
+use Rattle.bk_io.specs.Outside.{Traffic, OnInput}
+use Rattle.bk_io.proofs.Inputs.{on_nothing, on_same}
 use Rattle.mem_model.specs.Bytes.{AreBytes}
 use Rattle.alpha_isa.specs.Program.{Program}
 use Rattle.alpha_isa.specs.Behave.{IsStack, behave_a}
@@ -17,10 +18,10 @@ use Rattle.call_outcomes.specs.declared.outcome.Outcome.{Outcome}
 use Rattle.call_outcomes.specs.declared.outcome.Outcome.TheVariants.{Budget, NoMemory}
 use Rattle.call_outcomes.specs.FromFile.{IsCause}
 use Rattle.call_words.specs.declared.compile_options.MachineLimits.{MachineLimits}
-use Rattle.call_images.specs.RunImage.{outcome_of_ending}
+use Rattle.call_images.specs.RunImage.{outcome_of_ending, RunsImageOn}
 use Rattle.compiler.specs.Correct.{IsCorrectFor, EndsSoonOn}
-use Rattle.compile_calls.specs.Compile.{RefusesText}
-use Rattle.compile_calls.specs.Run.{Runs, enough_steps, EndsWithEnoughSteps}
+use Rattle.compile_calls.specs.Compile.{RefusesText, HasCorrectImage}
+use Rattle.compile_calls.specs.Run.{Runs, enough_steps, HasEnoughSteps, EndsWithEnoughSteps}
 use Rattle.compile_calls.proofs.Units.{OneTree, right_for}
 
 -- ---- numbers
@@ -63,25 +64,41 @@ has_ended unit p stack is_stack right input bytes good turns budget ended enough
 
 -- ---- so its run does not use up its steps
 
-goes_on : (p : Program) (stack : ℕ) (input : List ℕ) (budget : ℕ) (before after : Traffic) (e : Ending) → MachineBehaves p stack input budget e before after → outcome_of_ending budget e ≡ Budget budget → (put : List ℕ) × (behave_a p stack input budget ≡ alpha.More put)
-goes_on p stack input budget before after (ending.Done status) b is = absurd (cc)
-goes_on p stack input budget before after (ending.Trap code) b is = absurd (cc)
-goes_on p stack input budget before after (ending.Stuck pc) b is = absurd (cc)
-goes_on p stack input budget before after ending.Budget b is = (b.place.output, b.gives)
-goes_on p stack input budget before after ending.InputFault b is = absurd (cc)
-goes_on p stack input budget before after ending.WriteFault b is = absurd (cc)
+goes_on : (p : Program) (stack : ℕ) (input rest : List ℕ) (budget : ℕ) (before after : Traffic) (e : Ending) → MachineBehaves p stack input rest budget e before after → outcome_of_ending budget e ≡ Budget budget → (put : List ℕ) × (behave_a p stack input budget ≡ alpha.More put)
+goes_on p stack input rest budget before after (ending.Done status) b is = absurd (cc)
+goes_on p stack input rest budget before after (ending.Trap code) b is = absurd (cc)
+goes_on p stack input rest budget before after (ending.Stuck pc) b is = absurd (cc)
+goes_on p stack input rest budget before after ending.Budget b is = (b.place.output, b.gives)
+goes_on p stack input rest budget before after ending.InputFault b is = absurd (cc)
+goes_on p stack input rest budget before after ending.WriteFault b is = absurd (cc)
 
-pub refused : (limits : MachineLimits) (told : Option (List ℕ)) (answer : Outcome) (before : Traffic) → IsCause (RefusesText told) answer → EndsWithEnoughSteps limits told answer before
-refused limits told answer before cause text input tree unit turns is_told is_unit left bytes good ended enough is =
+refused_on : (limits : MachineLimits) (told : Option (List ℕ)) (answer : Outcome) → IsCause (RefusesText told) answer → (input rest : List ℕ) → HasEnoughSteps limits told answer input rest
+refused_on limits told answer cause input rest text tree unit turns is_told is_unit bytes good ended enough is =
     subst (IsCause (RefusesText told)) is cause
 
-pub enough : OneTree → (limits : MachineLimits) (told : Option (List ℕ)) (answer : Outcome) (before after : Traffic) → IsStack limits.stack → Runs limits told answer before after → EndsWithEnoughSteps limits told answer before
-enough one_tree limits told answer before after is_stack runs text input tree unit turns is_told is_unit left bytes good ended much is = elim runs [
-  | inl w ↦ refused limits told answer before w.0 text input tree unit turns is_told is_unit left bytes good ended much is
+pub refused : (limits : MachineLimits) (told : Option (List ℕ)) (answer : Outcome) (before after : Traffic) → IsCause (RefusesText told) answer → after ≡ before → EndsWithEnoughSteps limits told answer before after
+refused limits told answer before after cause same =
+    subst (λ t. OnInput before.left t.left (HasEnoughSteps limits told answer)) (sym same)
+    (on_nothing before.left (HasEnoughSteps limits told answer) (λ rest may. refused_on limits told answer cause rest rest))
+
+enough_on : OneTree → (limits : MachineLimits) (told : Option (List ℕ)) (answer : Outcome) (before after : Traffic) (p : Program) (e : Ending) → IsStack limits.stack → HasCorrectImage told p → answer ≡ outcome_of_ending limits.budget e → (input rest : List ℕ) → RunsImageOn limits p e before after input rest → HasEnoughSteps limits told answer input rest
+enough_on one_tree limits told answer before after p e is_stack right is_answer input rest behaves text tree unit turns is_told is_unit bytes good ended much is =
+    let goes = goes_on p limits.stack input rest limits.budget before after e behaves (sym is_answer ∙ is) in
+    has_ended unit p limits.stack is_stack (right_for one_tree told p text tree unit is_told is_unit.is_unit right) input bytes good turns limits.budget ended much goes.0 goes.1
+
+-- where memory is short nothing is used up
+short_on : (limits : MachineLimits) (told : Option (List ℕ)) (answer : Outcome) → answer ≡ NoMemory → (input rest : List ℕ) → HasEnoughSteps limits told answer input rest
+short_on limits told answer none input rest text tree unit turns is_told is_unit bytes good ended enough is =
+    let clash : NoMemory ≡ Budget limits.budget = sym none ∙ is in cc
+
+pub enough : OneTree → (limits : MachineLimits) (told : Option (List ℕ)) (answer : Outcome) (before after : Traffic) → IsStack limits.stack → Runs limits told answer before after → EndsWithEnoughSteps limits told answer before after
+enough one_tree limits told answer before after is_stack runs = elim runs [
+  | inl w ↦ refused limits told answer before after w.0 w.1
   | inr w ↦ elim w.2 [
-    | inl none ↦ (let clash : NoMemory ≡ Budget limits.budget = sym none.0 ∙ is in cc)
-    | inr e ↦
-        let goes = goes_on w.0 limits.stack input limits.budget before after e.0 (e.2 input left) (sym e.1 ∙ is) in
-        has_ended unit w.0 limits.stack is_stack (right_for one_tree told w.0 text tree unit is_told is_unit.is_unit w.1) input bytes good turns limits.budget ended much goes.0 goes.1
+    | inl none ↦
+        subst (λ t. OnInput before.left t.left (HasEnoughSteps limits told answer)) (sym none.1)
+        (on_nothing before.left (HasEnoughSteps limits told answer) (λ rest may. short_on limits told answer none.0 rest rest))
+    | inr e ↦ on_same before.left after.left (RunsImageOn limits w.0 e.0 before after) (HasEnoughSteps limits told answer)
+        (enough_on one_tree limits told answer before after w.0 e.0 is_stack w.1 e.1) e.2
   ]
 ]

@@ -10,7 +10,7 @@ use Rattle.call_outcomes.proofs.Told.{short_told, long_told}
 use Rattle.call_words.specs.declared.compile_options.Allocator.{Allocator}
 use Rattle.compiler.specs.declared.built.Built.{Built}
 use Rattle.compile_calls.specs.Built.{IsBuilt, HasBuilt}
-use Rattle.compile_calls.specs.Compile.{MakesNothing, HasHighTree, RefusesText}
+use Rattle.compile_calls.specs.Compile.{MakesNothing, IsDeepText, RefusesText}
 
 -- what was read of a file
 abbrev pub IsReadOf : Option Shelf → (name text : List ℕ) → Type 0
@@ -36,7 +36,7 @@ limit_told told name text Data counted front n = carry (λ t. MakesNothing t (Li
 pub cause_told : (told : Option Shelf) (name text : List ℕ) (answer : Outcome) → IsReadOf told name text → IsCause (RefusesText (Some text)) answer → IsCause (RefusesText (file_bytes told name)) answer
 cause_told told name text FileFault front c = tt
 cause_told told name text NoMemory front (inl short) = inl short
-cause_told told name text NoMemory front (inr high) = inr (carry HasHighTree told name text high.0 front high)
+cause_told told name text NoMemory front (inr deep) = inr (carry IsDeepText told name text deep.0 front deep)
 cause_told told name text (Refused source) front c = carry (λ t. MakesNothing t (Refused source)) told name text c.0 front c
 cause_told told name text (Limit which counted) front c = limit_told told name text which counted front c
 cause_told told name text _ front c = absurd c

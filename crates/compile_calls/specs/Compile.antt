@@ -2,7 +2,7 @@
 use Rattle.std.specs.Prelude.{◌≡◌, ℕ, ◌<◌, ◌≤◌, List, length, Option, IfSome}
 use Rattle.alpha_isa.specs.Program.{Program}
 use Rattle.c_lexer.specs.Limits.{text_limit}
-use Rattle.c_parser.specs.Reading.{IsTooHigh}
+use Rattle.c_parser.specs.Reading.{IsTooDeep}
 use Rattle.call_outcomes.specs.declared.outcome.Outcome.{Outcome}
 use Rattle.call_outcomes.specs.declared.outcome.Outcome.TheVariants as outcome
 use Rattle.call_outcomes.specs.declared.outcome.Which.TheVariants.{Text}
@@ -32,13 +32,13 @@ MakesNothing text (outcome.Limit which counted) = (length text ≤ text_limit) �
 MakesNothing text (outcome.Refused source) = (length text ≤ text_limit) × HasNoUnit text (Source source)
 MakesNothing text _ = ⊥
 
--- the text is within the limit, and its tree is higher than is taken
-abbrev pub HasHighTree : List ℕ → Type 0
-HasHighTree text = (length text ≤ text_limit) × IsTooHigh text
+-- the text is within the limit of its length, and deeper than is taken
+abbrev pub IsDeepText : List ℕ → Type 0
+IsDeepText text = (length text ≤ text_limit) × IsTooDeep text
 
--- the same of a text that may be told, where want of memory stands for a tree that is too high
+-- the same of a text that may be told, where want of memory stands for a text that is too deep
 abbrev pub RefusesText : Option (List ℕ) → Outcome → Type 0
 RefusesText text (outcome.Limit which counted) = IfSome text (λ t. MakesNothing t (outcome.Limit which counted))
 RefusesText text (outcome.Refused source) = IfSome text (λ t. MakesNothing t (outcome.Refused source))
-RefusesText text outcome.NoMemory = IfSome text HasHighTree
+RefusesText text outcome.NoMemory = IfSome text IsDeepText
 RefusesText text _ = ⊥

@@ -1,10 +1,13 @@
 pub mod Compile
 pub mod Built
+pub mod Images
 pub mod Build
 pub mod Run
 pub mod Vm
 pub mod Texts
 pub mod Print
+pub mod Summary
+pub mod Generate
 pub mod model
 pub use Rattle.compiler.specs.Correct
 pub use Rattle.compiler.specs.Units

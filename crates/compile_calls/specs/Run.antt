@@ -1,6 +1,6 @@
 -- What `run` answers, and what it does to the input and the output.
 use Rattle.std.specs.Prelude.{◌≡◌, ◌≢◌, ℕ, ◌+◌, ◌*◌, ◌≤◌, List, Option, Some}
-use Rattle.bk_io.specs.Outside.{Traffic}
+use Rattle.bk_io.specs.Outside.{Traffic, OnInput}
 use Rattle.mem_model.specs.Bytes.{AreBytes}
 use Rattle.c_mean.specs.Behaviour.{Good}
 use Rattle.c_tree.specs.declared.declarations.TranslationUnit.{TranslationUnit}
@@ -26,14 +26,20 @@ Runs limits text = Does (RefusesText text) (HasCorrectImage text) (RunsImage lim
 abbrev pub enough_steps : (weight turns : ℕ) → ℕ
 enough_steps weight turns = 1228800 * weight * (turns + 1)
 
--- Where the steps are enough, `run` does not answer that they are used up: for a text that is told and has a unit, and
--- an input that is told, on which the unit promises something with this stack and ends or traps within some turns.
-abbrev pub EndsWithEnoughSteps : MachineLimits → Option (List ℕ) → Outcome → Traffic → Type 0
-EndsWithEnoughSteps limits told answer before =
-    (text input : List ℕ) (tree : TranslationUnit) (unit : TypedUnit) (turns : ℕ) → told ≡ Some text →
-    IsUnitWithin text tree unit → before.left ≡ Some input → AreBytes input → Good (meaning unit) input limits.stack →
+-- It is not answered on an input that the steps are used up where they are enough: for a text that is told and has a
+-- unit that promises something on this input with this stack, and on it ends or traps within some turns
+abbrev pub HasEnoughSteps : MachineLimits → Option (List ℕ) → Outcome → (input rest : List ℕ) → Type 0
+HasEnoughSteps limits told answer input rest =
+    (text : List ℕ) (tree : TranslationUnit) (unit : TypedUnit) (turns : ℕ) → told ≡ Some text →
+    IsUnitWithin text tree unit → AreBytes input → Good (meaning unit) input limits.stack →
     IsEnded (behave_c unit input turns) → enough_steps (unit_weight unit) turns ≤ limits.budget →
     answer ≢ Budget limits.budget
+
+-- Where the steps are enough, `run` does not answer that they are used up: on the input that was left, where it is told,
+-- and else on some input.
+abbrev pub EndsWithEnoughSteps : MachineLimits → Option (List ℕ) → Outcome → Traffic → Traffic → Type 0
+EndsWithEnoughSteps limits told answer before after =
+    OnInput before.left after.left (HasEnoughSteps limits told answer)
 
 -- The image is that of what is made of the text by an allocator, pass by pass.
 abbrev pub RunsMade : Allocator → MachineLimits → Option (List ℕ) → Outcome → Traffic → Traffic → Type 0

@@ -1,11 +1,10 @@
 -- What `vm` answers, and what it does to the input and the output.
-use Rattle.std.specs.Prelude.{◌≡◌, ℕ, List, Option, Some}
-use Rattle.mem_model.specs.World.{Rooms}
+use Rattle.std.specs.Prelude.{◌≡◌, ℕ, List, Option}
 use Rattle.suifvm_ir.specs.declared.program.VmProgram.{VmProgram}
 use Rattle.suifvm_run.specs.declared.ending.VmEnding.{VmEnding}
 use Rattle.suifvm_run.specs.declared.ending.VmEnding.TheVariants as ending
-use Rattle.suifvm_run.specs.Run.{VmBehaves}
-use Rattle.bk_io.specs.Outside.{Traffic}
+use Rattle.suifvm_run.specs.Run.{VmBehavesOn}
+use Rattle.bk_io.specs.Outside.{Traffic, OnInput}
 use Rattle.call_outcomes.specs.declared.outcome.Outcome.{Outcome}
 use Rattle.call_outcomes.specs.declared.outcome.Outcome.TheVariants.{Ran, Trapped, Stuck, Budget, InputFault, WriteFault, NoMemory}
 use Rattle.call_outcomes.specs.FromFile.{Does}
@@ -23,11 +22,10 @@ outcome_of_ending turns ending.InputFault = InputFault
 outcome_of_ending turns ending.WriteFault = WriteFault
 outcome_of_ending turns ending.NoMemory = NoMemory
 
--- the run of a program within so many turns, on the input that is left, where it is told, whatever the rooms are
+-- the run of a program within so many turns, on the input that was left where it is told, and else on some input,
+-- whatever the rooms are
 abbrev pub RunsBy : (turns : ℕ) → VmProgram → VmEnding → Traffic → Traffic → Type 0
-RunsBy turns program e before after =
-    (rooms : Rooms) (input : List ℕ) → before.left ≡ Some input →
-    VmBehaves rooms program input turns e before after
+RunsBy turns program e before after = OnInput before.left after.left (VmBehavesOn program turns e before after)
 
 -- what is answered for a program: how its run ends, or stops
 abbrev pub RunsProgram : (turns : ℕ) → VmProgram → Outcome → Traffic → Traffic → Type 0

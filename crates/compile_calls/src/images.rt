@@ -6,7 +6,8 @@ ghost use Rattle.call_outcomes.specs.FromFile.{file_bytes, IsCause};
 ghost use Rattle.call_outcomes.specs.Output.{file_faults_unless};
 ghost use Rattle.compile_calls.specs.Compile.{RefusesText};
 ghost use Rattle.compile_calls.specs.model.Causes.{IsNoFault};
-ghost use Rattle.compile_calls.specs.model.Images.{IsImageOfShortText, HasFileImage};
+ghost use Rattle.compile_calls.specs.Images.{IsImageOfShortText};
+ghost use Rattle.compile_calls.specs.model.Images.{HasFileImage};
 
 use crate::texts::{SOURCE_LIMIT, outcome_of_fault, within_limit};
 use alpha_isa::image::Image;
@@ -23,7 +24,11 @@ use std::alloc::Global;
 ///
 /// What each command answers for a text of which nothing is made.
 #[tactic(auto, using(crate::proofs::Causes::compile_cause, crate::proofs::Causes::no_compile_fault))]
-fn image_of_text(alloc: Global, text: Vec<u8>, options: &Options) -> Result<Image, Outcome>
+pub(crate) fn image_of_text(
+    alloc: Global,
+    text: Vec<u8>,
+    options: &Options,
+) -> Result<Image, Outcome>
     ensures image { IfOk result (IsImageOfShortText text.items options.now.allocator) }
     ensures cause { IfErr result (IsCause (RefusesText (Some text.items))) }
     ensures no_fault { IfErr result IsNoFault }

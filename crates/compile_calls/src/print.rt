@@ -4,8 +4,7 @@ ghost use Rattle.std.specs.Prelude.{◌≡◌, ◌≢◌, ◌↔◌, IfSome, IsT
 ghost use Rattle.bk_io.specs.Shelf.{is_due, after_call};
 ghost use Rattle.call_outcomes.specs.FromFile.{file_bytes};
 ghost use Rattle.call_outcomes.specs.Output.{file_faults_after, output_faults_after};
-ghost use Rattle.compile_calls.specs.Texts.{text_of_pass};
-ghost use Rattle.compile_calls.specs.Print.{WritesText, Prints};
+ghost use Rattle.compile_calls.specs.Print.{WritesPass, Prints};
 
 use crate::files::compile_file;
 use crate::passes::pass_text;
@@ -19,7 +18,7 @@ use std::alloc::Global;
 /// Writes the text of a pass, all of which is made before the first byte is put.
 fn write_pass<O: Sink>(alloc: Global, pass: PassName, built: &Built, out: &mut O) -> Outcome
     requires { length built.now.allocations.items ≡ length built.now.temps.functions }
-    ensures answer { WritesText (text_of_pass pass built.now) result (O.taken out.old) (O.taken out.new) }
+    ensures answer { WritesPass pass built.now result (O.taken out.old) (O.taken out.new) }
     ensures count { O.faults out.new ≡ output_faults_after result (O.faults out.old) }
     ensures no_file { result ≢ Outcome.FileFault }
     ensures no_input { result ≢ Outcome.InputFault }

@@ -17,7 +17,8 @@ use compiler::Options;
 use std::alloc::Global;
 
 /// Compiles a C file and runs its image, on a stack that a machine takes, for so many steps at most. Where a program
-/// of weight `w` ends within `n` turns, `1_228_800 * w * (n + 1)` steps are enough.
+/// of weight `w` ends within `n` turns on its input, `1_228_800 * w * (n + 1)` steps are enough. The input is what was
+/// left, where that is told, and else there is such an input.
 pub fn run<F: Files, I: Source, O: Sink>(
     alloc: Global,
     options: &Options,
@@ -32,7 +33,8 @@ pub fn run<F: Files, I: Source, O: Sink>(
         (record { left = I.left input.old; made = I.made input.old; taken = O.taken out.old })
         (record { left = I.left input.new; made = I.made input.new; taken = O.taken out.new }) }
     ensures enough { EndsWithEnoughSteps limits (file_bytes (F.told files.old) name.now) result
-        (record { left = I.left input.old; made = I.made input.old; taken = O.taken out.old }) }
+        (record { left = I.left input.old; made = I.made input.old; taken = O.taken out.old })
+        (record { left = I.left input.new; made = I.made input.new; taken = O.taken out.new }) }
     ensures made { RunsMade options.now.allocator limits (file_bytes (F.told files.old) name.now) result
         (record { left = I.left input.old; made = I.made input.old; taken = O.taken out.old })
         (record { left = I.left input.new; made = I.made input.new; taken = O.taken out.new }) }

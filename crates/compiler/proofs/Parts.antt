@@ -12,7 +12,9 @@ use Rattle.c_tree.specs.declared.declarations.TranslationUnit.{TranslationUnit}
 use Rattle.c_typed_tree.specs.declared.units.TypedUnit.{TypedUnit}
 use Rattle.c_typed_tree.specs.declared.c_lawful_unit.LawfulUnit.{LawfulUnit}
 use Rattle.c_typed_tree.specs.Weight.{unit_weight}
-use Rattle.lowering.specs.Lowered.{AreLowered, AreWithinWeight}
+use Rattle.c_typing_weight.specs.Limits.{most_weight}
+use Rattle.lowering.specs.Lowered.{AreLowered, AreWithinWeight, AllStandFor}
+use Rattle.lowering_theorem.specs.Laws.{IsCodeOf, ProgramsKeepMeaning}
 use Rattle.suifvm_ir.specs.declared.program.VmProgram.{VmProgram}
 use Rattle.suifvm_ir.specs.Programs.{program_size}
 use Rattle.temp_ir.specs.declared.program.TempProgram.{TempProgram}
@@ -34,8 +36,8 @@ use Rattle.compiler.specs.declared.built.WantedParts.TheVariants.{Everything, Im
 use Rattle.compiler.specs.Made.{Made, gives}
 use Rattle.compiler.specs.Images.{IsImageOfText}
 use Rattle.compiler.specs.model.Parts.{UnitHasText, IsKept, AreAssemblyPartsOf, parts_of_built, PartsAreWhole, ArePartsOf}
-use Rattle.compiler.specs.model.Stages.{IsLoweredUnit, IsSelectedProgram, ArePassed, IsCodeWithin, ProgramCanBeAssembled, IsAssemblyOfUnit, AssembliesAreMade, ImagesAreCorrect}
-use Rattle.compiler.proofs.Registers.{unit_registers}
+use Rattle.compiler.specs.model.Stages.{DoesAsUnit, IsLoweredUnit, IsSelectedProgram, ArePassed, IsCodeWithin, ProgramCanBeAssembled, IsAssemblyOfUnit, AssembliesAreMade, ImagesAreCorrect}
+use Rattle.compiler.proofs.Registers.{lowered_stand, unit_registers}
 use Rattle.compiler.proofs.Stages.{made_of}
 
 -- ---- what one pass leaves
@@ -44,14 +46,20 @@ use Rattle.compiler.proofs.Stages.{made_of}
 pub not_wanted : {A : Type 0} (value : A) (kept : Option A) → IsKept Image value kept
 not_wanted value kept = λ e. let clash : ⊥ = cc in absurd clash
 
-pub lowered_unit : (u : TypedUnit) (vm : VmProgram) → unit_weight u ≤ 131072 → AreLowered u.structs u.functions vm.functions → vm.globals ≡ u.globals → AreWithinWeight u.structs u.functions vm.functions → program_size vm.functions ≤ 2 ^ 24
-    → IsLoweredUnit u vm
-lowered_unit u vm light functions globals weights size = record {
-  code = record { functions = functions; globals = globals };
-  weights = weights;
-  size = size;
-  registers = unit_registers u vm.functions functions weights light;
-}
+pub lowered_unit : ProgramsKeepMeaning → (u : LawfulUnit) (vm : VmProgram) → unit_weight u.unit ≤ most_weight → AreLowered u.unit.structs u.unit.functions vm.functions → vm.globals ≡ u.unit.globals → AreWithinWeight u.unit.structs u.unit.functions vm.functions → program_size vm.functions ≤ 2 ^ 24
+    → IsLoweredUnit u.unit vm
+lowered_unit keep u vm light functions globals weights size =
+    let stand : AllStandFor u.unit.structs u.unit.functions vm.functions = lowered_stand u.unit.structs u.unit.functions vm.functions functions weights in
+    record {
+      code = record { functions = functions; globals = globals };
+      does = record {
+        functions = stand;
+        globals = globals;
+        runs = keep u.unit vm u.lawful.typed (record { functions = functions; globals = globals });
+        size = size;
+        registers = unit_registers u.unit vm.functions stand light;
+      };
+    }
 
 -- ---- the assembly
 
@@ -113,8 +121,8 @@ whole_correct correct text allocator p b m is = subst (IsCorrectImage text) (ap 
 pub all_kept : (b : Built) (p : Parts) → p.unit ≡ Some b.unit → p.typed ≡ Some b.typed → p.vm ≡ Some b.vm → p.temps ≡ Some b.temps → p.allocations ≡ Some b.allocations → p.asm ≡ Some b.asm → p.image ≡ b.image → p ≡ parts_of_built b
 all_kept b p unit typed vm temps allocations asm image = λ i. record { unit = unit i; typed = typed i; vm = vm i; temps = temps i; allocations = allocations i; asm = asm i; image = image i }
 
-pub code_within : (u : TypedUnit) (vm : VmProgram) (selected temps : TempProgram) → IsLoweredUnit u vm → IsSelectedProgram vm selected → ArePassed selected temps → IsCodeWithin u vm temps
-code_within u vm selected temps lowered selection passed = record { lowered = lowered; selected = selected; selection = selection; passed = passed }
+pub code_within : (u : TypedUnit) (vm : VmProgram) (selected temps : TempProgram) → DoesAsUnit u vm → IsSelectedProgram vm selected → ArePassed selected temps → IsCodeWithin u vm temps
+code_within u vm selected temps does selection passed = record { does = does; selected = selected; selection = selection; passed = passed }
 
 module _ (made : AssembliesAreMade) (allocator : Allocator) (wanted : WantedParts) (unit : TranslationUnit) (typed : LawfulUnit) (vm : VmProgram) (temps : TempProgram) (code : IsCodeWithin typed.unit vm temps) (q : AssemblyParts)
     (of : AreAssemblyPartsOf (gives allocator) temps wanted q) where
@@ -127,10 +135,10 @@ module _ (made : AssembliesAreMade) (allocator : Allocator) (wanted : WantedPart
   abbrev pub built_of : Program → Built
   built_of image = record { unit = unit; typed = typed; vm = vm; temps = temps; allocations = of.allocations; asm = q.asm; image = image }
 
-  pub unit_parts : (p : Parts) → Words q.asm p.image → IsLawful p.image → (wanted ≡ Everything → p ≡ parts_of_built (built_of p.image)) → (text : List ℕ) → IsUnitWithin text unit typed.unit → ArePartsOf text allocator wanted p
-  unit_parts p words lawful kept text front = record {
+  pub unit_parts : (p : Parts) → Words q.asm p.image → IsLawful p.image → (wanted ≡ Everything → p ≡ parts_of_built (built_of p.image)) → IsCodeOf typed.unit vm → (text : List ℕ) → IsUnitWithin text unit typed.unit → ArePartsOf text allocator wanted p
+  unit_parts p words lawful kept lowered text front = record {
     built = built_of p.image;
-    made = made_of text allocator (built_of p.image) front code of.are of.by of.assembly (assembly_of_unit text front) words lawful;
+    made = made_of text allocator (built_of p.image) front lowered code of.are of.by of.assembly (assembly_of_unit text front) words lawful;
     image = refl;
     short = subst (λ n. n ≤ 2048 * unit_weight typed.unit) (sym (length-words q.asm p.image words)) ((assembly_of_unit text front).short words.far);
     all = kept;

@@ -22,7 +22,7 @@ use Rattle.pass_core.specs.Functions.{AllInsns}
 use Rattle.suifvm_ir.specs.declared.program.VmProgram.{VmProgram}
 use Rattle.suifvm_ir.specs.Programs.{VmFunction}
 use Rattle.alpha_select.specs.Selection.{AreSelected}
-use Rattle.lowering_theorem.specs.Laws.{ProgramsKeepMeaning}
+use Rattle.lowering_theorem.specs.Laws.{IsCodeOf}
 use Rattle.temp_ir.specs.declared.program.TempProgram.{TempProgram}
 use Rattle.temp_ir.specs.Programs.{TempFn}
 use Rattle.alloc_model.specs.declared.allocation.Allocation.{Allocation}
@@ -37,8 +37,7 @@ use Rattle.image_code_bounds.specs.unit_words.Laws.{UnitTextsAreWithinWeight, Un
 use Rattle.image_code_bounds.specs.program_words.Words.{OnlyMemoryIsShort}
 use Rattle.image_assembly.specs.Assemblies.{whole_assembly}
 use Rattle.image_assembly.specs.Layouts.{FunctionsAreLaidOut}
-use Rattle.image_assembly.specs.Programs.{HasItemsOf, plans_of}
-use Rattle.image_assembly_laws.specs.Laws.{AssembliesAreWhole, AssembliesHavePrograms, ProgramsAreAllocated, placement_of}
+use Rattle.image_assembly_laws.specs.Laws.{AssembliesAreWhole, AssembliesAreExact, ProgramsAreAllocated}
 use Rattle.call_words.specs.declared.compile_options.Allocator.{Allocator}
 use Rattle.compiler_front_end.specs.Units.{IsUnitWithin}
 use Rattle.compiler.specs.declared.built.Built.{Built}
@@ -48,11 +47,11 @@ use Rattle.compiler.specs.model.Stages.{IsCodeWithin, CanBeLaidOut, CodeCanBeAss
 -- the functions of a program are those of its unit
 functions_of : TempFunctionsFit → (u : TypedUnit) (vm : VmProgram) (temps : TempProgram) → IsCodeWithin u vm temps → AreTempFunctionsOf u temps
 functions_of fit u vm temps code =
-    fit u vm code.selected temps code.lowered.code.functions code.lowered.weights code.lowered.size code.selection.functions code.selection.costs code.passed.keeps code.passed.split
+    fit u vm code.selected temps code.does.functions code.does.size code.selection.functions code.selection.costs code.passed.keeps code.passed.split
 
 -- they have the objects of the unit
 globals_of : (u : TypedUnit) (vm : VmProgram) (temps : TempProgram) → IsCodeWithin u vm temps → temps.globals ≡ u.globals
-globals_of u vm temps code = code.passed.keeps.globals ∙ code.selection.globals ∙ code.lowered.code.globals
+globals_of u vm temps code = code.passed.keeps.globals ∙ code.selection.globals ∙ code.does.globals
 
 -- ---- what is asked of an assembly
 
@@ -84,7 +83,7 @@ can_be_laid_out fit few temps allocations frames names labels lawful data_size a
 pub can_be_assembled : TempFunctionsFit → TempFunctionsHaveNames → FunctionsHaveFrames → AllocationsFit → LabelsAreFew → CodeCanBeAssembled
 can_be_assembled functions_fit have_names have_frames fit few text tree u vm temps front code =
     let frames = have_frames u.unit temps (functions_of functions_fit u.unit vm temps code) front.light front.small in
-    let names = (have_names 1 u.unit vm code.selected temps code.lowered.code.functions code.selection.functions code.passed.keeps).names u.lawful.typed.functions in
+    let names = (have_names 1 u.unit vm code.selected temps code.does.functions code.selection.functions code.passed.keeps).names u.lawful.typed.functions in
     let globals = globals_of u.unit vm temps code in
     let lawful = subst AreLawful (sym globals) u.lawful.typed.globals in
     let small = front.small in
@@ -134,19 +133,16 @@ are_called (v ∷ vs) [] gs s p = absurd s
 are_called (v ∷ vs) (f ∷ fs) [] s p = absurd p
 are_called (v ∷ vs) (f ∷ fs) (g ∷ gs) s p = (record { name = p.0.name ∙ s.0.name; params = p.0.params ∙ s.0.params }, are_called vs fs gs s.1 p.1)
 
-pub assemblies_are_made : ProgramsKeepMeaning → PassesKeepSelections → TempFunctionsFit → FunctionsHaveFrames → FramesFitTheirRooms → AllocationsFit → AllocationsAreNear → AssembliesHavePrograms → ProgramsAreAllocated
+pub assemblies_are_made : PassesKeepSelections → TempFunctionsFit → FunctionsHaveFrames → FramesFitTheirRooms → AllocationsFit → AllocationsAreNear → AssembliesAreExact → ProgramsAreAllocated
     → UnitTextsAreWithinWeight → UnitTextsFitImages → AssembliesAreMade
-assemblies_are_made keep selections functions_fit have_frames fit_rooms fit near have_programs are_allocated within fit_images text tree u vm temps allocations asm front code are made =
+assemblies_are_made selections functions_fit have_frames fit_rooms fit near are_exact are_allocated within fit_images text tree u vm temps allocations asm front code are made =
     let functions = functions_of functions_fit u.unit vm temps code in
     let fits = fit temps allocations are (have_frames u.unit temps functions front.light front.small) in
     record {
-      runs = keep u.unit vm u.lawful.typed code.lowered.code;
       selection = selections 1 vm code.selected temps code.selection.functions code.passed.keeps code.selection.keeps;
       called = are_called vm.functions code.selected.functions temps.functions code.selection.functions code.passed.keeps.functions;
       allocated = are_allocated temps allocations (rooms_of u.unit) fits.code fits.fit functions.split (fit_rooms u.unit temps allocations functions are);
-      placing = placement_of temps.globals allocations made.finals;
-      items = subst (λ x. HasItemsOf x temps (plans_of allocations) (placement_of temps.globals allocations made.finals)) (sym made.is_gathered)
-          (have_programs temps allocations made.finals fits.names (near temps allocations are functions.near) made.laid_out);
+      exact = made.is_gathered ∙ are_exact temps allocations made.finals fits.names (near temps allocations are functions.near) made.laid_out;
       few_words = subst HasFewWords (sym made.is_gathered) (fit_images u.unit temps allocations made.finals front.light functions are made.laid_out);
       short = λ far. subst (λ (x : Assembly). text_words x.items far ≤ 2048 * unit_weight u.unit) (sym made.is_gathered)
           (within u.unit temps allocations made.finals functions are made.laid_out far);
@@ -155,13 +151,13 @@ assemblies_are_made keep selections functions_fit have_frames fit_rooms fit near
 -- ---- the image
 
 -- what was made of a text
-pub made_of : (text : List ℕ) (allocator : Allocator) (b : Built) → IsUnitWithin text b.unit b.typed.unit → IsCodeWithin b.typed.unit b.vm b.temps → AreAllocationsOf b.temps.functions b.allocations.items
+pub made_of : (text : List ℕ) (allocator : Allocator) (b : Built) → IsUnitWithin text b.unit b.typed.unit → IsCodeOf b.typed.unit b.vm → IsCodeWithin b.typed.unit b.vm b.temps → AreAllocationsOf b.temps.functions b.allocations.items
     → AllocatesBy allocator b.temps.functions b.allocations.items → IsAssemblyOf b.temps b.allocations.items b.asm → IsAssemblyOfUnit b.typed.unit b.vm b.temps b.allocations.items b.asm → Words b.asm b.image → IsLawful b.image
     → Made text allocator b
-made_of text allocator b front code are by assembly made words lawful = record {
+made_of text allocator b front lowered code are by assembly made words lawful = record {
   front = front;
-  code = code.lowered.code;
-  code_runs = made.runs;
+  code = lowered;
+  code_runs = code.does.runs;
   selection = made.selection;
   called = made.called;
   reached = code.passed.reached;
@@ -170,8 +166,7 @@ made_of text allocator b front code are by assembly made words lawful = record {
   by = by;
   allocated = made.allocated;
   whole = assembly.whole;
-  placing = made.placing;
-  items = made.items;
+  exact = made.exact;
   words = words;
   lawful = lawful;
 }

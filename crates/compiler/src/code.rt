@@ -2,6 +2,7 @@
 
 ghost use Rattle.std.specs.Prelude.{◌^◌, ◌≤◌, All, IfOk};
 ghost use Rattle.c_typed_tree.specs.Weight.{unit_weight};
+ghost use Rattle.c_typing_weight.specs.Limits.{most_weight};
 ghost use Rattle.suifvm_ir.specs.Programs.{VmFunction, program_size};
 ghost use Rattle.compiler.specs.model.Parts.{IsKept};
 ghost use Rattle.compiler.specs.model.Stages.{IsLoweredUnit, IsSelectedProgram};
@@ -10,6 +11,7 @@ use crate::built::{PassParts, WantedParts};
 use alpha_select::{select, select_in_turn};
 use c_typed_tree::c_lawful_unit::LawfulUnit;
 use lowering::{lower, lower_in_turn};
+use lowering_theorem::laws::programs_keep_meaning;
 use std::alloc::{AllocError, Global};
 use suifvm_ir::program::VmProgram;
 use temp_ir::program::TempProgram;
@@ -21,10 +23,11 @@ pub(crate) fn lower_unit(
     typed: LawfulUnit,
     wanted: WantedParts,
 ) -> Result<PassParts<LawfulUnit, VmProgram>, AllocError>
-    requires { unit_weight typed.unit ≤ 131072 }
+    requires { unit_weight typed.unit ≤ most_weight }
     ensures kept { IfOk result (λ p. IsKept wanted typed p.given) }
     ensures made { IfOk result (λ p. IsLoweredUnit typed.unit p.made) }
 {
+    programs_keep_meaning();
     match wanted {
         WantedParts::Everything => {
             let vm = lower(alloc, &typed)?;

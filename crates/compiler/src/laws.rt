@@ -9,7 +9,9 @@ use block_preparation_laws::laws::{
 use image_assembly_laws::allocation_laws::laws::{
     allocations_are_near, allocations_fit, labels_are_few,
 };
-use image_assembly_laws::laws::{assemblies_have_programs, programs_are_allocated};
+use image_assembly_laws::laws::{
+    assemblies_are_exact, assemblies_have_programs, programs_are_allocated,
+};
 use image_code_bounds::program_rooms::laws::{frames_fit_their_rooms, functions_have_frames};
 use image_code_bounds::unit_words::laws::unit_texts_fit_images;
 
@@ -28,14 +30,13 @@ pub(crate) fn code_can_be_assembled()
 pub(crate) fn assemblies_are_made()
     ensures { AssembliesAreMade }
 {
-    lowering_theorem::laws::programs_keep_meaning();
     passes_keep_selections();
     temp_functions_fit();
     functions_have_frames();
     frames_fit_their_rooms();
     allocations_fit();
     allocations_are_near();
-    assemblies_have_programs();
+    assemblies_are_exact();
     programs_are_allocated();
     unit_texts_fit_images();
 }
@@ -44,6 +45,7 @@ pub(crate) fn assemblies_are_made()
 pub(crate) fn images_are_correct()
     ensures { ImagesAreCorrect }
 {
+    assemblies_have_programs();
     compiler_theorem::same_behaviour::laws::units_behave_alike();
     compiler_theorem::same_behaviour::laws::units_end_soon();
 }

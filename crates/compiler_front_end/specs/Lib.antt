@@ -1,4 +1,3 @@
-pub mod Limits
 pub mod Units
 pub mod Heights
 pub mod model

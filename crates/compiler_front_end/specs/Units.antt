@@ -5,7 +5,7 @@ use Rattle.c_lexer.specs.Pieces.{FaultAt}
 use Rattle.c_tree.specs.declared.declarations.TranslationUnit.{TranslationUnit}
 use Rattle.c_parser_nesting.specs.HasNesting.{HasNesting}
 use Rattle.c_parser.specs.Limits.{most_nesting}
-use Rattle.c_parser.specs.Reading.{IsRead, HasNoReading, IsTooHigh}
+use Rattle.c_parser.specs.Reading.{IsRead, HasNoReading, IsTooDeep}
 use Rattle.c_typing_faults.specs.declared.faults.Kind.{Kind}
 use Rattle.c_typing_faults.specs.Faults.{head}
 use Rattle.c_types.specs.CUnits.{faults_of}
@@ -18,7 +18,8 @@ use Rattle.call_outcomes.specs.declared.outcome.SourceFault.TheVariants.{Lex, Sy
 use Rattle.call_outcomes.specs.declared.outcome.Which.TheVariants.{Nesting, Weight, Data}
 use Rattle.compiler_front_end.specs.declared.fault.CompileFault.{CompileFault}
 use Rattle.compiler_front_end.specs.declared.fault.CompileFault.TheVariants.{Source, Limit, NoMemory}
-use Rattle.compiler_front_end.specs.Limits.{most_weight, most_data}
+use Rattle.mem_objects.specs.declared.TheConstants.{MOST_DATA}
+use Rattle.c_typing_weight.specs.Limits.{most_weight}
 
 -- the text is read as a tree that has no typing fault, and this is its typed unit
 pub record IsUnitOf (text : List ℕ) (tree : TranslationUnit) (unit : TypedUnit) : Type 0 where
@@ -29,7 +30,7 @@ pub record IsUnitOf (text : List ℕ) (tree : TranslationUnit) (unit : TypedUnit
 pub record IsUnitWithin (text : List ℕ) (tree : TranslationUnit) (unit : TypedUnit) : Type 0 where
   pub is_unit : IsUnitOf text tree unit
   pub light : unit_weight unit ≤ most_weight
-  pub small : data_size unit ≤ most_data
+  pub small : data_size unit ≤ MOST_DATA
 
 -- ---- why there is none
 
@@ -57,11 +58,11 @@ pub record IsTooLarge (text : List ℕ) (counted : ℕ) : Type 0 where
   pub unit : LawfulUnit
   pub is_unit : IsUnitOf text tree unit.unit
   pub light : unit_weight unit.unit ≤ most_weight
-  pub large : most_data < data_size unit.unit
+  pub large : MOST_DATA < data_size unit.unit
   pub count : counted ≡ as_count (data_size unit.unit)
 
 -- Why a text has no unit within the limits: each answer has one cause. For want of memory it is that memory is short,
--- or that the tree is higher than is taken.
+-- or that the text is deeper than is taken, in its tree or in what is open at once.
 abbrev pub HasNoUnit : List ℕ → CompileFault → Type 0
 HasNoUnit text (Source (Lex at)) = FaultAt text at
 HasNoUnit text (Limit Nesting counted) = HasNesting text counted × (most_nesting < counted)
@@ -69,5 +70,5 @@ HasNoUnit text (Source (Syntax at)) = HasNoReading text at
 HasNoUnit text (Source (Typing at k)) = HasTypingFault text at k
 HasNoUnit text (Limit Weight counted) = IsTooHeavy text counted
 HasNoUnit text (Limit Data counted) = IsTooLarge text counted
-HasNoUnit text NoMemory = MemoryIsShort ⊎ IsTooHigh text
+HasNoUnit text NoMemory = MemoryIsShort ⊎ IsTooDeep text
 HasNoUnit text _ = ⊥

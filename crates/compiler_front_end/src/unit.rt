@@ -4,7 +4,7 @@ ghost use Rattle.std.specs.Prelude.{◌≡◌, ◌≤◌, length, IfOk, IfErr, I
 ghost use Rattle.c_lexer.specs.Limits.{text_limit};
 ghost use Rattle.c_typed_tree.specs.Weight.{unit_weight};
 ghost use Rattle.c_typed_tree.specs.Rooms.{data_size};
-ghost use Rattle.compiler_front_end.specs.Limits.{most_weight, most_data};
+ghost use Rattle.c_typing_weight.specs.Limits.{most_weight};
 ghost use Rattle.compiler_front_end.specs.Heights.{IsWithinHeight};
 ghost use Rattle.compiler_front_end.specs.Units.{IsUnitOf, IsUnitWithin, HasNoUnit};
 ghost use Rattle.compiler_front_end.specs.model.Causes.{IsBeyond};
@@ -16,13 +16,10 @@ use c_typed_tree::TypedUnit;
 use c_typed_tree::c_lawful_unit::LawfulUnit;
 use c_types::check;
 use c_typing_text_laws::c_text_bytes::read_text;
-use c_typing_weight::{data_size, weight};
+use c_typing_weight::{MOST_WEIGHT, data_size, weight};
 use call_outcomes::outcome::Which;
 use mem_objects::MOST_DATA;
 use std::alloc::Global;
-
-/// The weight that a unit may have.
-const MOST_WEIGHT: u64 = 131_072;
 
 /// The tree of a text, and its typed unit, which is lawful.
 #[derive(Drop)]
@@ -52,7 +49,7 @@ fn any_unit(alloc: Global, text: &[u8]) -> Result<FrontEnd, CompileFault>
 #[tactic(auto, using(crate::proofs::Units::within, crate::proofs::Units::above))]
 fn within_limits(unit: &TypedUnit) -> Result<(), CompileFault>
     ensures light { OnOk result (unit_weight unit.now ≤ most_weight) }
-    ensures small { OnOk result (data_size unit.now ≤ most_data) }
+    ensures small { OnOk result (data_size unit.now ≤ MOST_DATA) }
     ensures beyond { IfErr result (IsBeyond unit.now) }
 {
     let counted = weight(unit);

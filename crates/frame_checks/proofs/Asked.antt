@@ -14,7 +14,7 @@ use Rattle.temp_ir.specs.declared.insn.TempInsn.TheVariants as i
 use Rattle.alloc_model.specs.declared.allocation.Allocation.{Allocation}
 use Rattle.alloc_model.specs.Effect.{width_of, widest_in, widest_call}
 use Rattle.frame_layout.specs.Names.{NamesObjects, CallsBelow}
-use Rattle.frame_checks.specs.Conditions.{CanBeLaidOut}
+use Rattle.frame_layout.specs.Conditions.{CanBeLaidOut}
 use Rattle.frame_checks.specs.model.Asked.{is_asked}
 use Rattle.frame_checks.specs.model.Storage.{lie_from, are_small_from}
 use Rattle.frame_checks.specs.model.Tests.{Numbers, names_fit}

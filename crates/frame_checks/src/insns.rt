@@ -5,6 +5,7 @@ ghost use Rattle.std.specs.List.{list_all};
 ghost use Rattle.suifvm_ir.specs.Programs as programs;
 ghost use Rattle.frame_checks.specs.model.Asked.{is_asked};
 
+use frame_emitter::insns::FUNCTIONS;
 use mem_objects::DataObject;
 use pass_core::block::Block;
 use pass_core::function::MemoryLocal;
@@ -13,9 +14,6 @@ use temp_ir::insn::TempInsn;
 
 /// No call has more arguments.
 const MOST_ARGUMENTS: u32 = 1 << 24;
-
-/// The label of the function with the number 0.
-const FUNCTIONS: u64 = 256;
 
 /// Whether an object of static storage is there and has so many bytes.
 fn global_reaches(globals: &[DataObject], global: usize, plus: u64) -> bool
@@ -68,7 +66,7 @@ fn insn_asks(
         TempInsn::Call {
             function,
             arguments,
-        } => FUNCTIONS + u64::from(*function) < u64::from(first_label)
+        } => u64::from(FUNCTIONS) + u64::from(*function) < u64::from(first_label)
             && *arguments <= MOST_ARGUMENTS,
         _ => true,
     }

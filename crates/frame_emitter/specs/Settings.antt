@@ -1,6 +1,7 @@
 -- What the items of a function refer to, by its allocation, the objects of static storage, and the label of its first
 -- block.
 use Rattle.std.specs.Prelude.{ℕ, ◌+◌, ◌<◌, ◌≤◌, ◌^◌, min, List, map, length, slice_get, Option, Some, None}
+use Rattle.alpha_items.specs.Words.{most_address}
 use Rattle.mem_objects.specs.declared.DataObject.{DataObject}
 use Rattle.suifvm_ir.specs.declared.insn.VmObject.TheVariants.{Global, Local}
 use Rattle.temp_ir.specs.declared.insn.TempInsn.{TempInsn}
@@ -60,7 +61,7 @@ setting_of a globals first = record {
 -- the numbers of an instruction fit its items
 abbrev pub IsFit : ItemSetting → TempInsn → Type 0
 IsFit g (i.ObjectAddress destination (Global k) plus) = g.global_at k + plus < 2 ^ 32
-IsFit g (i.ObjectAddress destination (Local k) plus) = frame_object_at g.shape k + plus < 2147450880
+IsFit g (i.ObjectAddress destination (Local k) plus) = frame_object_at g.shape k + plus < most_address
 IsFit g (i.WriteArgument number source) = number ≤ most_arguments
 IsFit g (i.ReadArgument destination number) = number ≤ most_arguments
 IsFit g (i.Branch op source block) = g.block_label block < 2 ^ 32

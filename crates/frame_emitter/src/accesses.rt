@@ -1,7 +1,7 @@
 //! FrameItems that reach the frame, and that move registers.
 
 ghost use Rattle.std.specs.Prelude.{◌≡◌, ◌<◌, ◌++◌, ◌*◌, pos, ◌-ℤ◌, OnOk};
-ghost use Rattle.alpha_items.specs.Words.{high_of};
+ghost use Rattle.alpha_items.specs.Words.{high_of, most_address};
 ghost use Rattle.frame_steps.specs.frame_accesses.Items.{frame_item, frame_load, frame_store, frame_address, register_move};
 
 use crate::items::FrameItems;
@@ -20,7 +20,7 @@ pub(crate) const ZERO: u8 = 31;
 
 /// How many times 65,536 stand in an offset, with the nearest one counted.
 pub(crate) fn high_part(offset: u64) -> i16
-    requires { offset < 2147450880 }
+    requires { offset < most_address }
     ensures { result ≡ pos (high_of offset) }
 {
     ((offset + 32_768) / 65_536) as i16
@@ -28,7 +28,7 @@ pub(crate) fn high_part(offset: u64) -> i16
 
 /// What an offset has beyond its high part, from -32,768 to 32,767.
 pub(crate) fn low_part(offset: u64) -> i16
-    requires { offset < 2147450880 }
+    requires { offset < most_address }
     ensures { result ≡ pos offset -ℤ pos (high_of offset * 65536) }
 {
     (offset as i64 - i64::from(high_part(offset)) * 65_536) as i16
@@ -42,7 +42,7 @@ fn frame_item(
     offset: u64,
 ) -> Result<(), AllocError>
     requires register { register < 32 }
-    requires offset { offset < 2147450880 }
+    requires offset { offset < most_address }
     ensures { OnOk result (items.new ≡ frame_item op 29 register offset ++ items.old) }
 {
     if offset < NEAR_SIZE {
@@ -55,7 +55,7 @@ fn frame_item(
 /// A register is loaded from the frame.
 pub fn frame_load(items: &mut FrameItems, register: u8, offset: u64) -> Result<(), AllocError>
     requires register { register < 32 }
-    requires offset { offset < 2147450880 }
+    requires offset { offset < most_address }
     ensures { OnOk result (items.new ≡ frame_load register offset ++ items.old) }
 {
     frame_item(items, MemoryOp::Ldq, register, offset)
@@ -64,7 +64,7 @@ pub fn frame_load(items: &mut FrameItems, register: u8, offset: u64) -> Result<(
 /// A register is stored in the frame.
 pub fn frame_store(items: &mut FrameItems, register: u8, offset: u64) -> Result<(), AllocError>
     requires register { register < 32 }
-    requires offset { offset < 2147450880 }
+    requires offset { offset < most_address }
     ensures { OnOk result (items.new ≡ frame_store register offset ++ items.old) }
 {
     frame_item(items, MemoryOp::Stq, register, offset)
@@ -73,7 +73,7 @@ pub fn frame_store(items: &mut FrameItems, register: u8, offset: u64) -> Result<
 /// A register is set to the address of a place in the frame.
 pub fn frame_address(items: &mut FrameItems, register: u8, offset: u64) -> Result<(), AllocError>
     requires register { register < 32 }
-    requires offset { offset < 2147450880 }
+    requires offset { offset < most_address }
     ensures { OnOk result (items.new ≡ frame_address register offset ++ items.old) }
 {
     frame_item(items, MemoryOp::Lda, register, offset)

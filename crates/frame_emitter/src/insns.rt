@@ -29,6 +29,9 @@ use temp_ir::operation::{
     AddressOp, DivisionRoutine, ExtendOp, LoadOp, Operation, Service, StoreOp, TempBranchOp,
 };
 
+/// The label of the function with the number 0. That of each other one is its number more.
+pub const FUNCTIONS: u32 = 256;
+
 /// What calls write the return address to: those of functions, and of division routines.
 const RETURN: u8 = 26;
 
@@ -310,7 +313,7 @@ fn call(
     ensures { OnOk result (items.new ≡
         insn_items (setting_in layout.now) registers.now (insn.Call function arguments) ++ items.old) }
 {
-    items.branch(MachineBranch::Bsr, RETURN, 256 + function)
+    items.branch(MachineBranch::Bsr, RETURN, FUNCTIONS + function)
 }
 
 /// A call of a division routine.

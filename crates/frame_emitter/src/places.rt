@@ -1,6 +1,7 @@
 //! The places that a layout gives.
 
 ghost use Rattle.std.specs.Prelude.{◌≡◌, ◌+◌, ◌≤◌, ◌<◌, ◌^◌};
+ghost use Rattle.alpha_items.specs.Words.{most_address};
 ghost use Rattle.frame_memory.specs.flat_frames.Shapes.{return_at, saved_at, slot_at, frame_object_at};
 ghost use Rattle.frame_simulation.specs.function_shapes.Shapes.{plan_names};
 ghost use Rattle.frame_emitter.specs.Layouts.{plan_in, setting_in, shape_in};
@@ -12,7 +13,7 @@ impl<'a> FrameLayout<'a> {
     #[tactic(auto, using(crate::proofs::Sizes::return_near))]
     pub(crate) fn return_at(&self) -> u64
         ensures is { result ≡ return_at (shape_in self.now) }
-        ensures near { result < 2147450880 }
+        ensures near { result < most_address }
     {
         8 * u64::from(self.outgoing)
     }
@@ -22,7 +23,7 @@ impl<'a> FrameLayout<'a> {
     pub(crate) fn saved_at(&self, register: u8) -> u64
         requires { register < 16 }
         ensures is { result ≡ saved_at (shape_in self.now) register }
-        ensures near { result < 2147450880 }
+        ensures near { result < most_address }
     {
         8 * u64::from(self.outgoing) + 8 + 8 * u64::from(register.saturating_sub(9))
     }
@@ -32,7 +33,7 @@ impl<'a> FrameLayout<'a> {
     pub(crate) fn slot_at(&self, temp: u32) -> u64
         requires { temp < (shape_in self.now).temps }
         ensures is { result ≡ slot_at (shape_in self.now) temp }
-        ensures near { result < 2147450880 }
+        ensures near { result < most_address }
     {
         8 * u64::from(self.outgoing) + 64 + 8 * u64::from(temp)
     }

@@ -6,6 +6,7 @@ use Rattle.std.proofs.lemmas.Bool.{cases_lt, leb-true}
 use Rattle.std.proofs.lemmas.List.Sums.{sum_by-cons}
 use Rattle.std.proofs.lemmas.Option.{slice_get-map, slice_get_within, get_or_from_slice_get}
 use Rattle.std.proofs.lemmas.List.Elements.{All-from_recursion, All-tail, All-contains}
+use Rattle.alpha_items.specs.Words.{most_address}
 use Rattle.mem_objects.specs.declared.DataObject.{DataObject}
 use Rattle.mem_objects.specs.Layout.{end_of, data_end, ObjectsLieFrom}
 use Rattle.pass_core.specs.declared.function.MemoryLocal.{MemoryLocal}
@@ -160,7 +161,7 @@ module _ (p : Plan) (globals : List DataObject) (objects : List MemoryLocal) (fi
       let at : g.global_at k ≡ o.offset = ap global_offset e in
       omega (arith, fits, low, at, data_small)
 
-  local-fit : (o : Option MemoryLocal) (k plus : ℕ) → slice_get objects k ≡ o → IsTrue (local_reaches plus o) → frame_object_at g.shape k + plus < 2147450880
+  local-fit : (o : Option MemoryLocal) (k plus : ℕ) → slice_get objects k ≡ o → IsTrue (local_reaches plus o) → frame_object_at g.shape k + plus < most_address
   local-fit None k plus e h = let clash : ⊥ = cc in absurd clash
   local-fit (Some o) k plus e h =
       let fits = true-le plus o.size h in

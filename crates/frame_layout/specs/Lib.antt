@@ -1,4 +1,5 @@
 pub mod Names
+pub mod Conditions
 pub mod model
 pub use Rattle.frame_emitter.specs.Settings
 pub use Rattle.frame_emitter.specs.Shapes

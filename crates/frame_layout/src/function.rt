@@ -1,18 +1,18 @@
 //! The items of a whole function.
 
-ghost use Rattle.std.specs.Prelude.{◌≡◌, ◌+◌, ◌-◌, ◌<◌, ◌≤◌, ◌^◌, [], ◌∷◌, length, map, IfOk};
+ghost use Rattle.std.specs.Prelude.{◌≡◌, ◌+◌, ◌<◌, ◌≤◌, ◌^◌, [], ◌∷◌, length, map, IfOk};
 ghost use Rattle.alpha_items.specs.declared.item.AsmItem.TheVariants as item;
-ghost use Rattle.mem_objects.specs.Layout.{ObjectsLieFrom, data_end};
-ghost use Rattle.pass_core.specs.Functions.{AllInsns, count_of};
+ghost use Rattle.pass_core.specs.Functions.{count_of};
 ghost use Rattle.alloc_model.specs.Effect.{widest_call};
 ghost use Rattle.alloc_model.specs.Places.{plan_of};
 ghost use Rattle.alloc_model.specs.Faithful.{Faithful};
 ghost use Rattle.frame_memory.specs.flat_frames.Shapes.{frame_size, objects_size};
+ghost use Rattle.frame_steps.specs.instruction_items.Items.{function_label};
 ghost use Rattle.frame_emitter.specs.Items.{function_items};
 ghost use Rattle.frame_emitter.specs.Shapes.{shape_of};
 ghost use Rattle.frame_emitter.specs.Settings.{near_plan, near_blocks, setting_of, with_blocks};
 ghost use Rattle.frame_emitter.specs.Layouts.{plan_in, setting_in};
-ghost use Rattle.frame_layout.specs.Names.{NamesObjects, CallsBelow};
+ghost use Rattle.frame_layout.specs.Conditions.{CanBeLaidOut};
 ghost use Rattle.frame_layout.specs.model.Sound.{IsSound};
 
 use crate::blocks::blocks_items;
@@ -24,10 +24,11 @@ use alpha_items::final_fn::FinalFn;
 use alpha_items::item::AsmItem;
 use alpha_items::name::FunctionName;
 use bk_containers::Seq;
+use frame_emitter::insns::FUNCTIONS;
 use frame_emitter::items::FrameItems;
 use frame_emitter::layout::FrameLayout;
 use frame_emitter::parts::{entry_part, exit_items};
-use mem_objects::{DataObject, MOST_DATA};
+use mem_objects::DataObject;
 use std::alloc::{AllocError, Global};
 use temp_ir::insn::TempInsn;
 
@@ -84,7 +85,7 @@ fn insn_count(blocks: &[Seq<TempInsn>]) -> usize
 /// The items of a function behind its name.
 fn items_of(alloc: Global, layout: &FrameLayout<'_>, number: u32) -> Result<FrameItems, AllocError>
     requires sound { IsSound layout.now }
-    requires number { 256 + number < 2 ^ 32 }
+    requires number { function_label number < 2 ^ 32 }
     ensures { IfOk result (λ items.
         items ≡ function_items (plan_in layout.now) (setting_in layout.now) number []) }
 {
@@ -94,14 +95,14 @@ fn items_of(alloc: Global, layout: &FrameLayout<'_>, number: u32) -> Result<Fram
     exit_items(&mut items, layout)?;
     blocks_items(&mut items, layout, &edges, count)?;
     entry_part(&mut items, layout)?;
-    items.label(256 + number)?;
+    items.label(FUNCTIONS + number)?;
     Ok(items)
 }
 
-/// The function of a faithful allocation as items: its name, its entry at label 256 and its own number more, its entry
-/// part, its blocks with labels from the first one on, and its exit part with the label behind those. Registers and
-/// slots are those of the allocation; objects begin at multiples of 8, and the frame is a multiple of 16. An argument
-/// place that is numbered past 2 ^ 24, which no run has, counts as that one. It fails only where memory is short.
+/// The function of a faithful allocation as items: its name, its entry at the label of its number, its entry part, its
+/// blocks with labels from the first one on, and its exit part with the label behind those. Registers and slots are
+/// those of the allocation; objects begin at multiples of 8, and the frame is a multiple of 16. An argument place that
+/// is numbered past 2 ^ 24, which no run has, counts as that one. It fails only where memory is short.
 pub fn finalise(
     alloc: Global,
     a: &Allocation,
@@ -110,15 +111,7 @@ pub fn finalise(
     first_label: u32,
 ) -> Result<FinalFn, AllocError>
     requires faithful { Faithful (plan_of a.now) }
-    requires own { 256 + number < first_label }
-    requires calls { AllInsns (CallsBelow first_label) a.now.func.blocks }
-    requires labels { first_label + length a.now.func.blocks < 2 ^ 32 - 1 }
-    requires layout { ObjectsLieFrom 0 globals.now }
-    requires data_size { data_end globals.now ≤ MOST_DATA }
-    requires names { AllInsns (NamesObjects globals.now a.now.func.objects) a.now.func.blocks }
-    requires objects { objects_size (map (λ o. o.size) a.now.func.objects) ≤ MOST_DATA }
-    requires temps { a.now.func.temps ≤ 2 ^ 24 }
-    requires arguments { widest_call a.now.func.blocks ≤ 2 ^ 24 }
+    requires can { CanBeLaidOut a.now globals.now number first_label }
     ensures name { IfOk result (λ f. f.name ≡ a.now.func.name) }
     ensures items { IfOk result (λ f. f.items.items ≡ item.Name a.now.func.name ∷
         function_items (near_plan (plan_of a.now)) (setting_of (near_plan (plan_of a.now)) globals.now first_label)

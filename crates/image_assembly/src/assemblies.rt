@@ -16,6 +16,7 @@ use alpha_items::asm::Asm;
 use alpha_items::final_fn::FinalFn;
 use alpha_items::item::AsmItem;
 use alpha_rt::items::routine_items;
+use frame_emitter::insns::FUNCTIONS;
 use mem_objects::{DataObject, MOST_DATA};
 use std::alloc::{AllocError, Global};
 
@@ -56,7 +57,7 @@ pub fn start_piece(main: u32) -> [AsmItem; 5]
         AsmItem::Branch {
             op: BranchOp::Bsr,
             ra: 26,
-            label: 256 + main,
+            label: FUNCTIONS + main,
         },
         AsmItem::Plain(Insn32 {
             fields: Fields::Operate {

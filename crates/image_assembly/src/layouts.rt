@@ -10,12 +10,10 @@ ghost use Rattle.image_assembly.specs.Layouts.{first_label, end_label, label_cou
 use crate::numbers::read_numbers;
 use alloc_model::allocation::Allocation;
 use alpha_items::final_fn::FinalFn;
+use frame_emitter::insns::FUNCTIONS;
 use frame_layout::finalise;
 use mem_objects::{DataObject, MOST_DATA};
 use std::alloc::{AllocError, Global};
-
-/// The label of the function with the number 0.
-const FUNCTIONS: u32 = 256;
 
 /// How many labels the blocks and the exit part of a function have.
 fn label_count(a: &Allocation) -> u32

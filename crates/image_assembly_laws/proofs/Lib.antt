@@ -5,6 +5,7 @@ pub mod Functions
 pub mod Named
 pub mod Whole
 pub mod Placed
+pub mod Exact
 pub mod Allocated
 pub mod AllocationLaws
 pub use Rattle.frame_bounds.proofs.Near

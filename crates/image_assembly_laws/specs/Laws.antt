@@ -1,5 +1,5 @@
--- The assembly of functions that are laid out is whole, and has the items of their program.
-use Rattle.std.specs.Prelude.{◌≡◌, ℕ, suc, ◌+◌, ◌≤◌, All, IsTrue, List, [], ◌∷◌, ◌++◌, map, take, drop, length, sum_by, slice_get, slice_index_or, Some}
+-- The assembly of functions that are laid out is whole, and is exactly that of their program, which has its items.
+use Rattle.std.specs.Prelude.{◌≡◌, ℕ, suc, ◌+◌, ◌≤◌, All, IsTrue, List, [], ◌∷◌, map, take, drop, length, sum_by, slice_get, slice_index_or, Some}
 use Rattle.alpha_items.specs.declared.item.AsmItem.TheVariants.{Name}
 use Rattle.alpha_items.specs.declared.final_fn.FinalFn.{FinalFn}
 use Rattle.alpha_items.specs.Items.{is_name}
@@ -16,7 +16,7 @@ use Rattle.temp_ir.specs.declared.program.TempProgram.{TempProgram}
 use Rattle.temp_ir.specs.Programs.{TempFn}
 use Rattle.temp_ir.specs.Insns.{targets_of, flows_on_of}
 use Rattle.alpha_rt.specs.Calls.{scratch_size}
-use Rattle.alloc_model.specs.Temporaries.{code_of}
+use Rattle.alloc_model.specs.Temporaries.{code_of, main_of}
 use Rattle.frame_memory.specs.flat_frames.Shapes.{frame_size}
 use Rattle.frame_bounds.specs.Shapes.{shape_of}
 use Rattle.alloc_model.specs.declared.allocation.Allocation.{Allocation}
@@ -26,8 +26,9 @@ use Rattle.frame_bounds.specs.Near.{IsNear}
 use Rattle.frame_bounds.specs.Settings.{setting_of}
 use Rattle.image_assembly.specs.Ranges.{HasSmallNumbers}
 use Rattle.image_assembly.specs.Programs.{ProgramPlacement, HasItemsOf, IsAllocated, plans_of, start_items}
-use Rattle.image_assembly.specs.Assemblies.{final_items, whole_assembly, main_of}
+use Rattle.image_assembly.specs.Assemblies.{whole_assembly}
 use Rattle.image_assembly.specs.Layouts.{first_label, label_count, FitsProgram, FunctionsAreLaidOut}
+use Rattle.image_assembly_laws.specs.ProgramAssembly.{functions_items, program_assembly}
 
 -- an allocation of one of so many functions fits, its name is one, and the numbers in its instructions have their
 -- ranges
@@ -44,6 +45,15 @@ AssembliesAreWhole =
     → All (CanBeAssembled (length allocations) globals) allocations →
     FunctionsAreLaidOut globals allocations finals → IsWhole (whole_assembly finals globals)
 
+-- and it is exactly that of the program whose functions these are, where each argument place that they name is one that
+-- can be told from others
+abbrev pub AssembliesAreExact : Type 0
+AssembliesAreExact =
+    (program : TempProgram) (allocations : List Allocation) (finals : List FinalFn) →
+    map (λ f. f.name) program.functions ≡ map (λ a. a.func.name) allocations →
+    All (λ a. AllInsns IsNear a.func.blocks) allocations → FunctionsAreLaidOut program.globals allocations finals →
+    whole_assembly finals program.globals ≡ program_assembly program allocations
+
 -- ---- where the items of a program stand in it
 
 -- what there is where no function is
@@ -59,32 +69,34 @@ no_plan = record {
   edges = [];
 }
 
+-- the first label behind so many of the functions
+abbrev pub label_behind : List Allocation → (functions : ℕ) → ℕ
+label_behind allocations functions = first_label (length allocations) + sum_by label_count (take functions allocations)
+
 abbrev pub setting_at : List DataObject → List Allocation → (function : ℕ) → ItemSetting
 setting_at globals allocations f =
-    setting_of (slice_index_or (plans_of allocations) f no_plan) globals
-    (first_label (length allocations) + sum_by label_count (take f allocations))
+    setting_of (slice_index_or (plans_of allocations) f no_plan) globals (label_behind allocations f)
 
 -- a name stands in front of each function
-abbrev pub placement_of : List DataObject → List Allocation → List FinalFn → ProgramPlacement
-placement_of globals allocations finals = record {
-  setting = setting_at globals allocations;
-  front = λ f. start_items (main_of finals)
-      (final_items (take f finals) ++ Name (slice_index_or (map (λ a. a.func.name) allocations) f []) ∷ []);
-  behind = λ f. final_items (drop (suc f) finals) ++ all_items;
-  after_start = final_items finals ++ all_items;
-  before_routines = start_items (main_of finals) (final_items finals);
+abbrev pub placement_of : TempProgram → List Allocation → ProgramPlacement
+placement_of program allocations = record {
+  setting = setting_at program.globals allocations;
+  front = λ f. start_items (main_of program.functions)
+      (functions_items program.globals 0 (first_label (length allocations)) (take f allocations)
+      (Name (slice_index_or (map (λ a. a.func.name) allocations) f []) ∷ []));
+  behind = λ f.
+      functions_items program.globals (suc f) (label_behind allocations (suc f)) (drop (suc f) allocations) all_items;
+  after_start = functions_items program.globals 0 (first_label (length allocations)) allocations all_items;
+  before_routines = start_items (main_of program.functions)
+      (functions_items program.globals 0 (first_label (length allocations)) allocations []);
   behind_routines = [];
 }
 
--- the assembly has the items and the data of the program whose functions these are, where each argument place that they
--- name is one that can be told from others
+-- the assembly of a program has the items and the data of it
 abbrev pub AssembliesHavePrograms : Type 0
 AssembliesHavePrograms =
-    (program : TempProgram) (allocations : List Allocation) (finals : List FinalFn) →
-    map (λ f. f.name) program.functions ≡ map (λ a. a.func.name) allocations →
-    All (λ a. AllInsns IsNear a.func.blocks) allocations → FunctionsAreLaidOut program.globals allocations finals →
-    HasItemsOf (whole_assembly finals program.globals) program (plans_of allocations)
-    (placement_of program.globals allocations finals)
+    (program : TempProgram) (allocations : List Allocation) →
+    HasItemsOf (program_assembly program allocations) program (plans_of allocations) (placement_of program allocations)
 
 -- ---- that a program is allocated
 

@@ -1,4 +1,5 @@
 pub mod Laws
+pub mod ProgramAssembly
 pub mod allocation_laws
 pub use Rattle.image_assembly.specs.Layouts
 pub use Rattle.image_assembly.specs.Assemblies

@@ -1,4 +1,4 @@
-//! That the assembly of a program's functions, as they are laid out, is whole and has the items of the program.
+//! That the assembly of a program's functions, as they are laid out, is whole and is exactly that of the program.
 #![tactic(auto)]
 
 pub mod allocation_laws;

@@ -19,6 +19,7 @@ use Rattle.c_typed_tree.specs.Counts.{expr_nodes, exprs_nodes, optional_nodes}
 use Rattle.c_typed_tree.specs.Typing.{is_same_type, is_void, is_array, is_scalar, is_promoted, is_valid_type, depth_of, most_depth, Context, is_fit, is_typed, are_typed, has_rule, are_operands}
 use Rattle.c_typed_tree.specs.TypingStatements.{Jumps, no_jumps, in_loop, in_switch, is_condition, is_optional_value, is_optional_condition, has_initialised_type, is_initialiser, is_declared, is_first, is_returned, are_labels, is_typed_stmt, is_typed_else, are_typed_stmts, are_typed_sections}
 use Rattle.c_typed_tree.specs.Weight.{expr_weight, exprs_weight, exprs_count, optional_weight, init_weight, declared_weight, first_weight, stmt_weight, else_weight, stmts_weight, sections_weight, function_weight}
+use Rattle.c_typing_weight.specs.Limits.{most_weight}
 use Rattle.c_typed_tree.specs.Lawful.{IsLawfulStruct, IsTypedFn, context_of, is_lawful_local, is_object_type, type_of_local}
 use Rattle.lowering_expressions.specs.Levels.{register_levels, levels_above, levels_of_each}
 use Rattle.lowering_statements.specs.Levels.{optional_levels, locals_levels, first_levels, stmt_levels, else_levels, stmts_levels, sections_levels}
@@ -246,7 +247,7 @@ local_size ds structs l h =
 
 -- ---- a function
 
-pub can_be_lowered : (u : TypedUnit) (f : TypedFn) → All (IsLawfulStruct u.structs) u.structs → IsTypedFn u f → function_weight u.structs f ≤ 131072 → CanBeLowered u.structs f
+pub can_be_lowered : (u : TypedUnit) (f : TypedFn) → All (IsLawfulStruct u.structs) u.structs → IsTypedFn u f → function_weight u.structs f ≤ most_weight → CanBeLowered u.structs f
 can_be_lowered u f structs t w =
     let body = stmt_view f.body in
     let c = context_of u f in

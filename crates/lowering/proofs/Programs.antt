@@ -11,6 +11,7 @@ use Rattle.c_typed_tree.specs.declared.units.TypedUnit.{TypedUnit}
 use Rattle.c_typed_tree.specs.View.{type_view}
 use Rattle.c_typed_tree.specs.Typing.{is_same_type, int}
 use Rattle.c_typed_tree.specs.Weight.{function_weight, unit_weight}
+use Rattle.c_typing_weight.specs.Limits.{most_weight}
 use Rattle.c_typed_tree.specs.Lawful as lawful
 use Rattle.c_typed_tree.specs.Lawful.{IsLawfulUnit, IsTypedFn, IsLawfulStruct, is_start, signature_of}
 use Rattle.suifvm_ir.specs.Insns.{targets_of, flows_on_of}
@@ -57,13 +58,13 @@ lowered_all ds fs gs i le l = subst (λ (xs : List TypedFn). AreLowered ds xs gs
 
 -- ---- premises
 
-all_can : (u : TypedUnit) → All (IsLawfulStruct u.structs) u.structs → (fs : List TypedFn) → All (IsTypedFn u) fs → sum_by (λ (f : TypedFn). 1 + function_weight u.structs f) fs ≤ 131072 → All (CanBeLowered u.structs) fs
+all_can : (u : TypedUnit) → All (IsLawfulStruct u.structs) u.structs → (fs : List TypedFn) → All (IsTypedFn u) fs → sum_by (λ (f : TypedFn). 1 + function_weight u.structs f) fs ≤ most_weight → All (CanBeLowered u.structs) fs
 all_can u structs [] t w = All-nil (CanBeLowered u.structs)
 all_can u structs (f ∷ fs) t w =
     let sum : sum_by (λ (f : TypedFn). 1 + function_weight u.structs f) (f ∷ fs) ≡ (1 + function_weight u.structs f) + sum_by (λ (f : TypedFn). 1 + function_weight u.structs f) fs = sum_by-cons (λ (f : TypedFn). 1 + function_weight u.structs f) f fs in
     All-cons (CanBeLowered u.structs) f fs (can_be_lowered u f structs (All-head (IsTypedFn u) f fs t) (omega (arith, sum, w))) (all_can u structs fs (All-tail (IsTypedFn u) f fs t) (omega (arith, sum, w)))
 
-pub unit_can : (u : TypedUnit) → IsLawfulUnit u → unit_weight u ≤ 131072 → All (CanBeLowered u.structs) u.functions
+pub unit_can : (u : TypedUnit) → IsLawfulUnit u → unit_weight u ≤ most_weight → All (CanBeLowered u.structs) u.functions
 unit_can u l w = all_can u l.typed.structs u.functions l.typed.functions (omega (arith, w))
 
 -- ---- the program
@@ -169,7 +170,7 @@ pub record IsProgram (u : TypedUnit) (gs : List VmFunction) : Type 0 where
   pub weights : AreWithinWeight u.structs u.functions gs
   pub size : program_size gs ≤ 2 ^ 24
 
-pub program_is : (u : TypedUnit) (gs : List VmFunction) → IsLawfulUnit u → unit_weight u ≤ 131072 → AreLowered u.structs u.functions gs → IsProgram u gs
+pub program_is : (u : TypedUnit) (gs : List VmFunction) → IsLawfulUnit u → unit_weight u ≤ most_weight → AreLowered u.structs u.functions gs → IsProgram u gs
 program_is u gs l w is =
     let calls : TakesArguments gs (map signature_of u.functions) = takes_arguments u gs l.typed.functions (same_params u.structs u.functions gs is) in
     let can = unit_can u l w in

@@ -14,6 +14,7 @@ use Rattle.c_typed_tree.specs.Declarations.{declarations, due_declarations}
 use Rattle.c_typed_tree.specs.Typing.{is_scalar, is_same_type, int}
 use Rattle.c_typed_tree.specs.TypingStatements.{no_jumps, is_typed_stmt}
 use Rattle.c_typed_tree.specs.Weight.{stmt_weight, function_weight, unit_weight}
+use Rattle.c_typing_weight.specs.Limits.{most_weight}
 use Rattle.c_typed_tree.specs.Lawful.{IsLawfulUnit, IsTypedFn, IsLawfulStruct, is_identifier, is_result, type_of_local, is_lawful_local, is_block, context_of, is_main, is_start}
 
 -- what the function is
@@ -87,5 +88,5 @@ module _ (u : TypedUnit) (f : TypedFn) (structs : u.structs ≡ []) (globals : u
   unfolding stmt_weight
   weight_is = ap (λ n. n + stmt_weight u.structs (stmt_view f.body)) m.params ∙ ap (λ s. 0 + stmt_weight u.structs s) m.body
 
-  pub main_weight : unit_weight u ≤ 131072
+  pub main_weight : unit_weight u ≤ most_weight
   main_weight = omega (arith, ap (λ fs. sum_by (λ (g : TypedFn). 1 + function_weight u.structs g) fs) functions, weight_is)

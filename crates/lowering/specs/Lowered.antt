@@ -1,5 +1,6 @@
 -- The functions of a program, each the code of a function of the unit.
 use Rattle.std.specs.Prelude.{◌≡◌, ◌≤◌, ◌+◌, ◌*◌, max, List, [], ◌∷◌}
+use Rattle.std.specs.List.{AllZip}
 use Rattle.c_typed_tree.specs.declared.types.StructDef.{StructDef}
 use Rattle.c_typed_tree.specs.declared.units.TypedFn.{TypedFn}
 use Rattle.c_typed_tree.specs.Weight.{function_weight}
@@ -38,3 +39,18 @@ abbrev pub AreWithinWeight : List StructDef → List TypedFn → List VmFunction
 AreWithinWeight ds [] gs = Unit {0}
 AreWithinWeight ds (f ∷ fs) [] = Unit {0}
 AreWithinWeight ds (f ∷ fs) (g ∷ gs) = IsWithinWeight ds f g × AreWithinWeight ds fs gs
+
+-- ---- whatever the instructions are
+
+-- A function of a program stands for one of a unit: it has its name, its parameters and its memory locals, no more
+-- parameters than registers, and takes no more than its weight allows.
+pub record StandsFor (ds : List StructDef) (f : TypedFn) (g : VmFunction) : Type 0 where
+  pub name : g.name ≡ f.name
+  pub params : g.params ≡ f.params
+  pub objects : g.objects ≡ objects_of ds f.locals
+  pub registers : g.params ≤ g.temps
+  pub within : IsWithinWeight ds f g
+
+-- all of them do, by their numbers
+abbrev pub AllStandFor : List StructDef → List TypedFn → List VmFunction → Type 0
+AllStandFor ds = AllZip (StandsFor ds)

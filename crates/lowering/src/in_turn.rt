@@ -2,6 +2,7 @@
 
 ghost use Rattle.std.specs.Prelude.{◌≡◌, ◌≤◌, ◌^◌, All, IfOk};
 ghost use Rattle.c_typed_tree.specs.Weight.{unit_weight};
+ghost use Rattle.c_typing_weight.specs.Limits.{most_weight};
 ghost use Rattle.suifvm_ir.specs.Programs.{program_size};
 ghost use Rattle.lowering.specs.Lowered.{AreLowered, AreWithinWeight};
 ghost use Rattle.lowering.specs.model.Premises.{CanBeLowered};
@@ -37,9 +38,9 @@ fn lower_each(
 /// unit and the program do not stand side by side. Its objects of static storage are moved. It fails only where memory
 /// is short.
 ///
-/// The weight of the unit is at most 131,072.
+/// The weight of the unit is at most `MOST_WEIGHT` (`c_typing_weight`).
 pub fn lower_in_turn(alloc: Global, typed: LawfulUnit) -> Result<VmProgram, AllocError>
-    requires { unit_weight typed.unit ≤ 131072 }
+    requires { unit_weight typed.unit ≤ most_weight }
     ensures functions { IfOk result (λ p. AreLowered typed.unit.structs typed.unit.functions p.functions) }
     ensures globals { IfOk result (λ p. p.globals ≡ typed.unit.globals) }
     ensures weights { IfOk result (λ p. AreWithinWeight typed.unit.structs typed.unit.functions p.functions) }

@@ -1,7 +1,6 @@
 //! The code of units: from a typed unit to a program over virtual registers.
 #![tactic(auto)]
 
-mod globals;
 mod in_turn;
 #[cfg(test)]
 mod tests;

@@ -5,6 +5,7 @@ ghost use Rattle.c_typed_tree.specs.Types.{Int};
 ghost use Rattle.c_typed_tree.specs.Statements.{Block, no_stmts};
 ghost use Rattle.c_typed_tree.specs.View.{type_view, stmt_view};
 ghost use Rattle.c_typed_tree.specs.Weight.{unit_weight};
+ghost use Rattle.c_typing_weight.specs.Limits.{most_weight};
 
 use crate::lower;
 use bk_containers::{Name, Seq};
@@ -60,7 +61,7 @@ fn one(alloc: Global, f: TypedFn) -> Result<Seq<TypedFn>, AllocError>
 
 /// The unit.
 fn unit(alloc: Global) -> Result<LawfulUnit, AllocError>
-    ensures { IfOk result (λ made. unit_weight made.unit ≤ 131072) }
+    ensures { IfOk result (λ made. unit_weight made.unit ≤ most_weight) }
 {
     let f = main_function(alloc)?;
     let functions = one(alloc, f)?;

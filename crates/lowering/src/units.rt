@@ -2,15 +2,16 @@
 
 ghost use Rattle.std.specs.Prelude.{◌≡◌, ◌≤◌, ◌^◌, All, IfOk};
 ghost use Rattle.c_typed_tree.specs.Weight.{unit_weight};
+ghost use Rattle.c_typing_weight.specs.Limits.{most_weight};
 ghost use Rattle.suifvm_ir.specs.Programs.{program_size};
 ghost use Rattle.lowering.specs.Lowered.{IsLowered, AreLowered, AreWithinWeight};
 ghost use Rattle.lowering.specs.model.Premises.{CanBeLowered};
 
-use crate::globals::copy_objects;
 use bk_containers::Seq;
 use c_typed_tree::c_lawful_unit::LawfulUnit;
 use c_typed_tree::{StructDef, TypedFn};
 use lowering_functions::lower_function;
+use mem_objects::copy_objects;
 use pass_core::function::Func;
 use std::alloc::{AllocError, Global};
 use suifvm_ir::insn::VmInsn;
@@ -49,9 +50,9 @@ fn all_functions(
 /// few registers, few arguments in a call and little cost, and the objects of static storage are the unit's. It fails
 /// only where memory is short.
 ///
-/// The weight of the unit is at most 131,072.
+/// The weight of the unit is at most `MOST_WEIGHT` (`c_typing_weight`).
 pub fn lower(alloc: Global, typed: &LawfulUnit) -> Result<VmProgram, AllocError>
-    requires { unit_weight typed.now.unit ≤ 131072 }
+    requires { unit_weight typed.now.unit ≤ most_weight }
     ensures functions { IfOk result (λ p. AreLowered typed.now.unit.structs typed.now.unit.functions p.functions) }
     ensures globals { IfOk result (λ p. p.globals ≡ typed.now.unit.globals) }
     ensures weights { IfOk result (λ p. AreWithinWeight typed.now.unit.structs typed.now.unit.functions p.functions) }
@@ -59,6 +60,6 @@ pub fn lower(alloc: Global, typed: &LawfulUnit) -> Result<VmProgram, AllocError>
 {
     let unit = &typed.unit;
     let functions = all_functions(alloc, unit.structs.as_slice(), unit.functions.as_slice())?;
-    let globals = copy_objects(alloc, &unit.globals)?;
+    let globals = copy_objects(alloc, unit.globals.as_slice())?;
     Ok(VmProgram { functions, globals })
 }

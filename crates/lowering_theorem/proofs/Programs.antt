@@ -116,9 +116,9 @@ behaviours_same (Undefined v m) (Trap w n) h s = absurd s
 behaviours_same (Undefined v m) (More w) h s = absurd s
 
 pub behaviours_are_kept : BehavioursAreKept
-behaviours_are_kept u p typed code input turns bytes ne =
+behaviours_are_kept u p runs input turns bytes ne =
     let o : Ending = run_main u (rooms_of u) input turns in
     let defined = defined_is o ne in
-    let it : VmRunsTo (rooms_of u) p input turns o = programs_keep_meaning u p typed code (rooms_of u) input turns bytes defined in
+    let it : VmRunsTo (rooms_of u) p input turns o = runs (rooms_of u) input turns bytes defined in
     let same = behaviours_same it.ending o defined it.same in
     record { ending = it.ending; ends = it.ends; behaviour = same.0; peak = same.1 }

@@ -23,13 +23,17 @@ pub record VmRunsTo (rooms : Rooms) (p : VmProgram) (input : List ℕ) (turns : 
   pub same : EndsAs ending o
   pub only : (e : Ending) → behave_vm rooms p input turns e → e ≡ ending
 
-abbrev pub ProgramsKeepMeaning : Type 0
-ProgramsKeepMeaning =
-    (u : TypedUnit) (p : VmProgram) → IsTypedUnit u → IsCodeOf u p →
+-- a program runs as a unit does, on every input of bytes, with every number of turns and whatever the rooms are, where
+-- the run of the unit is defined
+abbrev pub CodeRunsAs : TypedUnit → VmProgram → Type 0
+CodeRunsAs u p =
     (rooms : Rooms) (input : List ℕ) (turns : ℕ) → All (λ byte. byte < 256) input →
     IsDefined (run_main u rooms input turns) → VmRunsTo rooms p input turns (run_main u rooms input turns)
 
--- what a program does, with the rooms of the functions of the unit, is what the unit does
+abbrev pub ProgramsKeepMeaning : Type 0
+ProgramsKeepMeaning = (u : TypedUnit) (p : VmProgram) → IsTypedUnit u → IsCodeOf u p → CodeRunsAs u p
+
+-- what a program that runs as a unit does, with the rooms of the functions of the unit, is what the unit does
 pub record BehavesAsUnit (u : TypedUnit) (p : VmProgram) (input : List ℕ) (turns : ℕ) : Type 0 where
   pub ending : Ending
   pub ends : behave_vm (rooms_of u) p input turns ending
@@ -38,6 +42,6 @@ pub record BehavesAsUnit (u : TypedUnit) (p : VmProgram) (input : List ℕ) (tur
 
 abbrev pub BehavioursAreKept : Type 0
 BehavioursAreKept =
-    (u : TypedUnit) (p : VmProgram) → IsTypedUnit u → IsCodeOf u p →
+    (u : TypedUnit) (p : VmProgram) → CodeRunsAs u p →
     (input : List ℕ) (turns : ℕ) → All (λ byte. byte < 256) input →
     behave_c u input turns ≢ b.Undefined → BehavesAsUnit u p input turns

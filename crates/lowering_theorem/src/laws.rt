@@ -9,7 +9,7 @@ pub fn programs_keep_meaning()
     ensures { ProgramsKeepMeaning }
 {}
 
-/// The same in terms of behaviours: what such a program does is what the unit does, with the same peak.
+/// The same in terms of behaviours: what a program does that runs as a unit is what the unit does, with the same peak.
 pub fn behaviours_are_kept()
     ensures { BehavioursAreKept }
 {}

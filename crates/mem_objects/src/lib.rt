@@ -6,7 +6,10 @@
 ghost use Rattle.std.specs.Prelude.{◌≡◌, ◌+◌, ◌-◌, ◌^◌, ◌<◌, min};
 ghost use Rattle.mem_objects.specs.Layout.{place_after, data_end};
 
+mod copies;
+
 use bk_containers::{Name, Seq};
+pub use copies::copy_objects;
 
 /// The most bytes of one object of static storage, of all of them together, and of the memory locals of a function.
 pub const MOST_DATA: u64 = 67_108_864;

@@ -1,9 +1,10 @@
 //! The top call.
 
-ghost use Rattle.std.specs.Prelude.{◌≡◌, ◌≢◌, Some, None, map, string_bytes};
+ghost use Rattle.std.specs.Prelude.{◌≡◌, ◌≢◌, Some, None, map, option_map, string_bytes};
+ghost use Rattle.bk_io.specs.Shelf.{after_call};
 ghost use Rattle.call_outcomes.specs.Outcome.{line_of};
 ghost use Rattle.call_outcomes.specs.Output.{TookUnlessFault, file_faults_after, input_faults_after, output_faults_after};
-ghost use Rattle.call_words.specs.Request.{request_of, HasStack};
+ghost use Rattle.call_words.specs.Request.{call_is, request_of, CommandHasStack, HasStack, OnFile};
 ghost use Rattle.msc_cli.specs.Call.{AnswersByMeaning, AnswersCall, FailsWhereDue, told_after, AnswersWordsByMeaning, AnswersWords};
 
 use crate::assemble::assemble;
@@ -14,6 +15,7 @@ use call_outcomes::outcome::{Outcome, put_line};
 use call_words::compile_options::{Allocator, Options};
 use call_words::{Command, Request, WordsFault, read_words};
 use compile_calls::build::build;
+use compile_calls::generate::generate_and_run;
 use compile_calls::print::print;
 use compile_calls::run::run;
 use compile_calls::vm::vm;
@@ -25,10 +27,10 @@ const DEFAULT_OPTIONS: Options = Options {
 };
 
 /// Does what the words ask for, and writes the outcome's line to `err`. `words[0]` is the program's name. The file
-/// that is named is read once, and no other. A failed write to `err` changes no outcome. What `out` holds is let go
+/// that is named is read once, and no other; `gen` names none. A failed write to `err` changes no outcome. What `out` holds is let go
 /// before the line; where that fails, `finish` reports it.
 ///
-/// The commands are `build`, `run`, `vm`, `exec`, `migrate`, `assemble` and `print`, each with the options that
+/// The commands are `build`, `run`, `vm`, `exec`, `migrate`, `assemble`, `print` and `gen`, each with the options that
 /// [`read_words`] takes. Where nothing is asked for, the answer is [`Outcome::Usage`].
 pub fn msc_main<F: Files, I: Source, O: Sink, E: Sink>(
     alloc: Global,
@@ -39,7 +41,7 @@ pub fn msc_main<F: Files, I: Source, O: Sink, E: Sink>(
     err: &mut E,
 ) -> Outcome
     // What `build` and `run` answer by what the text means: an image that is right for it is written, or is run, and
-    // ends where it has enough steps.
+    // ends where it has enough steps. It is run on the input that was left, where that is told, and else on some input.
     ensures meaning { AnswersWordsByMeaning (request_of (map string_bytes words.now)) result (F.told files.old)
         (record { left = I.left input.old; made = I.made input.old; taken = O.taken out.old })
         (record { left = I.left input.new; made = I.made input.new; taken = O.taken out.new }) }
@@ -91,6 +93,40 @@ fn perform<F: Files, I: Source, O: Sink>(
     }
 }
 
+/// Does what a command asks for over its file.
+fn answer_command<F: Files, I: Source, O: Sink>(
+    alloc: Global,
+    command: Command,
+    file: &str,
+    files: &mut F,
+    input: &mut I,
+    out: &mut O,
+) -> Outcome
+    requires { CommandHasStack command }
+    ensures meaning { AnswersByMeaning (Some (OnFile command file.now)) (F.told files.old) result
+        (record { left = I.left input.old; made = I.made input.old; taken = O.taken out.old })
+        (record { left = I.left input.new; made = I.made input.new; taken = O.taken out.new }) }
+    ensures answer { AnswersCall (Some (OnFile command file.now)) (F.told files.old) result
+        (record { left = I.left input.old; made = I.made input.old; taken = O.taken out.old })
+        (record { left = I.left input.new; made = I.made input.new; taken = O.taken out.new }) }
+    ensures asked { result ≢ Outcome.Usage }
+    ensures due { FailsWhereDue (Some (OnFile command file.now)) (F.told files.old) result }
+    ensures told { F.told files.new ≡ option_map after_call (F.told files.old) }
+    ensures file_count { F.faults files.new ≡ file_faults_after result (F.faults files.old) }
+    ensures input_count { I.faults input.new ≡ input_faults_after result (I.faults input.old) }
+    ensures output_count { O.faults out.new ≡ output_faults_after result (O.faults out.old) }
+{
+    match command {
+        Command::Build(options) => build(alloc, &options, file, files, out),
+        Command::Run(options, limits) => run(alloc, &options, limits, file, files, input, out),
+        Command::Vm { turns } => vm(alloc, &DEFAULT_OPTIONS, turns, file, files, input, out),
+        Command::Exec(limits) => exec(alloc, limits, file, files, input, out),
+        Command::Migrate => migrate(alloc, file, files, out),
+        Command::Assemble => assemble(alloc, file, files, out),
+        Command::Print(pass, options) => print(alloc, &options, pass, file, files, out),
+    }
+}
+
 /// Does what is asked for.
 fn answer_request<F: Files, I: Source, O: Sink>(
     alloc: Global,
@@ -99,29 +135,24 @@ fn answer_request<F: Files, I: Source, O: Sink>(
     input: &mut I,
     out: &mut O,
 ) -> Outcome
-    requires { HasStack request.command }
-    ensures meaning { AnswersByMeaning (Some (request.entry.command, request.entry.file.now)) (F.told files.old) result
+    requires { HasStack (call_is request) }
+    ensures meaning { AnswersByMeaning (Some (call_is request.entry)) (F.told files.old) result
         (record { left = I.left input.old; made = I.made input.old; taken = O.taken out.old })
         (record { left = I.left input.new; made = I.made input.new; taken = O.taken out.new }) }
-    ensures answer { AnswersCall (Some (request.entry.command, request.entry.file.now)) (F.told files.old) result
+    ensures answer { AnswersCall (Some (call_is request.entry)) (F.told files.old) result
         (record { left = I.left input.old; made = I.made input.old; taken = O.taken out.old })
         (record { left = I.left input.new; made = I.made input.new; taken = O.taken out.new }) }
     ensures asked { result ≢ Outcome.Usage }
-    ensures due { FailsWhereDue (Some (request.entry.command, request.entry.file.now)) (F.told files.old) result }
-    ensures told { F.told files.new
-        ≡ told_after (Some (request.entry.command, request.entry.file.now)) (F.told files.old) }
+    ensures due { FailsWhereDue (Some (call_is request.entry)) (F.told files.old) result }
+    ensures told { F.told files.new ≡ told_after (Some (call_is request.entry)) (F.told files.old) }
     ensures file_count { F.faults files.new ≡ file_faults_after result (F.faults files.old) }
     ensures input_count { I.faults input.new ≡ input_faults_after result (I.faults input.old) }
     ensures output_count { O.faults out.new ≡ output_faults_after result (O.faults out.old) }
 {
-    let file = request.file;
-    match request.command {
-        Command::Build(options) => build(alloc, &options, file, files, out),
-        Command::Run(options, limits) => run(alloc, &options, limits, file, files, input, out),
-        Command::Vm { turns } => vm(alloc, &DEFAULT_OPTIONS, turns, file, files, input, out),
-        Command::Exec(limits) => exec(alloc, limits, file, files, input, out),
-        Command::Migrate => migrate(alloc, file, files, out),
-        Command::Assemble => assemble(alloc, file, files, out),
-        Command::Print(pass, options) => print(alloc, &options, pass, file, files, out),
+    match request {
+        Request::OnFile { command, file } => {
+            answer_command(alloc, command, file, files, input, out)
+        }
+        Request::Generate(generation) => generate_and_run(alloc, &generation, out),
     }
 }

@@ -28,40 +28,32 @@ fn is_instruction(line: &str) -> bool {
     matches!(line.as_bytes().first(), Some(b'0'..=b'9'))
 }
 
-/// Writes a row: the instruction over virtual registers, the one over temporaries, the line over slots, and the word.
-fn put_row(
-    rt: &HostRuntime,
-    register: &str,
-    temporary: &str,
-    place: &str,
-    line: Option<&Line>,
-) -> Result<()> {
+/// Writes a row: the instruction over temporaries, the line over slots, and the word.
+fn put_row(rt: &HostRuntime, temporary: &str, place: &str, line: Option<&Line>) -> Result<()> {
     match line {
         Some(line) => {
             let item = line.item.as_str();
             let word = line.word.context("a label has no word")?;
-            println!(rt; "{register:<22}{temporary:<23}{place:<22}{item:<19}{word:08x}")?;
+            println!(rt; "{temporary:<23}{place:<22}{item:<19}{word:08x}")?;
         }
-        None => println!(rt; "{register:<22}{temporary:<23}{place}")?,
+        None => println!(rt; "{temporary:<23}{place}")?,
     }
     Ok(())
 }
 
 /// What stands above the rows.
-const COLUMNS: &str =
-    "virtual registers     temporaries            slots                 assembly           word";
+const COLUMNS: &str = "temporaries            slots                 assembly           word";
 
-/// Writes the rows of a block. Each of its instructions over virtual registers became one over temporaries, and each
-/// line over slots is one word, but that `mrk` is none.
+/// Writes the rows of a block. Each of its instructions stands in a line over slots, and each of these is one word, but
+/// that `mrk` is none.
 pub fn put_rows(
     rt: &HostRuntime,
-    registers: &[String],
     temporaries: &[String],
     places: &[String],
     lines: &[Line],
 ) -> Result<()> {
     println!(rt; "{COLUMNS}")?;
-    let mut instructions = registers.iter().zip(temporaries);
+    let mut instructions = temporaries.iter();
     let mut words = lines.iter();
     for place in places {
         let place = place.as_str();
@@ -71,10 +63,10 @@ pub fn put_rows(
             words.next()
         };
         if is_instruction(place) {
-            let (register, temporary) = instructions.next().context("too few instructions")?;
-            put_row(rt, register.as_str(), temporary.as_str(), place, line)?;
+            let temporary = instructions.next().context("too few instructions")?;
+            put_row(rt, temporary.as_str(), place, line)?;
         } else {
-            put_row(rt, "", "", place, line)?;
+            put_row(rt, "", place, line)?;
         }
     }
     if words.next().is_some() || instructions.next().is_some() {

@@ -88,7 +88,7 @@ pub fn put_page<C: Compiler>(rt: &HostRuntime, compiler: &C, text: &str) -> Resu
     let alloc = rt.alloc();
     println!(rt; "{OPENING}\n\n```c\n{text}```")?;
     show(rt, compiler, &TREE, text)?;
-    let code = show(rt, compiler, &VM, text)?;
+    show(rt, compiler, &VM, text)?;
     show(rt, compiler, &GRAPH, text)?;
     let selected = show(rt, compiler, &SELECT, text)?;
     let places = show_places(rt, compiler, text)?;
@@ -96,7 +96,6 @@ pub fn put_page<C: Compiler>(rt: &HostRuntime, compiler: &C, text: &str) -> Resu
     put_head(rt, &BESIDE)?;
     put_rows(
         rt,
-        part_lines(alloc, code.as_str(), BLOCK)?.as_slice(),
         part_lines(alloc, selected.as_str(), BLOCK)?.as_slice(),
         places.as_slice(),
         lines_behind(lines.as_slice(), LABEL),

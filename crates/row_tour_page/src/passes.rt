@@ -48,9 +48,10 @@ pub const SELECT: Section = Section {
     call: "msc print tour.c --pass select",
     said: "Selection puts instructions of the Alpha in place of those, over as many temporaries `tK` as it \
         takes, beside the registers `$K` which calls and services fix; `v0` is `t4`, `v1` is `t5`, and `v6` is \
-        `t10`. Of this statement each instruction has become one: `lda` from `$31`, which always reads 0, makes a \
-        small number, `bis` with `$31` copies, and `mull/v` and `addl/v` trap where the result is no `int`. The \
-        block that nothing comes to is gone. `docs/selection.md` says what each instruction becomes.",
+        `t10`. Each instruction of this statement becomes one. Then copies between temporaries go, and the block \
+        that nothing comes to: `x` is read where it stands, in `t4`, and the sum is made there. `lda` from `$31`, \
+        which always reads 0, makes a small number, `bis` with `$31` copies, and `mull/v` and `addl/v` trap where \
+        the result is no `int`. `docs/selection.md` says what each instruction becomes.",
 };
 
 /// Temporaries in their slots.
@@ -78,8 +79,8 @@ pub const ASM: Section = Section {
 pub const BESIDE: Section = Section {
     title: "The statement, side by side",
     call: "msc build tour.c",
-    said: "The block `B1` in each form, from the left to the right: over virtual registers, over \
-        temporaries, over slots, in assembly, and as words. Between the instructions stand the loads and stores of \
+    said: "The block `B1` behind selection, from the left to the right: over temporaries, over slots, in \
+        assembly, and as words. Between the instructions stand the loads and stores of \
         slots, and the last one is on the edge to `B2`.",
 };
 

@@ -1,7 +1,7 @@
 -- The cost of a function: a bound on the words that its Alpha code has, as a sum of fixed numbers. Each Alpha
 -- instruction counts 24 words, a call or a division 160 more, and an edge 536 words, since splitting it may add a block
 -- of one jump and an edge, each end of which may move values. The numbers leave room for what selection may need.
-use Rattle.std.specs.Prelude.{ℕ, ◌+◌, ◌*◌, List, length, sum_by}
+use Rattle.std.specs.Prelude.{ℕ, ◌+◌, ◌*◌, length, sum_by}
 use Rattle.suifvm_ir.specs.declared.insn.VmBinaryOp.{VmBinaryOp}
 use Rattle.suifvm_ir.specs.declared.insn.VmBinaryOp.TheVariants.{Divide, Remainder}
 use Rattle.suifvm_ir.specs.declared.insn.VmInsn.{VmInsn}

@@ -1,5 +1,5 @@
 -- The text of a program: each function with its blocks and instructions.
-use Rattle.std.specs.Prelude.{ℕ, ◌+◌, List, [], ◌∷◌, ◌++◌, length, slice_get, Option, Some, None, codes, decimal}
+use Rattle.std.specs.Prelude.{ℕ, List, [], ◌∷◌, ◌++◌, slice_get, Option, Some, None, codes, decimal}
 use Rattle.std.specs.Fmt.{signed_decimal}
 use Rattle.std.specs.Int.{w64, cast_signed}
 use Rattle.suifvm_ir.specs.declared.types.VmType.{VmType}
@@ -25,7 +25,7 @@ use Rattle.suifvm_ir.specs.declared.insn.VmCallee.TheVariants as callee
 use Rattle.suifvm_ir.specs.declared.insn.TypedRegister.{TypedRegister}
 use Rattle.suifvm_ir.specs.declared.insn.VmInsn.{VmInsn}
 use Rattle.suifvm_ir.specs.declared.insn.VmInsn.TheVariants.{LoadConstant, LoadAddress, Load, Store, Copy, Unary, Binary, Shift, Convert, Compare, Branch, Jump, Call, Return, Mark, Nop}
-use Rattle.pass_core.specs.Functions.{count_of}
+use Rattle.suifvm_ir.specs.Lines.{block_name, functions_text}
 use Rattle.suifvm_ir.specs.Programs.{VmFunction, alignment_bytes}
 
 -- ---- words
@@ -88,9 +88,6 @@ builtin_word Exit = codes "exit"
 
 abbrev pub register_text : ℕ → List ℕ
 register_text register = codes "v" ++ decimal register
-
-abbrev pub block_name : ℕ → List ℕ
-block_name block = codes "B" ++ decimal block
 
 abbrev pub place_name : VmObject → List ℕ
 place_name (Global k) = codes "g" ++ decimal k
@@ -168,35 +165,6 @@ insn_text functions Nop = codes "nop"
 
 -- ---- lines
 
--- an instruction with its number
-abbrev pub line_text : List VmFunction → (number : ℕ) → VmInsn → List ℕ
-line_text functions number i = decimal number ++ codes " " ++ insn_text functions i ++ codes "\n"
-
--- the instructions from a number on
-abbrev pub insns_text : List VmFunction → (number : ℕ) → List VmInsn → List ℕ
-insns_text functions number [] = []
-insns_text functions number (i ∷ insns) =
-    line_text functions number i ++ insns_text functions (number + 1) insns
-
--- a block with its number, and its instructions
-abbrev pub block_text : List VmFunction → (block number : ℕ) → List VmInsn → List ℕ
-block_text functions block number insns = block_name block ++ codes ":\n" ++ insns_text functions number insns
-
--- the blocks from a number on
-abbrev pub blocks_text : List VmFunction → (block number : ℕ) → List (List VmInsn) → List ℕ
-blocks_text functions block number [] = []
-blocks_text functions block number (insns ∷ blocks) =
-    block_text functions block number insns ++ blocks_text functions (block + 1) (number + length insns) blocks
-
--- a function with its name, and its blocks
-abbrev pub function_text : List VmFunction → (number : ℕ) → VmFunction → List ℕ
-function_text functions number f = codes "func " ++ f.name ++ codes "\n" ++ blocks_text functions 0 number f.blocks
-
--- the functions, whose instructions are counted over all of them
-abbrev pub functions_text : List VmFunction → (number : ℕ) → List VmFunction → List ℕ
-functions_text functions number [] = []
-functions_text functions number (f ∷ fs) =
-    function_text functions number f ++ functions_text functions (number + count_of f.blocks) fs
-
 abbrev pub program_text : List VmFunction → List ℕ
-program_text functions = functions_text functions 0 functions
+program_text functions =
+    functions_text (insn_text functions) (λ (f : VmFunction). f.name) (λ (f : VmFunction). f.blocks) 0 functions

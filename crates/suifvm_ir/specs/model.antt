@@ -1,1 +1,2 @@
+pub mod OneTarget
 pub mod Targets

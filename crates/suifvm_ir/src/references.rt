@@ -10,14 +10,14 @@ use pass_core::Insn;
 use std::alloc::Global;
 
 /// The register with a number in a list of one.
-fn of_one(register: u32, k: u32) -> Option<u32>
+pub fn of_one(register: u32, k: u32) -> Option<u32>
     ensures { result ≡ slice_get (register ∷ []) k }
 {
     if k == 0 { Some(register) } else { None }
 }
 
 /// The register with a number in a list of two.
-fn of_two(first: u32, second: u32, k: u32) -> Option<u32>
+pub fn of_two(first: u32, second: u32, k: u32) -> Option<u32>
     ensures { result ≡ slice_get (first ∷ second ∷ []) k }
 {
     match k {

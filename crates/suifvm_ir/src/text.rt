@@ -1,126 +1,45 @@
 //! The text of programs.
 
-ghost use Rattle.std.specs.Prelude.{◌≡◌, ◌+◌, ◌<◌, ◌^◌, ◌++◌, IfOk, OnOk, length};
-ghost use Rattle.bk_ilist.specs.Listing.{items};
-ghost use Rattle.pass_core.specs.Functions.{count_of};
-ghost use Rattle.suifvm_ir.specs.Text as text;
+ghost use Rattle.std.specs.Prelude.{◌≡◌, ◌<◌, ◌^◌, ◌++◌, IfOk, OnOk, length};
+ghost use Rattle.suifvm_ir.specs.Text.{program_text};
 
 use crate::insn::VmInsn;
+use crate::lines::{InsnText, put_functions};
 use crate::program::VmProgram;
-use crate::text_parts::{put, put_block, put_insn, put_number};
-use bk_ilist::IndexList;
-use pass_core::block::Block;
+use crate::text_parts::put_insn;
 use pass_core::function::Func;
 use std::alloc::{AllocError, Global};
 
-/// Puts the line of an instruction.
-fn put_line(
-    out: &mut Vec<u8>,
-    functions: &[Func<VmInsn>],
-    number: u64,
-    insn: &VmInsn,
-) -> Result<(), AllocError>
-    ensures { OnOk result (out.new.items ≡ out.old.items ++ text.line_text functions.now number insn.now) }
-{
-    put_number(out, number)?;
-    put(out, " ")?;
-    put_insn(out, functions, insn)?;
-    put(out, "\n")
+/// The text of instructions that call these functions.
+#[derive(Drop)]
+struct VmInsnText<'a> {
+    functions: &'a [Func<VmInsn>],
 }
 
-/// Puts the lines of instructions from a number on, and answers the number that follows.
-#[tactic(auto, using(crate::proofs::TextLoops::insns_next))]
-fn put_insns(
-    out: &mut Vec<u8>,
-    functions: &[Func<VmInsn>],
-    mut number: u64,
-    insns: &IndexList<VmInsn>,
-) -> Result<u64, AllocError>
-    requires { number + length (items insns.now.pairs) < 2 ^ 64 }
-    ensures text { OnOk result
-        (out.new.items ≡ out.old.items ++ text.insns_text functions.now number (items insns.now.pairs)) }
-    ensures number { IfOk result (λ next. next ≡ number + length (items insns.now.pairs)) }
-{
-    for line in insns.iter() {
-        let (_id, insn) = line;
-        put_line(out, functions, number, insn)?;
-        number += 1;
+impl<'a> InsnText<VmInsn> for VmInsnText<'a> {
+    ghost use Rattle.suifvm_ir.specs.Text.{insn_text};
+
+    ghost text = { λ t i. insn_text t.functions.now i };
+
+    fn put_insn(&self, out: &mut Vec<u8>, insn: &VmInsn) -> Result<(), AllocError> {
+        put_insn(out, self.functions, insn)
     }
-    Ok(number)
-}
-
-/// Puts a block, and answers the number that follows its instructions.
-fn put_whole_block(
-    out: &mut Vec<u8>,
-    functions: &[Func<VmInsn>],
-    at: u32,
-    number: u64,
-    block: &Block<VmInsn>,
-) -> Result<u64, AllocError>
-    requires { number + length block.now < 2 ^ 64 }
-    ensures text { OnOk result (out.new.items ≡ out.old.items ++ text.block_text functions.now at number block.now) }
-    ensures number { IfOk result (λ next. next ≡ number + length block.now) }
-{
-    put_block(out, at)?;
-    put(out, ":\n")?;
-    put_insns(out, functions, number, &block.insns)
-}
-
-/// Puts the blocks of a function, and answers the number that follows its instructions.
-#[tactic(auto, using(crate::proofs::TextLoops::blocks_next, crate::proofs::TextLoops::blocks_end, crate::proofs::TextLoops::blocks_count, crate::proofs::TextLoops::count_end))]
-fn put_blocks(
-    out: &mut Vec<u8>,
-    functions: &[Func<VmInsn>],
-    mut number: u64,
-    blocks: &[Block<VmInsn>],
-) -> Result<u64, AllocError>
-    requires few { length blocks.now < 2 ^ 30 }
-    requires fits { number + count_of blocks.now < 2 ^ 64 }
-    ensures text { OnOk result (out.new.items ≡ out.old.items ++ text.blocks_text functions.now 0 number blocks.now) }
-    ensures number { IfOk result (λ next. next ≡ number + count_of blocks.now) }
-{
-    for at in 0..blocks.len() {
-        number = put_whole_block(out, functions, at as u32, number, &blocks[at])?;
-    }
-    Ok(number)
-}
-
-/// Puts a function, and answers the number that follows its instructions.
-fn put_function(
-    out: &mut Vec<u8>,
-    functions: &[Func<VmInsn>],
-    number: u64,
-    function: &Func<VmInsn>,
-) -> Result<u64, AllocError>
-    requires { number + count_of function.now.blocks < 2 ^ 64 }
-    ensures text { OnOk result (out.new.items ≡ out.old.items ++ text.function_text functions.now number function.now) }
-    ensures number { IfOk result (λ next. next ≡ number + count_of function.now.blocks) }
-{
-    put(out, "func ")?;
-    out.extend_from_slice(function.name.as_slice())?;
-    put(out, "\n")?;
-    put_blocks(out, functions, number, function.blocks.as_slice())
 }
 
 /// Puts the functions of a program.
-#[tactic(auto, using(crate::proofs::TextLoops::functions_next, crate::proofs::TextLoops::functions_end))]
-fn put_functions(out: &mut Vec<u8>, functions: &[Func<VmInsn>]) -> Result<(), AllocError>
+fn put_program(out: &mut Vec<u8>, functions: &[Func<VmInsn>]) -> Result<(), AllocError>
     requires { length functions.now < 2 ^ 32 }
-    ensures { OnOk result (out.new.items ≡ out.old.items ++ text.program_text functions.now) }
+    ensures { OnOk result (out.new.items ≡ out.old.items ++ program_text functions.now) }
 {
-    let mut number = 0;
-    for at in 0..functions.len() {
-        number = put_function(out, functions, number, &functions[at])?;
-    }
-    Ok(())
+    put_functions(out, &VmInsnText { functions }, functions)
 }
 
 /// The text of a program: for each function a line with its name, for each block one with its number, and for each
 /// instruction one with its number over the whole program and its text. It fails only where memory is short.
 pub fn vm_text(alloc: Global, program: &VmProgram) -> Result<Vec<u8>, AllocError>
-    ensures { IfOk result (λ bytes. bytes.items ≡ text.program_text program.now.functions) }
+    ensures { IfOk result (λ bytes. bytes.items ≡ program_text program.now.functions) }
 {
     let mut out = Vec::new(alloc);
-    put_functions(&mut out, program.functions.as_slice())?;
+    put_program(&mut out, program.functions.as_slice())?;
     Ok(out)
 }

@@ -2,6 +2,7 @@
 
 ghost use Rattle.std.specs.Prelude.{◌≡◌, ◌++◌, OnOk, decimal, codes};
 ghost use Rattle.std.specs.Fmt.{signed_decimal};
+ghost use Rattle.suifvm_ir.specs.Lines.{block_name};
 ghost use Rattle.suifvm_ir.specs.Text as text;
 
 use crate::insn::{TypedRegister, VmCallee, VmInsn, VmObject};
@@ -29,7 +30,7 @@ pub fn put_number(out: &mut Vec<u8>, number: u64) -> Result<(), AllocError>
 }
 
 /// Puts a number with its sign.
-fn put_signed(out: &mut Vec<u8>, number: i64) -> Result<(), AllocError>
+pub fn put_signed(out: &mut Vec<u8>, number: i64) -> Result<(), AllocError>
     ensures { OnOk result (out.new.items ≡ out.old.items ++ signed_decimal number) }
 {
     let mut buffer = Buffer::new();
@@ -46,14 +47,14 @@ fn put_register(out: &mut Vec<u8>, register: u32) -> Result<(), AllocError>
 
 /// Puts the name of a block.
 pub fn put_block(out: &mut Vec<u8>, block: u32) -> Result<(), AllocError>
-    ensures { OnOk result (out.new.items ≡ out.old.items ++ text.block_name block) }
+    ensures { OnOk result (out.new.items ≡ out.old.items ++ block_name block) }
 {
     put(out, "B")?;
     put_number(out, u64::from(block))
 }
 
 /// Puts the name of an object.
-fn put_place(out: &mut Vec<u8>, place: VmObject) -> Result<(), AllocError>
+pub fn put_place(out: &mut Vec<u8>, place: VmObject) -> Result<(), AllocError>
     ensures { OnOk result (out.new.items ≡ out.old.items ++ text.place_name place) }
 {
     match place {
@@ -277,7 +278,7 @@ fn put_branch(
     block: u32,
 ) -> Result<(), AllocError>
     ensures { OnOk result (out.new.items ≡ out.old.items
-        ++ text.typed_text op.now ty.now (text.register_text source ++ codes ", " ++ text.block_name block)) }
+        ++ text.typed_text op.now ty.now (text.register_text source ++ codes ", " ++ block_name block)) }
 {
     put_typed(out, op, ty)?;
     put_register(out, source)?;
@@ -287,7 +288,7 @@ fn put_branch(
 
 /// Puts a jump.
 fn put_jump(out: &mut Vec<u8>, block: u32) -> Result<(), AllocError>
-    ensures { OnOk result (out.new.items ≡ out.old.items ++ (codes "jmp " ++ text.block_name block)) }
+    ensures { OnOk result (out.new.items ≡ out.old.items ++ (codes "jmp " ++ block_name block)) }
 {
     put(out, "jmp ")?;
     put_block(out, block)

@@ -15,10 +15,10 @@ use Rattle.suifvm_machine.specs.declared.machine.Machine.{Machine}
 use Rattle.suifvm_machine.specs.declared.machine.Stop.{Stop}
 use Rattle.suifvm_machine.specs.declared.machine.StartError.TheVariants as no_start
 use Rattle.suifvm_machine.specs.declared.tables.ProgramTable.{ProgramTable}
-use Rattle.suifvm_run.specs.Run.{Steps, VmBehaves, Stops, program_run}
+use Rattle.suifvm_run.specs.Run.{Steps, VmBehaves, VmBehavesOn, Stops, program_run}
 use Rattle.bk_io.specs.Outside.{Traffic, count_plus}
 use Rattle.suifvm_machine.specs.Begin.{start_at, first_hidden, Begins, HasNoStart, IsOverAtOnce}
-use Rattle.suifvm_run.specs.model.Progress.{run_from, StandsAt, stop_ending}
+use Rattle.suifvm_run.specs.model.Progress.{run_from, LeadsOn, TableRunsOn, stop_ending}
 use Rattle.suifvm_run.specs.model.Stops.{IsRun, StopsAs}
 use Rattle.suifvm_machine.specs.Tables.{program_code}
 use Rattle.suifvm_run.proofs.Progress.{stops_by, calls_by}
@@ -32,46 +32,44 @@ unwritten : (taken : Option (List ℕ)) → taken ≡ option_map (λ bytes. byte
 unwritten None = refl
 unwritten (Some bytes) = ap (λ x. Some x) (sym (append-nil bytes))
 
-module _ (p : ProgramTable) (main turns : ℕ) (memory : Memory) (rooms : Rooms) (input : List ℕ) (told : Traffic)
-    (left : told.left ≡ Some input)
-  where
-    abbrev first : Config Registers
-    first = start_at rooms p main memory turns input
+module _ (p : ProgramTable) (main turns : ℕ) (memory : Memory) (rooms : Rooms) (input : List ℕ) (told : Traffic) where
+  abbrev first : Config Registers
+  first = start_at rooms p main memory turns input
 
-    abbrev run : Steps
-    run = run_from rooms p first
+  abbrev run : Steps
+  run = run_from rooms p first
 
-    -- a machine that began runs on
-    pub began : (after : Traffic) (m : Machine) (ending : VmEnding) → Begins p main memory turns m → ((rs : Rooms) (start : Config Registers) (before : Traffic) → StandsAt rs m.program.now start before told m → IsRun (run_from rs m.program.now start) turns ending before after) → IsRun run turns ending told after
-    began after m ending b goes = subst (λ q. IsRun (run_from rooms q first) turns ending told after) b.program (goes rooms first told (record {
-      hidden = first_hidden rooms main input;
-      steps = 0;
-      reached = ap (λ k. Goes k) (b.config rooms input);
-      left = left;
-      made = uncounted told.made;
-      taken = unwritten told.taken;
-    }))
+  -- a machine that began runs on
+  pub began : (rest : List ℕ) (after : Traffic) (m new : Machine) (ending : VmEnding) → Begins p main memory turns m → LeadsOn m new turns told after (Some ending) input rest → IsRun run turns ending rest told after
+  began rest after m new ending b goes = subst (λ q. IsRun (run_from rooms q first) turns ending rest told after) b.program (goes rooms first told (record {
+    hidden = first_hidden rooms main input;
+    steps = 0;
+    reached = ap (λ k. Goes k) (b.config rooms input);
+    left = refl;
+    made = uncounted told.made;
+    taken = unwritten told.taken;
+  }))
 
-    -- the first step ended the run
-    pub ended_at_once : (s : Stop) → HasNoStart p main memory turns (no_start.Over s) → IsRun run turns (stop_ending turns s) told told
-    ended_at_once s ends =
-        let over : IsOverAtOnce rooms p main memory turns input s = ends rooms input in record {
-          last = over.last;
-          stops = stops_by run turns s over.last (record { steps = 1; over = over.over });
-          left = left ∙ ap (λ x. Some x) (sym over.shows.input);
-          made = uncounted told.made ∙ ap (λ n. option_map (count_plus n) told.made) (sym (calls_by turns s over.last.outer.takings ∙ over.shows.takings));
-          taken = unwritten told.taken ∙ ap (λ o. option_map (λ bytes. bytes ++ o) told.taken) (sym over.shows.output);
-        }
+  -- the first step ended the run
+  pub ended_at_once : (s : Stop) → HasNoStart p main memory turns (no_start.Over s) → IsRun run turns (stop_ending turns s) input told told
+  ended_at_once s ends =
+      let over : IsOverAtOnce rooms p main memory turns input s = ends rooms input in record {
+        last = over.last;
+        stops = stops_by run turns s over.last (record { steps = 1; over = over.over });
+        left = over.shows.input;
+        made = uncounted told.made ∙ ap (λ n. option_map (count_plus n) told.made) (sym (calls_by turns s over.last.outer.takings ∙ over.shows.takings));
+        taken = unwritten told.taken ∙ ap (λ o. option_map (λ bytes. bytes ++ o) told.taken) (sym over.shows.output);
+      }
 
-    -- nothing was done
-    pub nothing_done : MemoryIsShort → IsRun run turns e.NoMemory told told
-    nothing_done short = record {
-      last = first.world;
-      stops = (record { steps = 0; config = first; goes = refl; world = refl }, short);
-      left = left;
-      made = uncounted told.made;
-      taken = unwritten told.taken;
-    }
+  -- nothing was done
+  pub nothing_done : MemoryIsShort → IsRun run turns e.NoMemory input told told
+  nothing_done short = record {
+    last = first.world;
+    stops = (record { steps = 0; config = first; goes = refl; world = refl }, short);
+    left = refl;
+    made = uncounted told.made;
+    taken = unwritten told.taken;
+  }
 
 -- ---- programs
 
@@ -90,8 +88,8 @@ stops_of rooms program input turns e.InputFault last s = s
 stops_of rooms program input turns e.WriteFault last s = s
 stops_of rooms program input turns e.NoMemory last s = s
 
-behaves : (rooms : Rooms) (program : VmProgram) (input : List ℕ) (turns : ℕ) (ending : VmEnding) (told after : Traffic) → IsRun (program_run rooms program input turns) turns ending told after → VmBehaves rooms program input turns ending told after
-behaves rooms program input turns ending told after r = record {
+behaves : (rooms : Rooms) (program : VmProgram) (input rest : List ℕ) (turns : ℕ) (ending : VmEnding) (told after : Traffic) → IsRun (program_run rooms program input turns) turns ending rest told after → VmBehaves rooms program input rest turns ending told after
+behaves rooms program input rest turns ending told after r = record {
   last = r.last;
   stops = stops_of rooms program input turns ending r.last r.stops;
   left = r.left;
@@ -100,19 +98,19 @@ behaves rooms program input turns ending told after r = record {
 }
 
 -- the run of the tables of a program, in the memory that it starts with, is its run
-pub whole : (p : ProgramTable) (program : VmProgram) (main : ℕ) (memory : Memory) (rooms : Rooms) (input : List ℕ) (turns : ℕ) (ending : VmEnding) (told after : Traffic) → program_code p ≡ map code_of program.functions → memory ≡ start_memory program.globals → main ≡ main_of program.functions → IsRun (run_from rooms p (start_at rooms p main memory turns input)) turns ending told after → VmBehaves rooms program input turns ending told after
-whole p program main memory rooms input turns ending told after functions objects number r =
-    behaves rooms program input turns ending told after
-    (subst (λ fs. IsRun (vm_run rooms fs (main_of program.functions) (world_with (start_memory program.globals) input turns)) turns ending told after) functions
-    (subst (λ n. IsRun (vm_run rooms (program_code p) n (world_with (start_memory program.globals) input turns)) turns ending told after) number
-    (subst (λ x. IsRun (vm_run rooms (program_code p) main (world_with x input turns)) turns ending told after) objects r)))
+pub whole : (p : ProgramTable) (program : VmProgram) (main : ℕ) (memory : Memory) (turns : ℕ) (ending : VmEnding) (told after : Traffic) → program_code p ≡ map code_of program.functions → memory ≡ start_memory program.globals → main ≡ main_of program.functions → (input rest : List ℕ) → TableRunsOn p main memory turns ending told after input rest → VmBehavesOn program turns ending told after input rest
+whole p program main memory turns ending told after functions objects number input rest runs rooms =
+    behaves rooms program input rest turns ending told after
+    (subst (λ fs. IsRun (vm_run rooms fs (main_of program.functions) (world_with (start_memory program.globals) input turns)) turns ending rest told after) functions
+    (subst (λ n. IsRun (vm_run rooms (program_code p) n (world_with (start_memory program.globals) input turns)) turns ending rest told after) number
+    (subst (λ x. IsRun (vm_run rooms (program_code p) main (world_with x input turns)) turns ending rest told after) objects (runs rooms))))
 
 -- without memory for its tables or objects it is at its start
-pub not_begun : (program : VmProgram) (rooms : Rooms) (input : List ℕ) (turns : ℕ) (told : Traffic) → MemoryIsShort → told.left ≡ Some input → VmBehaves rooms program input turns e.NoMemory told told
-not_begun program rooms input turns told short left = record {
+pub not_begun : (program : VmProgram) (rooms : Rooms) (input : List ℕ) (turns : ℕ) (told : Traffic) → MemoryIsShort → VmBehaves rooms program input input turns e.NoMemory told told
+not_begun program rooms input turns told short = record {
   last = (first_of program).world;
   stops = (record { steps = 0; config = first_of program; goes = refl; world = refl }, short);
-  left = left;
+  left = refl;
   made = uncounted told.made;
   taken = unwritten told.taken;
 }

@@ -1,5 +1,5 @@
 -- What a run of a program does, by its meaning.
-use Rattle.std.specs.Prelude.{◌≡◌, ℕ, zero, suc, ◌+◌, List, ◌++◌, [], ◌∷◌, map, Option, Some, option_map}
+use Rattle.std.specs.Prelude.{◌≡◌, ℕ, suc, ◌+◌, List, ◌++◌, [], ◌∷◌, map, option_map}
 use Rattle.bk_memory.specs.Shortage.{MemoryIsShort}
 use Rattle.bk_io.specs.Outside.{next_count, count_plus, Traffic}
 use Rattle.mem_model.specs.World.{World, Rooms}
@@ -54,14 +54,20 @@ Stops rooms program input turns e.InputFault last = TakesNext (program_run rooms
 Stops rooms program input turns e.WriteFault last = PutsNext (program_run rooms program input turns) last
 Stops rooms program input turns e.NoMemory last = GoesOn (program_run rooms program input turns) last × MemoryIsShort
 
--- the run of a program on an input with so many turns that stopped: how, and what it did to the input and the output
-pub record VmBehaves (rooms : Rooms) (program : VmProgram) (input : List ℕ) (turns : ℕ) (ending : VmEnding)
+-- the run of a program on an input, of which this rest is left, with so many turns that stopped: how, and what it did to
+-- the input and the output
+pub record VmBehaves (rooms : Rooms) (program : VmProgram) (input rest : List ℕ) (turns : ℕ) (ending : VmEnding)
     (told after : Traffic) : Type 0 where
   pub last : World
   pub stops : Stops rooms program input turns ending last
-  pub left : after.left ≡ Some last.outer.input
+  pub left : last.outer.input ≡ rest
   pub made : after.made ≡ option_map (count_plus (input_calls ending last.outer.takings)) told.made
   pub taken : after.taken ≡ option_map (λ bytes. bytes ++ last.outer.output) told.taken
+
+-- the same whatever the rooms are
+abbrev pub VmBehavesOn : VmProgram → (turns : ℕ) → VmEnding → (told after : Traffic) → (input rest : List ℕ) → Type 0
+VmBehavesOn program turns ending told after input rest =
+    (rooms : Rooms) → VmBehaves rooms program input rest turns ending told after
 
 -- the counts of faults of the input and the output after a run: one more where they failed, and else as before
 abbrev pub input_faults_after : VmEnding → ℕ → ℕ

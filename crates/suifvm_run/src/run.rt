@@ -1,18 +1,14 @@
 //! Runs of programs, with what they ask of the outside.
 
-ghost use Rattle.std.specs.Prelude.{◌≡◌, ◌<◌, ℕ, List, length, position, Option, Some, IfSome, IfNone, unwrap_or};
-ghost use Rattle.machine_model.specs.Machine.{Config};
-ghost use Rattle.mem_model.specs.World.{Rooms};
+ghost use Rattle.std.specs.Prelude.{◌≡◌, ◌<◌, length, position, Some, IfSome, unwrap_or};
 ghost use Rattle.suifvm_ir.specs.Programs as programs;
-ghost use Rattle.suifvm_run.specs.Run.{VmBehaves, input_faults_after, output_faults_after};
-ghost use Rattle.bk_io.specs.Outside.{Traffic, traffic_of};
-ghost use Rattle.suifvm_machine.specs.Begin.{start_at};
+ghost use Rattle.suifvm_run.specs.Run.{VmBehavesOn, input_faults_after, output_faults_after};
+ghost use Rattle.bk_io.specs.Outside.{OnInput, traffic_of};
 ghost use Rattle.suifvm_machine.specs.Config as config;
-ghost use Rattle.suifvm_run.specs.model.Falls.{AreMarked, machine_left};
+ghost use Rattle.suifvm_run.specs.model.Falls.{AreMarked};
 ghost use Rattle.suifvm_run.specs.model.Progress as progress;
-ghost use Rattle.suifvm_run.specs.model.Stops.{IsRun};
 ghost use Rattle.suifvm_machine.specs.Tables.{FunctionsAreNumbered, program_code};
-ghost use Rattle.suifvm_meaning.specs.Behave.{Registers, main_of};
+ghost use Rattle.suifvm_meaning.specs.Behave.{main_of};
 ghost use Rattle.suifvm_meaning.specs.Effect as effect;
 ghost use Rattle.suifvm_operations.specs.Tidy.{MemoryIsTidy};
 
@@ -64,15 +60,9 @@ fn slow_step<I: Source, O: Sink>(
 ) -> Option<VmEnding>
     requires sound { config.IsSound machine.old }
     requires marked { AreMarked (config.program_of machine.old) }
-    ensures sound { IfNone result (config.IsSound machine.new) }
-    ensures program { IfNone result (machine.new.program.now ≡ machine.old.program.now) }
-    // fewer steps are left that it can take
-    ensures falls { IfNone result (machine_left machine.new < machine_left machine.old) }
-    ensures run { (rooms : Rooms) (start : Config Registers) (told : Traffic) →
-        progress.StandsAt rooms machine.old.program.now start told
-        (traffic_of I.left I.made O.taken input.old out.old) machine.old →
-        progress.TurnEnds rooms machine.old.program.now start turns told
-        (traffic_of I.left I.made O.taken input.new out.new) machine.new result }
+    ensures follows { progress.StepFollows machine.old machine.new turns
+        (traffic_of I.left I.made O.taken input.old out.old)
+        (traffic_of I.left I.made O.taken input.new out.new) result }
     ensures input_count { I.faults input.new
         ≡ input_faults_after (unwrap_or result VmEnding.NoMemory) (I.faults input.old) }
     ensures output_count { O.faults out.new
@@ -109,15 +99,9 @@ fn step<I: Source, O: Sink>(
 ) -> Option<VmEnding>
     requires sound { config.IsSound machine.old }
     requires marked { AreMarked (config.program_of machine.old) }
-    ensures sound { IfNone result (config.IsSound machine.new) }
-    ensures program { IfNone result (machine.new.program.now ≡ machine.old.program.now) }
-    // fewer steps are left that it can take
-    ensures falls { IfNone result (machine_left machine.new < machine_left machine.old) }
-    ensures run { (rooms : Rooms) (start : Config Registers) (told : Traffic) →
-        progress.StandsAt rooms machine.old.program.now start told
-        (traffic_of I.left I.made O.taken input.old out.old) machine.old →
-        progress.TurnEnds rooms machine.old.program.now start turns told
-        (traffic_of I.left I.made O.taken input.new out.new) machine.new result }
+    ensures follows { progress.StepFollows machine.old machine.new turns
+        (traffic_of I.left I.made O.taken input.old out.old)
+        (traffic_of I.left I.made O.taken input.new out.new) result }
     ensures input_count { I.faults input.new
         ≡ input_faults_after (unwrap_or result VmEnding.NoMemory) (I.faults input.old) }
     ensures output_count { O.faults out.new
@@ -139,11 +123,9 @@ pub(crate) fn run_machine<I: Source, O: Sink>(
 ) -> VmEnding
     requires sound { config.IsSound machine.old }
     requires marked { AreMarked (config.program_of machine.old) }
-    ensures run { (rooms : Rooms) (start : Config Registers) (told : Traffic) →
-        progress.StandsAt rooms machine.old.program.now start told
-        (traffic_of I.left I.made O.taken input.old out.old) machine.old →
-        IsRun (progress.run_from rooms machine.old.program.now start) turns result told
-        (traffic_of I.left I.made O.taken input.new out.new) }
+    ensures run { OnInput (I.left input.old) (I.left input.new) (progress.LeadsOn machine.old machine.new turns
+        (traffic_of I.left I.made O.taken input.old out.old)
+        (traffic_of I.left I.made O.taken input.new out.new) (Some result)) }
     ensures input_count { I.faults input.new ≡ input_faults_after result (I.faults input.old) }
     ensures output_count { O.faults out.new ≡ output_faults_after result (O.faults out.old) }
 {
@@ -194,10 +176,10 @@ fn run_table<I: Source, O: Sink>(
     requires made { made ≡ length memory }
     requires numbers { FunctionsAreNumbered 0 table.now.functions.items table.now.end }
     requires marked { AreMarked (program_code table.now) }
-    ensures run { (rooms : Rooms) (bytes : List ℕ) → I.left input.old ≡ Some bytes →
-        IsRun (progress.run_from rooms table.now (start_at rooms table.now main memory turns bytes)) turns result
+    ensures run { OnInput (I.left input.old) (I.left input.new)
+        (progress.TableRunsOn table.now main memory turns result
         (traffic_of I.left I.made O.taken input.old out.old)
-        (traffic_of I.left I.made O.taken input.new out.new) }
+        (traffic_of I.left I.made O.taken input.new out.new)) }
     ensures input_count { I.faults input.new ≡ input_faults_after result (I.faults input.old) }
     ensures output_count { O.faults out.new ≡ output_faults_after result (O.faults out.old) }
 {
@@ -211,10 +193,12 @@ fn run_table<I: Source, O: Sink>(
     }
 }
 
-/// Runs a program with so many turns, on bytes of the input, to the output.
+/// Runs a program with so many turns, on the input, to the output.
 ///
-/// `Ended`, `Trapped` and `Undefined` are the ending that the meaning of the program has on these bytes with so many
-/// turns, whatever the rooms of its functions are, and `Budget` is its want of a turn. `InputFault` and `WriteFault`
+/// `Ended`, `Trapped` and `Undefined` are the ending that the meaning of the program has on the input with so many
+/// turns, whatever the rooms of its functions are, and `Budget` is its want of a turn. The input is the bytes that were
+/// taken, with whatever may still be given behind them: what was left, where that is told, and else there is such an
+/// input. `InputFault` and `WriteFault`
 /// come where the input or the output failed, before the step that asked for it. The input is asked once for each
 /// call of `getchar`. `NoMemory` comes only where memory is short.
 pub fn run_vm<I: Source, O: Sink>(
@@ -224,10 +208,9 @@ pub fn run_vm<I: Source, O: Sink>(
     out: &mut O,
     turns: u64,
 ) -> VmEnding
-    ensures run { (rooms : Rooms) (bytes : List ℕ) → I.left input.old ≡ Some bytes →
-        VmBehaves rooms program.now bytes turns result
+    ensures run { OnInput (I.left input.old) (I.left input.new) (VmBehavesOn program.now turns result
         (traffic_of I.left I.made O.taken input.old out.old)
-        (traffic_of I.left I.made O.taken input.new out.new) }
+        (traffic_of I.left I.made O.taken input.new out.new)) }
     ensures input_count { I.faults input.new ≡ input_faults_after result (I.faults input.old) }
     ensures output_count { O.faults out.new ≡ output_faults_after result (O.faults out.old) }
 {

@@ -1,12 +1,7 @@
--- One turn of each loop of the text, and its end.
+-- One turn of the loop over registers, and its end.
 use Rattle.std.proofs.Common.{◌≡◌, ℕ, ◌+◌, ◌<◌, ◌≤◌, List, [], ◌∷◌, ◌++◌, length, get_or, drop, sym, ap, ◌∙◌, append_assoc, append-nil}
 use Rattle.std.proofs.lemmas.List.{at_drop_more, at_drop_all}
-use Rattle.std.proofs.lemmas.List.Sums.{sum_by-drop_more}
-use Rattle.bk_ilist.specs.Listing.{items}
-use Rattle.temp_ir.specs.declared.insn.TempInsn.{TempInsn}
-use Rattle.pass_core.specs.Functions.{count_of}
-use Rattle.temp_ir.specs.Programs.{TempFn}
-use Rattle.temp_ir.specs.Text.{register_name, registers_text, line_text, insns_text, block_text, blocks_text, function_text, functions_text}
+use Rattle.temp_ir.specs.Text.{register_name, registers_text}
 
 -- what stands behind two pieces
 two_pieces : (out a b rest : List ℕ) → (out ++ a ++ b) ++ rest ≡ out ++ (a ++ b ++ rest)
@@ -20,33 +15,3 @@ registers_next out registers i r is within =
 
 pub registers_end : (out registers : List ℕ) (i : ℕ) → length registers ≤ i → out ++ registers_text (drop i registers) ≡ out
 registers_end out registers i past = ap (λ x. out ++ x) (at_drop_all registers_text registers i past) ∙ append-nil out
-
-pub insns_next : (out : List ℕ) (n : ℕ) (i : TempInsn) (rest all : List (ℕ × TempInsn)) (id : ℕ) → all ≡ (id, i) ∷ rest → (out ++ line_text n i) ++ insns_text (n + 1) (items rest) ≡ out ++ insns_text n (items all)
-insns_next out n i rest all id is =
-    append_assoc out (line_text n i) (insns_text (n + 1) (items rest))
-    ∙ sym (ap (λ x. out ++ insns_text n (items x)) is)
-
-pub blocks_next : (out : List ℕ) (at n : ℕ) (x : List TempInsn) (blocks : List (List TempInsn)) → x ≡ get_or blocks at x → at < length blocks → (out ++ block_text at n x) ++ blocks_text (at + 1) (n + length x) (drop (at + 1) blocks) ≡ out ++ blocks_text at n (drop at blocks)
-blocks_next out at n x blocks is within =
-    append_assoc out (block_text at n x) (blocks_text (at + 1) (n + length x) (drop (at + 1) blocks))
-    ∙ ap (λ y. out ++ (block_text at n y ++ blocks_text (at + 1) (n + length y) (drop (at + 1) blocks))) is
-    ∙ ap (λ y. out ++ y) (sym (at_drop_more (blocks_text at n) blocks at x within))
-
-pub blocks_end : (out : List ℕ) (at n : ℕ) (blocks : List (List TempInsn)) → length blocks ≤ at → out ++ blocks_text at n (drop at blocks) ≡ out
-blocks_end out at n blocks past = ap (λ x. out ++ x) (at_drop_all (blocks_text at n) blocks at past) ∙ append-nil out
-
-pub blocks_count : (at : ℕ) (x : List TempInsn) (blocks : List (List TempInsn)) → x ≡ get_or blocks at x → at < length blocks → count_of (drop at blocks) ≡ length x + count_of (drop (at + 1) blocks)
-blocks_count at x blocks is within =
-    sum_by-drop_more (λ block. length block) blocks at x within ∙ sym (ap (λ y. length y + count_of (drop (at + 1) blocks)) is)
-
-pub count_end : (at : ℕ) (blocks : List (List TempInsn)) → length blocks ≤ at → count_of (drop at blocks) ≡ 0
-count_end at blocks past = at_drop_all count_of blocks at past
-
-pub functions_next : (functions : List TempFn) (out : List ℕ) (at n : ℕ) (f : TempFn) → f ≡ get_or functions at f → at < length functions → (out ++ function_text n f) ++ functions_text (n + count_of f.blocks) (drop (at + 1) functions) ≡ out ++ functions_text n (drop at functions)
-functions_next functions out at n f is within =
-    append_assoc out (function_text n f) (functions_text (n + count_of f.blocks) (drop (at + 1) functions))
-    ∙ ap (λ y. out ++ (function_text n y ++ functions_text (n + count_of y.blocks) (drop (at + 1) functions))) is
-    ∙ ap (λ y. out ++ y) (sym (at_drop_more (functions_text n) functions at f within))
-
-pub functions_end : (functions : List TempFn) (out : List ℕ) (at n : ℕ) → length functions ≤ at → out ++ functions_text n (drop at functions) ≡ out
-functions_end functions out at n past = ap (λ x. out ++ x) (at_drop_all (functions_text n) functions at past) ∙ append-nil out

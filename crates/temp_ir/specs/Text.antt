@@ -1,10 +1,10 @@
 -- The text of instructions, functions and programs over temporaries. An instruction is spelled as in assembly. The mark
 -- that stands before the number of a temporary is `t`, or another one where the numbers stand for registers.
-use Rattle.std.specs.Prelude.{ℕ, ◌+◌, Bool, true, false, ℤ, List, [], ◌∷◌, ◌++◌, length, codes, decimal}
+use Rattle.std.specs.Prelude.{ℕ, Bool, true, false, ℤ, List, [], ◌∷◌, ◌++◌, codes, decimal}
 use Rattle.std.specs.Fmt.{signed_decimal}
 use Rattle.alpha_lines.specs.Mnemonics as mnemonic
-use Rattle.pass_core.specs.Functions.{count_of}
-use Rattle.suifvm_ir.specs.Text.{block_name, place_name}
+use Rattle.suifvm_ir.specs.Lines.{block_name, functions_text}
+use Rattle.suifvm_ir.specs.Text.{place_name}
 use Rattle.temp_ir.specs.declared.operation.DivisionRoutine.{DivisionRoutine}
 use Rattle.temp_ir.specs.declared.operation.DivisionRoutine.TheVariants.{Divq, Remq, Divqu, Remqu, Divl, Reml, Divlu, Remlu}
 use Rattle.temp_ir.specs.declared.operation.Service.{Service}
@@ -107,33 +107,6 @@ insn_text mark Mark = codes "mrk"
 
 -- ---- lines
 
--- an instruction with its number
-abbrev pub line_text : (number : ℕ) → TempInsn → List ℕ
-line_text number i = decimal number ++ codes " " ++ insn_text (codes "t") i ++ codes "\n"
-
--- the instructions from a number on
-abbrev pub insns_text : (number : ℕ) → List TempInsn → List ℕ
-insns_text number [] = []
-insns_text number (i ∷ insns) = line_text number i ++ insns_text (number + 1) insns
-
--- a block with its number, and its instructions
-abbrev pub block_text : (block number : ℕ) → List TempInsn → List ℕ
-block_text block number insns = block_name block ++ codes ":\n" ++ insns_text number insns
-
--- the blocks from a number on
-abbrev pub blocks_text : (block number : ℕ) → List (List TempInsn) → List ℕ
-blocks_text block number [] = []
-blocks_text block number (insns ∷ blocks) =
-    block_text block number insns ++ blocks_text (block + 1) (number + length insns) blocks
-
--- a function with its name, and its blocks
-abbrev pub function_text : (number : ℕ) → TempFn → List ℕ
-function_text number f = codes "func " ++ f.name ++ codes "\n" ++ blocks_text 0 number f.blocks
-
--- the functions, whose instructions are counted over all of them
-abbrev pub functions_text : (number : ℕ) → List TempFn → List ℕ
-functions_text number [] = []
-functions_text number (f ∷ fs) = function_text number f ++ functions_text (number + count_of f.blocks) fs
-
 abbrev pub program_text : List TempFn → List ℕ
-program_text functions = functions_text 0 functions
+program_text functions =
+    functions_text (insn_text (codes "t")) (λ (f : TempFn). f.name) (λ (f : TempFn). f.blocks) 0 functions

@@ -35,8 +35,8 @@ fn copy_blocks(
     Ok(copies)
 }
 
-/// Equal objects. It fails only where memory is short.
-fn copy_objects(alloc: Global, objects: &[MemoryLocal]) -> Result<Seq<MemoryLocal>, AllocError>
+/// Equal memory locals, in order. It fails only where memory is short.
+pub fn copy_objects(alloc: Global, objects: &[MemoryLocal]) -> Result<Seq<MemoryLocal>, AllocError>
     ensures { IfOk result (λ copies. copies ≡ objects.now) }
 {
     Ok(Seq::from_vec(Vec::from_slice(alloc, objects)?))

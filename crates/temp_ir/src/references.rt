@@ -8,24 +8,7 @@ use crate::insn::{FirstOperand, SecondOperand, TempInsn};
 use crate::operation::{Operation, Service};
 use pass_core::Insn;
 use std::alloc::Global;
-
-/// The temporary with a number in a list of one.
-fn of_one(temp: u32, k: u32) -> Option<u32>
-    ensures { result ≡ slice_get (temp ∷ []) k }
-{
-    if k == 0 { Some(temp) } else { None }
-}
-
-/// The temporary with a number in a list of two.
-fn of_two(first: u32, second: u32, k: u32) -> Option<u32>
-    ensures { result ≡ slice_get (first ∷ second ∷ []) k }
-{
-    match k {
-        0 => Some(first),
-        1 => Some(second),
-        _ => None,
-    }
-}
+use suifvm_ir::references::{of_one, of_two};
 
 /// The temporary of a first operand.
 fn of_source(source: FirstOperand, k: u32) -> Option<u32>

@@ -1,8 +1,9 @@
 //! The text of instructions.
 
-ghost use Rattle.std.specs.Prelude.{◌≡◌, ◌++◌, OnOk, decimal, codes, map};
+ghost use Rattle.std.specs.Prelude.{◌≡◌, ◌++◌, OnOk, decimal, codes};
 ghost use Rattle.std.specs.Fmt.{signed_decimal};
-ghost use Rattle.suifvm_ir.specs.Text.{block_name, place_name};
+ghost use Rattle.suifvm_ir.specs.Lines.{block_name};
+ghost use Rattle.suifvm_ir.specs.Text.{place_name};
 ghost use Rattle.temp_ir.specs.Fixed.{register_number, argument_registers};
 ghost use Rattle.temp_ir.specs.Text as text;
 
@@ -11,40 +12,9 @@ use crate::words::{
     address_word, branch_word, extend_word, load_word, operate_word, return_word, routine_word,
     service_word, store_word,
 };
-use itoa::Buffer;
 use std::alloc::AllocError;
 use suifvm_ir::insn::VmObject;
-
-/// Puts a word.
-pub fn put(out: &mut Vec<u8>, word: &str) -> Result<(), AllocError>
-    ensures { OnOk result (out.new.items ≡ out.old.items ++ word.now) }
-{
-    out.extend_from_slice(word.as_bytes())
-}
-
-/// Puts a number.
-pub fn put_number(out: &mut Vec<u8>, number: u64) -> Result<(), AllocError>
-    ensures { OnOk result (out.new.items ≡ out.old.items ++ decimal number) }
-{
-    let mut buffer = Buffer::new();
-    out.extend_from_slice(buffer.format(number).as_bytes())
-}
-
-/// Puts a number with its sign.
-fn put_signed(out: &mut Vec<u8>, number: i16) -> Result<(), AllocError>
-    ensures { OnOk result (out.new.items ≡ out.old.items ++ signed_decimal number) }
-{
-    let mut buffer = Buffer::new();
-    out.extend_from_slice(buffer.format(number).as_bytes())
-}
-
-/// Puts the name of a block.
-pub fn put_block(out: &mut Vec<u8>, block: u32) -> Result<(), AllocError>
-    ensures { OnOk result (out.new.items ≡ out.old.items ++ block_name block) }
-{
-    put(out, "B")?;
-    put_number(out, u64::from(block))
-}
+use suifvm_ir::text_parts::{put, put_block, put_number, put_place, put_signed};
 
 /// Puts a temporary.
 fn put_temp(out: &mut Vec<u8>, mark: &str, temp: u32) -> Result<(), AllocError>
@@ -79,22 +49,6 @@ fn put_operand(out: &mut Vec<u8>, mark: &str, operand: SecondOperand) -> Result<
     match operand {
         SecondOperand::Temp(temp) => put_temp(out, mark, temp),
         SecondOperand::Literal(number) => put_number(out, u64::from(number)),
-    }
-}
-
-/// Puts the name of an object.
-fn put_place(out: &mut Vec<u8>, place: VmObject) -> Result<(), AllocError>
-    ensures { OnOk result (out.new.items ≡ out.old.items ++ place_name place) }
-{
-    match place {
-        VmObject::Global(k) => {
-            put(out, "g")?;
-            put_number(out, u64::from(k))
-        }
-        VmObject::Local(k) => {
-            put(out, "m")?;
-            put_number(out, u64::from(k))
-        }
     }
 }
 
@@ -134,7 +88,7 @@ fn put_memory(
     put(out, " ")?;
     put_source(out, mark, first)?;
     put(out, ", ")?;
-    put_signed(out, plus)?;
+    put_signed(out, i64::from(plus))?;
     put(out, "(")?;
     put_source(out, mark, base)?;
     put(out, ")")
@@ -243,7 +197,7 @@ fn put_set_fixed(out: &mut Vec<u8>, register: FixedRegister, number: i16) -> Res
     put(out, "lda ")?;
     put_register(out, register.number())?;
     put(out, ", ")?;
-    put_signed(out, number)?;
+    put_signed(out, i64::from(number))?;
     put(out, "($31)")
 }
 

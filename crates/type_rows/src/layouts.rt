@@ -10,7 +10,7 @@ use anyhow::{Context, Result, bail};
 use bk_containers::Name;
 use c_typed_tree::layout::offset_of;
 use c_typed_tree::{CType, StructDef};
-use c_typing_declared_types::{MOST_DEPTH, is_deep_at_most};
+use c_typing_rules::c_typing_declared_types::{MOST_DEPTH, is_deep_at_most};
 use c_typing_rules::types::is_object;
 use c_typing_struct_layout::{Field, lay_out};
 use std::alloc::Global;

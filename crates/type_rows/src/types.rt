@@ -2,7 +2,7 @@
 
 use anyhow::{Context, Result, bail};
 use c_typed_tree::{CType, StructDef};
-use c_typing_declared_types::{DeclaredType, array_of, pointer_to};
+use c_typing_rules::c_typing_declared_types::{DeclaredType, array_of, pointer_to};
 use row_sheets::number::number;
 use std::alloc::Global;
 

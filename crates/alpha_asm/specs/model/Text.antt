@@ -12,10 +12,6 @@ use Rattle.alpha_items.specs.Assembly.{label_index}
 use Rattle.alpha_items.specs.Layout.{item_place, text_words, AllReach, IsLeastFar}
 use Rattle.alpha_asm.specs.model.Sweeps.{AreTargets, ArePlaces, label_target, target_of}
 
--- addresses below this one are sums of a high and a low half
-abbrev pub most_address : ℕ
-most_address = 2147450880
-
 -- the jump of a branch without a condition
 abbrev pub link_jump : BranchOp → JumpOp
 link_jump Bsr = Jsr

@@ -14,7 +14,8 @@ use Rattle.alloc_model.specs.Effect.{width_of, widest_in, widest_call}
 use Rattle.block_pass_laws.specs.temp_walk_laws.SameRuns.{WritesWithin}
 use Rattle.block_pass_laws.specs.argument_laws.Kept.{IsWithinBlock, AreWithinBlocks}
 use Rattle.block_preparation_laws.specs.selected_widths.Widths.{SelectedBlocksAreWithin}
-use Rattle.block_preparation_laws.proofs.SelectedWidths.Plain.{takes-plain, result-plain, Form, Calls, Plain, form}
+use Rattle.block_preparation_laws.proofs.SelectedWidths.Plain.{takes_plain, bare_plain, Form, Calls, Plain, form}
+use Rattle.selection_bounds.proofs.SelectionShapes.Plain.{result_bare}
 use Rattle.block_preparation_laws.proofs.SelectedWidths.Widths.{widest_append, plains_width, plains_within}
 
 -- ---- calls of functions
@@ -49,12 +50,12 @@ call_part d k arguments = i.Call k (length arguments) ∷ result_items d
 
 call_width : (d : Option ℕ) (k : ℕ) (arguments : List ℕ) → widest_in (pass_items 0 arguments ++ call_part d k arguments) ≡ length arguments
 call_width d k arguments =
-    omega (arith, widest_append (pass_items 0 arguments) (call_part d k arguments), passes_width 0 arguments, plains_width (result_items d) (result-plain d))
+    omega (arith, widest_append (pass_items 0 arguments) (call_part d k arguments), passes_width 0 arguments, plains_width (result_items d) (bare_plain (result_items d) (result_bare d)))
 
 call_within : (w : ℕ) (d : Option ℕ) (k : ℕ) (arguments : List ℕ) → length arguments ≤ w → All (WritesWithin w) (pass_items 0 arguments ++ call_part d k arguments)
 call_within w d k arguments le =
     All-append (WritesWithin w) (pass_items 0 arguments) (call_part d k arguments) (passes_within w 0 arguments (omega (arith, le)))
-    (All-cons (WritesWithin w) (i.Call k (length arguments)) (result_items d) tt (plains_within w (result_items d) (result-plain d)))
+    (All-cons (WritesWithin w) (i.Call k (length arguments)) (result_items d) tt (plains_within w (result_items d) (bare_plain (result_items d) (result_bare d))))
 
 -- ---- instructions
 
@@ -95,7 +96,7 @@ first_within : (params : ℕ) (block : List VmInsn) → IsWithinBlock (parameter
 first_within params block =
     let w = widest_in (parameter_items params ++ selected_insns block) in
     All-append (WritesWithin w) (parameter_items params) (selected_insns block)
-    (plains_within w (parameter_items params) (takes-plain 0 params))
+    (plains_within w (parameter_items params) (takes_plain 0 params))
     (insns_within w block (omega (arith, widest_append (parameter_items params) (selected_insns block))))
 
 others_within : (blocks : List (List VmInsn)) → AreWithinBlocks (map selected_insns blocks)
@@ -127,7 +128,7 @@ calls_narrow params most (block ∷ blocks) h =
     omega (
       arith,
       widest_append (parameter_items params) (selected_insns block),
-      plains_width (parameter_items params) (takes-plain 0 params),
+      plains_width (parameter_items params) (takes_plain 0 params),
       insns_width most block (All-head (All (λ y. arguments_of y ≤ most)) block blocks h),
       others_narrow most blocks (All-tail (All (λ y. arguments_of y ≤ most)) block blocks h),
     )

@@ -6,8 +6,8 @@ use Rattle.c_tree.specs.declared.expressions.Expr.TheBlock as k
 use Rattle.c_tree.specs.declared.types.TypeNode as t
 use Rattle.c_typing_scopes.specs.Names.{Entry, find}
 use Rattle.c_typing_struct_layout.specs.StructLayout.{struct_of}
-use Rattle.c_typing_declared_types.specs.declared.declared.DeclaredType.{DeclaredType}
-use Rattle.c_typing_declared_types.specs.declared.declared.DeclaredType.TheVariants as d
+use Rattle.c_typing_rules.specs.declared.c_typing_declared_types.declared.DeclaredType.{DeclaredType}
+use Rattle.c_typing_rules.specs.declared.c_typing_declared_types.declared.DeclaredType.TheVariants as d
 use Rattle.c_typing_faults.specs.declared.faults.Kind.TheVariants.{BadType, NoMember, Redeclared}
 use Rattle.c_typing_rules.specs.declared.typed.TypedExpression.{TypedExpression}
 use Rattle.c_typed_tree.specs.declared.types.CType.{CType}

@@ -10,10 +10,10 @@ use Rattle.c_tree.specs.declared.expressions.Expr.TheBlock as k
 use Rattle.c_tree.specs.declared.statements.Stmt.{Stmt}
 use Rattle.c_typing_scopes.specs.Names.{find}
 use Rattle.mem_objects.specs.declared.DataCell.{DataCell}
-use Rattle.c_typing_declared_types.specs.declared.declared.DeclaredType.{DeclaredType}
-use Rattle.c_typing_declared_types.specs.declared.declared.DeclaredType.TheVariants as d
-use Rattle.c_typing_declared_types.specs.Declarators.{array_with}
-use Rattle.c_typing_declared_types.specs.Depth.{is_declarable}
+use Rattle.c_typing_rules.specs.declared.c_typing_declared_types.declared.DeclaredType.{DeclaredType}
+use Rattle.c_typing_rules.specs.declared.c_typing_declared_types.declared.DeclaredType.TheVariants as d
+use Rattle.c_typing_rules.specs.c_typing_declared_types.Declarators.{array_with}
+use Rattle.c_typing_rules.specs.c_typing_declared_types.Depth.{is_declarable}
 use Rattle.c_typing_definitions.specs.declared.names.Definitions.{Definitions}
 use Rattle.c_typing_faults.specs.declared.faults.Kind.TheVariants.{BadType, Redeclared}
 use Rattle.c_typed_tree.specs.declared.types.CType.{CType}
@@ -28,8 +28,8 @@ use Rattle.c_typing_state.specs.Scopes.{with_meaning, meaning_of}
 use Rattle.c_typing_judgements.specs.Leaves.{no_type}
 use Rattle.c_typing_judgements.specs.Types.{JudgementState, type_named}
 use Rattle.c_typing_struct_bodies.specs.Members.{is_member_type}
-use Rattle.c_typing_function_bodies.specs.declared.functions.FunctionType.{FunctionType}
-use Rattle.c_typing_function_bodies.specs.Functions.{judge_function}
+use Rattle.c_typing_statements.specs.declared.c_typing_function_bodies.functions.FunctionType.{FunctionType}
+use Rattle.c_typing_statements.specs.c_typing_function_bodies.Functions.{judge_function}
 use Rattle.c_typing_unit_names.specs.declared.names.NameDeclaration.{NameDeclaration}
 use Rattle.c_typing_unit_names.specs.declared.names.UnitNames.{UnitNames}
 use Rattle.c_typing_unit_names.specs.UnitNames.{may_follow, object_name, function_name, first_meaning, named_first, with_declared, with_value, meaning_before, redeclare, first_by, first_declared, follows, known_by, known_declared, judge_declaration}

@@ -13,9 +13,9 @@ use Rattle.c_tree.specs.declared.types.Parameter.{Parameter}
 use Rattle.c_tree.specs.declared.types.TypeNode as t
 use Rattle.c_tree.specs.declared.expressions.Expr.TheBlock as k
 use Rattle.c_tree.specs.declared.statements.Stmt.{Stmt}
-use Rattle.c_typing_declared_types.specs.declared.declared.DeclaredType.{DeclaredType}
-use Rattle.c_typing_declared_types.specs.declared.declared.DeclaredType.TheVariants as d
-use Rattle.c_typing_declared_types.specs.Depth.{is_declarable}
+use Rattle.c_typing_rules.specs.declared.c_typing_declared_types.declared.DeclaredType.{DeclaredType}
+use Rattle.c_typing_rules.specs.declared.c_typing_declared_types.declared.DeclaredType.TheVariants as d
+use Rattle.c_typing_rules.specs.c_typing_declared_types.Depth.{is_declarable}
 use Rattle.c_typing_definitions.specs.declared.names.Definitions.{Definitions}
 use Rattle.c_typing_faults.specs.declared.faults.Kind.TheVariants.{BadType}
 use Rattle.c_typed_tree.specs.declared.types.CType.{CType}
@@ -26,8 +26,8 @@ use Rattle.c_typing_state.specs.Notes.{with_fault}
 use Rattle.c_typing_judgements.specs.Leaves.{no_type}
 use Rattle.c_typing_judgements.specs.Types.{JudgementState}
 use Rattle.c_typing_struct_bodies.specs.Bodies.{TagScope, declared_type}
-use Rattle.c_typing_function_bodies.specs.declared.functions.FunctionType.{FunctionType}
-use Rattle.c_typing_function_bodies.specs.Functions.{parameters_of, judge_function}
+use Rattle.c_typing_statements.specs.declared.c_typing_function_bodies.functions.FunctionType.{FunctionType}
+use Rattle.c_typing_statements.specs.c_typing_function_bodies.Functions.{parameters_of, judge_function}
 use Rattle.c_typing_initialisers.specs.Unfit.{judge_init, no_place}
 use Rattle.mem_objects.specs.declared.DataCell.{DataCell}
 use Rattle.bk_arithmetic.specs.declared.integer_type.IntegerType.TheVariants.{Int}

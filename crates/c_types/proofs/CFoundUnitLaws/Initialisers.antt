@@ -12,7 +12,7 @@ use Rattle.c_typing_faults.specs.declared.faults.Kind.TheVariants.{BadInit}
 use Rattle.c_typing_rules.specs.declared.typed.TypedExpression.{TypedExpression}
 use Rattle.c_typing_rules.specs.Rulings.{Ruling}
 use Rattle.c_typing_rules.specs.Conversions.{decay}
-use Rattle.c_typing_operators.specs.Null.{take_value}
+use Rattle.c_typing_judgements.specs.c_typing_operators.Null.{take_value}
 use Rattle.c_typing_initial_values.specs.declared.parts.ObjectPart.{ObjectPart}
 use Rattle.c_typing_initial_values.specs.declared.values.InitialValue.{InitialValue}
 use Rattle.c_typing_initial_values.specs.Cells.{place_piece, text_cells}

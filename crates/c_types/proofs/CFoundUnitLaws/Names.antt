@@ -4,14 +4,14 @@ use Rattle.c_tree.specs.declared.expressions.Expr.{Expr}
 use Rattle.c_tree.specs.declared.types.TypeNode.{TypeNode}
 use Rattle.c_tree.specs.declared.types.Declaration.{Declaration}
 use Rattle.c_tree.specs.declared.statements.Stmt.{Stmt}
-use Rattle.c_typing_declared_types.specs.declared.declared.DeclaredType.{DeclaredType}
+use Rattle.c_typing_rules.specs.declared.c_typing_declared_types.declared.DeclaredType.{DeclaredType}
 use Rattle.c_typed_tree.specs.Typing.{Context}
 use Rattle.c_typing_expression_sound.specs.c_judgement_laws.Covers.{IsLawfulContext}
 use Rattle.c_typing_judgements.specs.Types.{JudgementState}
 use Rattle.c_typing_expressions.specs.Expressions.{judge, derive}
 use Rattle.c_typing_function_sound.proofs.CStatementLaws.Expressions.{judge_walks, derive_walks}
-use Rattle.c_typing_function_bodies.specs.declared.functions.FunctionType.{FunctionType}
-use Rattle.c_typing_function_bodies.specs.Functions.{judge_function}
+use Rattle.c_typing_statements.specs.declared.c_typing_function_bodies.functions.FunctionType.{FunctionType}
+use Rattle.c_typing_statements.specs.c_typing_function_bodies.Functions.{judge_function}
 use Rattle.c_typing_function_sound.proofs.CStatementLaws.Functions.{function_leaves}
 
 -- the names are left whatever the context is

@@ -6,9 +6,9 @@ use Rattle.c_tree.specs.declared.expressions.Expr.TheBlock as k
 use Rattle.c_typed_tree.specs.declared.types.CType.{CType}
 use Rattle.c_typed_tree.specs.Typing.{is_void, is_scalar}
 use Rattle.c_typed_tree.specs.View.{type_view}
-use Rattle.c_typing_declared_types.specs.declared.declared.DeclaredType.{DeclaredType}
-use Rattle.c_typing_declared_types.specs.declared.declared.DeclaredType.TheVariants as d
-use Rattle.c_typing_declared_types.specs.Declarators.{function_with, function_of}
+use Rattle.c_typing_rules.specs.declared.c_typing_declared_types.declared.DeclaredType.{DeclaredType}
+use Rattle.c_typing_rules.specs.declared.c_typing_declared_types.declared.DeclaredType.TheVariants as d
+use Rattle.c_typing_rules.specs.c_typing_declared_types.Declarators.{function_with, function_of}
 use Rattle.c_typing_state.specs.declared.notes.Notes.{Notes}
 use Rattle.c_typing_state.specs.Checks.{both_parts, append_part}
 use Rattle.c_typing_state.specs.Scopes.{enter, leave}
@@ -16,7 +16,7 @@ use Rattle.c_typing_judgements.specs.Leaves.{leaf}
 use Rattle.c_typing_judgements.specs.Types.{JudgementState, required_type, function, parameter_declared}
 use Rattle.c_typing_expressions.specs.Expressions.{derive, judge_parameter_row}
 use Rattle.c_typing_struct_bodies.specs.Bodies.{TagScope, bodies, declared_type}
-use Rattle.c_typing_function_bodies.specs.declared.functions.FunctionType.{FunctionType}
+use Rattle.c_typing_statements.specs.declared.c_typing_function_bodies.functions.FunctionType.{FunctionType}
 use Rattle.c_typing_function_sound.specs.c_found_statement_laws.Laws.{are_as_many}
 use Rattle.c_types.specs.c_found_unit_laws.Steps.{declared_as}
 

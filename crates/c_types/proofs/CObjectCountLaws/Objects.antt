@@ -8,9 +8,9 @@ use Rattle.c_tree.specs.declared.declarations.Storage.TheVariants as s
 use Rattle.c_tree.specs.declared.declarations.External.TheVariants as x
 use Rattle.mem_objects.specs.declared.DataCell.{DataCell}
 use Rattle.c_typing_definitions.specs.declared.names.Definitions.{Definitions}
-use Rattle.c_typing_declared_types.specs.declared.declared.DeclaredType.{DeclaredType}
-use Rattle.c_typing_declared_types.specs.declared.declared.DeclaredType.TheVariants as d
-use Rattle.c_typing_declared_types.specs.Declarators.{array_with}
+use Rattle.c_typing_rules.specs.declared.c_typing_declared_types.declared.DeclaredType.{DeclaredType}
+use Rattle.c_typing_rules.specs.declared.c_typing_declared_types.declared.DeclaredType.TheVariants as d
+use Rattle.c_typing_rules.specs.c_typing_declared_types.Declarators.{array_with}
 use Rattle.c_typed_tree.specs.declared.types.CType.{CType}
 use Rattle.c_typing_faults.specs.declared.faults.Kind.TheVariants.{BadType, Redeclared}
 use Rattle.c_typing_state.specs.declared.env.Env.{Env}

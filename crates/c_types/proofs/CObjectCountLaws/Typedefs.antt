@@ -17,10 +17,10 @@ use Rattle.c_tree.specs.declared.declarations.External.TheVariants as x
 use Rattle.c_typing_definitions.specs.declared.names.Definitions.{Definitions}
 use Rattle.c_typing_definitions.specs.Definitions.{NameSet, is_function, typedef_seen, object_seen, function_seen, add_external}
 use Rattle.c_typing_definitions.specs.Definitions as defined
-use Rattle.c_typing_declared_types.specs.declared.declared.DeclaredType.{DeclaredType}
-use Rattle.c_typing_declared_types.specs.declared.declared.DeclaredType.TheVariants as d
-use Rattle.c_typing_declared_types.specs.Declarators.{pointer_to, array_of}
-use Rattle.c_typing_declared_types.specs.Depth.{is_declarable}
+use Rattle.c_typing_rules.specs.declared.c_typing_declared_types.declared.DeclaredType.{DeclaredType}
+use Rattle.c_typing_rules.specs.declared.c_typing_declared_types.declared.DeclaredType.TheVariants as d
+use Rattle.c_typing_rules.specs.c_typing_declared_types.Declarators.{pointer_to, array_of}
+use Rattle.c_typing_rules.specs.c_typing_declared_types.Depth.{is_declarable}
 use Rattle.c_typed_tree.specs.declared.types.CType.{CType}
 use Rattle.c_typed_tree.specs.declared.types.StructDef.{StructDef}
 use Rattle.c_typed_tree.specs.Layout.{is_object}

@@ -14,7 +14,7 @@ use Rattle.c_tree.specs.declared.declarations.TranslationUnit.{TranslationUnit}
 use Rattle.c_typing_definitions.specs.declared.names.Definitions.{Definitions}
 use Rattle.c_typing_definitions.specs.Definitions.{NameSet, is_function, is_definition, typedef_seen, object_seen, function_seen, add_external, defined_behind, definitions, nothing_defined, with_function_type, with_object}
 use Rattle.c_typing_definitions.specs.Definitions as defined
-use Rattle.c_typing_declared_types.specs.declared.declared.DeclaredType.TheVariants as d
+use Rattle.c_typing_rules.specs.declared.c_typing_declared_types.declared.DeclaredType.TheVariants as d
 use Rattle.c_typed_tree.specs.declared.types.CType.{CType}
 use Rattle.c_typed_tree.specs.declared.expressions.Builtin.{Builtin}
 use Rattle.c_typed_tree.specs.declared.expressions.Callee.TheVariants as c

@@ -12,8 +12,8 @@ use Rattle.c_typed_tree.specs.Lawful.{is_identifier, IsTypedFn}
 use Rattle.c_typing_state.specs.declared.env.Env.{Env}
 use Rattle.c_typing_state.specs.declared.notes.Notes.{Notes}
 use Rattle.c_typing_judgements.specs.Types.{JudgementState}
-use Rattle.c_typing_function_bodies.specs.declared.functions.FunctionType.{FunctionType}
-use Rattle.c_typing_function_bodies.specs.Functions.{judge_function}
+use Rattle.c_typing_statements.specs.declared.c_typing_function_bodies.functions.FunctionType.{FunctionType}
+use Rattle.c_typing_statements.specs.c_typing_function_bodies.Functions.{judge_function}
 use Rattle.c_typing_declarations.specs.declared.walk.UnitFunction.{UnitFunction}
 use Rattle.c_typing_declarations.specs.declared.walk.UnitSoFar.{UnitSoFar}
 use Rattle.c_typing_declarations.specs.Walk.{UnitWalk, with_names, object_number, add_numbered, next_object, add_object, fill_numbered, function_at, add_function}

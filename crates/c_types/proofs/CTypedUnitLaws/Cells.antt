@@ -5,7 +5,7 @@ use Rattle.mem_objects.specs.declared.DataObject.{DataObject}
 use Rattle.c_tree.specs.declared.declarations.Init.{Init}
 use Rattle.c_tree.specs.declared.declarations.External.{External}
 use Rattle.c_typing_definitions.specs.declared.names.Definitions.{Definitions}
-use Rattle.c_typing_declared_types.specs.declared.declared.DeclaredType.TheVariants as d
+use Rattle.c_typing_rules.specs.declared.c_typing_declared_types.declared.DeclaredType.TheVariants as d
 use Rattle.c_typed_tree.specs.declared.types.CType.{CType}
 use Rattle.c_typed_tree.specs.declared.types.StructDef.{StructDef}
 use Rattle.c_typed_tree.specs.declared.units.TypedFn.{TypedFn}
@@ -13,7 +13,7 @@ use Rattle.c_typed_tree.specs.declared.units.TypedUnit.{TypedUnit}
 use Rattle.c_typed_tree.specs.Layout.{is_object, size_of}
 use Rattle.c_typed_tree.specs.Typing.{Context, is_valid_type, depth_of, most_depth}
 use Rattle.c_typed_tree.specs.View.{type_view}
-use Rattle.c_typing_declared_types.specs.Depth.{is_deep_at_most}
+use Rattle.c_typing_rules.specs.c_typing_declared_types.Depth.{is_deep_at_most}
 use Rattle.c_typing_state.specs.declared.env.Env.{Env}
 use Rattle.c_typing_state.specs.declared.notes.Notes.{Notes}
 use Rattle.c_typing_state.specs.declared.meanings.NameMeaning.{NameMeaning}

@@ -4,8 +4,8 @@ use Rattle.std.specs.Bool.{beq}
 use Rattle.c_tree.specs.declared.declarations.External.{External}
 use Rattle.c_typing_scopes.specs.Names.{find}
 use Rattle.c_typing_definitions.specs.declared.names.Definitions.{Definitions}
-use Rattle.c_typing_declared_types.specs.declared.declared.DeclaredType.{DeclaredType}
-use Rattle.c_typing_declared_types.specs.declared.declared.DeclaredType.TheVariants as d
+use Rattle.c_typing_rules.specs.declared.c_typing_declared_types.declared.DeclaredType.{DeclaredType}
+use Rattle.c_typing_rules.specs.declared.c_typing_declared_types.declared.DeclaredType.TheVariants as d
 use Rattle.c_typed_tree.specs.declared.types.CType.{CType}
 use Rattle.c_typed_tree.specs.View.{type_view}
 use Rattle.c_typing_rules.specs.Values.{is_same}

@@ -10,8 +10,8 @@ use Rattle.c_typing_state.specs.declared.meanings.NameMeaning.{NameMeaning}
 use Rattle.c_typing_state.specs.declared.meanings.NameMeaning.TheVariants as m
 use Rattle.c_typing_state.specs.Scopes.{with_meaning}
 use Rattle.c_typing_judgements.specs.Types.{JudgementState}
-use Rattle.c_typing_function_bodies.specs.declared.functions.FunctionType.{FunctionType}
-use Rattle.c_typing_function_bodies.specs.Functions.{judge_function}
+use Rattle.c_typing_statements.specs.declared.c_typing_function_bodies.functions.FunctionType.{FunctionType}
+use Rattle.c_typing_statements.specs.c_typing_function_bodies.Functions.{judge_function}
 use Rattle.c_typing_initialisers.specs.Initialisers.{object_cells}
 use Rattle.c_typing_unit_names.specs.declared.names.NameDeclaration.{NameDeclaration}
 use Rattle.c_typing_unit_names.specs.declared.names.UnitNames.{UnitNames}

@@ -6,7 +6,7 @@ use Rattle.mem_objects.specs.declared.DataCell.{DataCell}
 use Rattle.c_tree.specs.declared.declarations.External.{External}
 use Rattle.c_typing_scopes.specs.Names.{find}
 use Rattle.c_typing_definitions.specs.declared.names.Definitions.{Definitions}
-use Rattle.c_typing_declared_types.specs.declared.declared.DeclaredType.{DeclaredType}
+use Rattle.c_typing_rules.specs.declared.c_typing_declared_types.declared.DeclaredType.{DeclaredType}
 use Rattle.c_typed_tree.specs.declared.types.CType.{CType}
 use Rattle.c_typed_tree.specs.declared.units.TypedFn.{TypedFn}
 use Rattle.c_typed_tree.specs.View.{type_view}
@@ -16,7 +16,7 @@ use Rattle.c_typing_state.specs.declared.meanings.NameMeaning.TheVariants as m
 use Rattle.c_typing_state.specs.Scopes.{with_meaning, meaning_of}
 use Rattle.c_typing_globals.specs.declared.objects.UnitObject.{UnitObject}
 use Rattle.c_typing_globals.specs.Globals.{with_cells, replace_cells, set_cells}
-use Rattle.c_typing_function_bodies.specs.declared.functions.FunctionType.{FunctionType}
+use Rattle.c_typing_statements.specs.declared.c_typing_function_bodies.functions.FunctionType.{FunctionType}
 use Rattle.c_typing_unit_names.specs.declared.names.NameDeclaration.{NameDeclaration}
 use Rattle.c_typing_unit_names.specs.declared.names.UnitNames.{UnitNames}
 use Rattle.c_typing_unit_names.specs.UnitNames.{object_name, function_name, first_meaning, with_declared}

@@ -10,8 +10,8 @@ use Rattle.c_typed_tree.specs.Layout.{is_object}
 use Rattle.c_typed_tree.specs.Typing.{is_void, is_pointer, is_scalar, is_array, is_valid_type, is_fit, depth_of, most_depth}
 use Rattle.c_typed_tree.specs.View.{type_view}
 use Rattle.c_typed_tree.specs.Lawful.{is_object_type, is_result}
-use Rattle.c_typing_declared_types.specs.declared.declared.DeclaredType.TheVariants as d
-use Rattle.c_typing_declared_types.specs.Depth.{is_deep_at_most}
+use Rattle.c_typing_rules.specs.declared.c_typing_declared_types.declared.DeclaredType.TheVariants as d
+use Rattle.c_typing_rules.specs.c_typing_declared_types.Depth.{is_deep_at_most}
 use Rattle.c_typing_expression_sound.specs.c_type_laws.Typed.{AreFit}
 use Rattle.c_typing_expression_sound.proofs.CTypeLaws.Truth.{no_true, front, back, also, three, along, either, either_left, either_right}
 use Rattle.c_typing_expression_sound.proofs.CTypeLaws.Types.{known_object}

@@ -13,10 +13,10 @@ use Rattle.c_tree.specs.declared.types.TypeNode as t
 use Rattle.c_typed_tree.specs.declared.types.CType as ct
 use Rattle.c_typed_tree.specs.declared.types.CType.{CType}
 use Rattle.c_typed_tree.specs.Lawful.{IsLawfulStruct}
-use Rattle.c_typing_declared_types.specs.declared.declared.DeclaredType.{DeclaredType}
-use Rattle.c_typing_declared_types.specs.declared.declared.DeclaredType.TheVariants as d
-use Rattle.c_typing_declared_types.specs.Declarators.{array_with}
-use Rattle.c_typing_declared_types.specs.Depth.{is_declarable}
+use Rattle.c_typing_rules.specs.declared.c_typing_declared_types.declared.DeclaredType.{DeclaredType}
+use Rattle.c_typing_rules.specs.declared.c_typing_declared_types.declared.DeclaredType.TheVariants as d
+use Rattle.c_typing_rules.specs.c_typing_declared_types.Declarators.{array_with}
+use Rattle.c_typing_rules.specs.c_typing_declared_types.Depth.{is_declarable}
 use Rattle.c_typing_faults.specs.declared.faults.Kind.TheVariants.{BadType, Redeclared}
 use Rattle.c_typing_definitions.specs.declared.names.Definitions.{Definitions}
 use Rattle.c_typing_state.specs.declared.notes.Notes.{Notes}
@@ -25,8 +25,8 @@ use Rattle.c_typing_state.specs.Notes.{with_fault}
 use Rattle.c_typing_judgements.specs.Leaves.{no_type}
 use Rattle.c_typing_judgements.specs.Types.{JudgementState, type_named}
 use Rattle.c_typing_struct_bodies.specs.Members.{is_member_type}
-use Rattle.c_typing_function_bodies.specs.declared.functions.FunctionType.{FunctionType}
-use Rattle.c_typing_function_bodies.specs.Functions.{judge_function}
+use Rattle.c_typing_statements.specs.declared.c_typing_function_bodies.functions.FunctionType.{FunctionType}
+use Rattle.c_typing_statements.specs.c_typing_function_bodies.Functions.{judge_function}
 use Rattle.c_typing_initialisers.specs.Initialisers.{object_cells, length_given}
 use Rattle.c_typing_initialisers.specs.Unfit.{judge_init}
 use Rattle.c_typing_unit_names.specs.declared.names.NameDeclaration.{NameDeclaration}

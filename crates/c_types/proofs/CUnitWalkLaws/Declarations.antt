@@ -6,10 +6,10 @@ use Rattle.c_tree.specs.declared.declarations.Init.{Init}
 use Rattle.c_tree.specs.declared.declarations.External.{External}
 use Rattle.c_typing_scopes.specs.Names.{find}
 use Rattle.mem_objects.specs.declared.DataCell.{DataCell}
-use Rattle.c_typing_declared_types.specs.declared.declared.DeclaredType.{DeclaredType}
-use Rattle.c_typing_declared_types.specs.declared.declared.DeclaredType.TheVariants as d
-use Rattle.c_typing_declared_types.specs.Declarators.{array_with}
-use Rattle.c_typing_declared_types.specs.Depth.{is_declarable}
+use Rattle.c_typing_rules.specs.declared.c_typing_declared_types.declared.DeclaredType.{DeclaredType}
+use Rattle.c_typing_rules.specs.declared.c_typing_declared_types.declared.DeclaredType.TheVariants as d
+use Rattle.c_typing_rules.specs.c_typing_declared_types.Declarators.{array_with}
+use Rattle.c_typing_rules.specs.c_typing_declared_types.Depth.{is_declarable}
 use Rattle.c_typing_definitions.specs.declared.names.Definitions.{Definitions}
 use Rattle.c_typing_faults.specs.declared.faults.Kind.{Kind}
 use Rattle.c_typing_faults.specs.declared.faults.Kind.TheVariants.{BadType}

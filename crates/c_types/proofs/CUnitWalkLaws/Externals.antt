@@ -14,9 +14,9 @@ use Rattle.bk_arithmetic.specs.declared.integer_type.IntegerType.TheVariants.{In
 use Rattle.bk_arithmetic.specs.Words.{is_word}
 use Rattle.c_typing_scopes.specs.Names.{find}
 use Rattle.c_typing_definitions.specs.declared.names.Definitions.{Definitions}
-use Rattle.c_typing_declared_types.specs.declared.declared.DeclaredType.{DeclaredType}
-use Rattle.c_typing_declared_types.specs.declared.declared.DeclaredType.TheVariants as d
-use Rattle.c_typing_declared_types.specs.Depth.{is_declarable}
+use Rattle.c_typing_rules.specs.declared.c_typing_declared_types.declared.DeclaredType.{DeclaredType}
+use Rattle.c_typing_rules.specs.declared.c_typing_declared_types.declared.DeclaredType.TheVariants as d
+use Rattle.c_typing_rules.specs.c_typing_declared_types.Depth.{is_declarable}
 use Rattle.c_typing_faults.specs.declared.faults.Kind.TheVariants.{BadType}
 use Rattle.c_typed_tree.specs.declared.types.CType.{CType}
 use Rattle.c_typed_tree.specs.declared.units.TypedFn.{TypedFn}
@@ -30,8 +30,8 @@ use Rattle.c_typing_judgements.specs.Leaves.{no_type}
 use Rattle.c_typing_judgements.specs.Types.{JudgementState}
 use Rattle.c_typing_struct_bodies.specs.Enums.{constant_meaning}
 use Rattle.c_typing_struct_bodies.specs.Bodies.{TagScope, declared_type}
-use Rattle.c_typing_function_bodies.specs.declared.functions.FunctionType.{FunctionType}
-use Rattle.c_typing_function_bodies.specs.Functions.{parameters_of, judge_function}
+use Rattle.c_typing_statements.specs.declared.c_typing_function_bodies.functions.FunctionType.{FunctionType}
+use Rattle.c_typing_statements.specs.c_typing_function_bodies.Functions.{parameters_of, judge_function}
 use Rattle.c_typing_initialisers.specs.Unfit.{judge_init}
 use Rattle.c_typing_unit_names.specs.declared.names.NameDeclaration.{NameDeclaration}
 use Rattle.c_typing_unit_names.specs.declared.names.UnitNames.{UnitNames}

@@ -11,10 +11,10 @@ use Rattle.c_typed_tree.specs.Layout.{is_object}
 use Rattle.c_typed_tree.specs.Typing.{is_void, is_scalar, most_depth}
 use Rattle.c_typed_tree.specs.View.{type_view}
 use Rattle.c_typed_tree.specs.model.View.{opens}
-use Rattle.c_typing_declared_types.specs.declared.declared.DeclaredType.{DeclaredType}
-use Rattle.c_typing_declared_types.specs.declared.declared.DeclaredType.TheVariants as d
-use Rattle.c_typing_declared_types.specs.Declarators.{pointer_to, array_of, parameter_value, adjusted_parameter, function_with, function_of}
-use Rattle.c_typing_declared_types.specs.Depth.{is_deep_at_most}
+use Rattle.c_typing_rules.specs.declared.c_typing_declared_types.declared.DeclaredType.{DeclaredType}
+use Rattle.c_typing_rules.specs.declared.c_typing_declared_types.declared.DeclaredType.TheVariants as d
+use Rattle.c_typing_rules.specs.c_typing_declared_types.Declarators.{pointer_to, array_of, parameter_value, adjusted_parameter, function_with, function_of}
+use Rattle.c_typing_rules.specs.c_typing_declared_types.Depth.{is_deep_at_most}
 use Rattle.c_typing_faults.specs.declared.faults.Kind.TheVariants.{BadType, Redeclared}
 use Rattle.c_typing_scopes.specs.Names.{find}
 use Rattle.c_typing_state.specs.declared.env.Env.{Env}

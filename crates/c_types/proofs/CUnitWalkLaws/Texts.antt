@@ -7,8 +7,8 @@ use Rattle.c_typed_tree.specs.declared.types.CType.{CType}
 use Rattle.c_typed_tree.specs.declared.types.StructDef.{StructDef}
 use Rattle.c_typed_tree.specs.Layout.{is_complete}
 use Rattle.std.specs.Prelude.{slice_get}
-use Rattle.c_typing_declared_types.specs.declared.declared.DeclaredType.{DeclaredType}
-use Rattle.c_typing_declared_types.specs.declared.declared.DeclaredType.TheVariants as d
+use Rattle.c_typing_rules.specs.declared.c_typing_declared_types.declared.DeclaredType.{DeclaredType}
+use Rattle.c_typing_rules.specs.declared.c_typing_declared_types.declared.DeclaredType.TheVariants as d
 use Rattle.c_typing_faults.specs.declared.faults.Kind.TheVariants.{Redeclared, BadType, NoMember}
 use Rattle.c_typing_scopes.specs.Names.{Entry, find}
 use Rattle.c_typing_constants.specs.c_constant_rules.Values.{given_value, next_value}

@@ -13,6 +13,7 @@ use Rattle.c_types.specs.c_unit_object_laws.Units.{whole_unit}
 use Rattle.c_typing_function_sound.specs.c_typing_height_laws.c_function_name_laws.Laws.{passes}
 use Rattle.mem_model.specs.Bytes.{AreBytes}
 use Rattle.c_typing_initialiser_sound.specs.c_initialiser_laws.Laws.{HoldsBytes}
+use Rattle.c_types.specs.Units.{notes_in}
 use Rattle.c_types.specs.c_unit_object_laws.Walks.{IsInitialiserIn}
 
 -- a function was kept with this number
@@ -21,8 +22,8 @@ pub record IsKeptAs (fs : List UnitFunction) (k : ℕ) (f : TypedFn) : Type 0 wh
   pub there : slice_get fs place ≡ Some (record { number = k; function = f })
 
 pub record TypedIsMadeOf (s : UnitSoFar × TagScope) (typed : TypedUnit) : Type 0 where
-  pub structs : typed.structs ≡ s.1.1.1.structs
-  pub globals : typed.globals ≡ globals s.1.1.1.structs s.0.objects s.1.1.1.texts
+  pub structs : typed.structs ≡ (notes_in s).structs
+  pub globals : typed.globals ≡ globals (notes_in s).structs s.0.objects (notes_in s).texts
   pub functions : (k : ℕ) (f : TypedFn) → slice_get typed.functions k ≡ Some f → IsKeptAs s.0.functions k f
   pub count : length typed.functions ≡ s.0.names.functions
 
@@ -35,4 +36,4 @@ HaveBytes (text ∷ texts) = AreBytes text × HaveBytes texts
 pub record IsSpelled (unit : TranslationUnit) : Type 0 where
   pub names : All (λ e. IsTrue (passes is_identifier e)) unit.externals
   pub initialisers : (x : Init) → IsInitialiserIn x unit.externals → HoldsBytes x
-  pub texts : HaveBytes (whole_unit unit).1.1.1.texts
+  pub texts : HaveBytes (notes_in (whole_unit unit)).texts

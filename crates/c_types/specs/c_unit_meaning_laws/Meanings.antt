@@ -7,8 +7,8 @@ use Rattle.c_typed_tree.specs.declared.expressions.Callee.TheVariants as c
 use Rattle.c_typed_tree.specs.Lawful.{signature_of}
 use Rattle.c_typed_tree.specs.Typing.{is_same_type, int}
 use Rattle.c_typed_tree.specs.View.{type_view}
-use Rattle.c_typing_declared_types.specs.declared.declared.DeclaredType.{DeclaredType}
-use Rattle.c_typing_declared_types.specs.declared.declared.DeclaredType.TheVariants as d
+use Rattle.c_typing_rules.specs.declared.c_typing_declared_types.declared.DeclaredType.{DeclaredType}
+use Rattle.c_typing_rules.specs.declared.c_typing_declared_types.declared.DeclaredType.TheVariants as d
 use Rattle.c_typing_state.specs.declared.env.Env.{Env}
 use Rattle.c_typing_state.specs.declared.meanings.NameMeaning.{NameMeaning}
 use Rattle.c_typing_state.specs.declared.meanings.NameMeaning.TheVariants as m

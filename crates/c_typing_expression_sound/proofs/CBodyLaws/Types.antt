@@ -4,7 +4,7 @@ use Rattle.std.proofs.lemmas.List.Elements.{All-nil}
 use Rattle.c_tree.specs.declared.expressions.Expr.{Expr}
 use Rattle.c_tree.specs.declared.types.TypeNode.{TypeNode}
 use Rattle.c_typed_tree.specs.Lawful.{IsLawfulStruct}
-use Rattle.c_typing_declared_types.specs.declared.declared.DeclaredType.{DeclaredType}
+use Rattle.c_typing_rules.specs.declared.c_typing_declared_types.declared.DeclaredType.{DeclaredType}
 use Rattle.c_typing_state.specs.declared.env.Env.{Env}
 use Rattle.c_typing_judgements.specs.Leaves.{leaf}
 use Rattle.c_typing_judgements.specs.Types.{JudgementState}

@@ -3,11 +3,11 @@ use Rattle.std.proofs.Common.{◌≡◌, ℕ, zero, suc, ◌+◌, ◌-◌, Bool,
 use Rattle.c_typed_tree.specs.declared.types.CType.{CType}
 use Rattle.c_typed_tree.specs.View.{type_view}
 use Rattle.c_typed_tree.specs.Typing.{Context, is_valid_type, most_depth}
-use Rattle.c_typing_declared_types.specs.declared.declared.DeclaredType.{DeclaredType}
+use Rattle.c_typing_rules.specs.declared.c_typing_declared_types.declared.DeclaredType.{DeclaredType}
 use Rattle.c_typing_rules.specs.declared.typed.TypedExpression.{TypedExpression}
 use Rattle.c_typing_rules.specs.Rulings.{Ruling}
-use Rattle.c_typing_declared_types.specs.Declarators.{adjusted_parameter}
-use Rattle.c_typing_declared_types.specs.Depth.{is_deep_at_most}
+use Rattle.c_typing_rules.specs.c_typing_declared_types.Declarators.{adjusted_parameter}
+use Rattle.c_typing_rules.specs.c_typing_declared_types.Depth.{is_deep_at_most}
 use Rattle.c_typing_faults.specs.declared.faults.Kind.TheVariants.{BadType, Redeclared}
 use Rattle.c_typing_scopes.specs.Names.{Entry, find, oldest}
 use Rattle.c_typing_state.specs.declared.env.Env.{Env}

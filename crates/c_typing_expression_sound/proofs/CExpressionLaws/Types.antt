@@ -11,10 +11,10 @@ use Rattle.c_typed_tree.specs.View.{type_view}
 use Rattle.c_typed_tree.specs.model.View.{opens}
 use Rattle.c_typed_tree.specs.Layout.{is_complete, is_object}
 use Rattle.c_typed_tree.specs.Typing.{Context, is_valid_type, is_void, is_scalar, depth_of, depth_behind}
-use Rattle.c_typing_declared_types.specs.declared.declared.DeclaredType.{DeclaredType}
-use Rattle.c_typing_declared_types.specs.declared.declared.DeclaredType.TheVariants as d
-use Rattle.c_typing_declared_types.specs.Declarators.{array_with, array_without, parameter_value, adjusted_parameter, function_with}
-use Rattle.c_typing_declared_types.specs.Depth.{is_declarable}
+use Rattle.c_typing_rules.specs.declared.c_typing_declared_types.declared.DeclaredType.{DeclaredType}
+use Rattle.c_typing_rules.specs.declared.c_typing_declared_types.declared.DeclaredType.TheVariants as d
+use Rattle.c_typing_rules.specs.c_typing_declared_types.Declarators.{array_with, array_without, parameter_value, adjusted_parameter, function_with}
+use Rattle.c_typing_rules.specs.c_typing_declared_types.Depth.{is_declarable}
 use Rattle.c_typing_faults.specs.declared.faults.Kind.TheVariants.{BadType}
 use Rattle.c_typing_scopes.specs.Names.{Entry, find}
 use Rattle.c_typing_state.specs.declared.env.Env.{Env}

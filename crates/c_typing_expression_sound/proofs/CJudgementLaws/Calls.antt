@@ -9,7 +9,7 @@ use Rattle.c_typing_faults.specs.declared.faults.Kind.TheVariants.{BadCall}
 use Rattle.c_typing_rules.specs.declared.typed.TypedExpression.{TypedExpression}
 use Rattle.c_typing_rules.specs.Rulings.{Ruling, fault}
 use Rattle.c_typing_primary_rules.specs.Calls.{call_rvalue}
-use Rattle.c_typing_operators.specs.Null.{take_value}
+use Rattle.c_typing_judgements.specs.c_typing_operators.Null.{take_value}
 use Rattle.c_typing_state.specs.declared.meanings.NameMeaning.{NameMeaning}
 use Rattle.c_typing_state.specs.declared.meanings.NameMeaning.TheVariants as m
 use Rattle.c_typing_state.specs.declared.notes.Notes.{Notes}

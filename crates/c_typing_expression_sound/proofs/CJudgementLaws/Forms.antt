@@ -19,18 +19,18 @@ use Rattle.c_typed_tree.specs.View.{type_view}
 use Rattle.c_typed_tree.specs.model.View.{opens}
 use Rattle.c_typed_tree.specs.Layout.{is_object, size_of, struct_member}
 use Rattle.c_typed_tree.specs.Typing.{Context, is_fit, has_global_type, target_of, depth_behind}
-use Rattle.c_typing_declared_types.specs.declared.declared.DeclaredType.{DeclaredType}
-use Rattle.c_typing_declared_types.specs.declared.declared.DeclaredType.TheVariants as d
+use Rattle.c_typing_rules.specs.declared.c_typing_declared_types.declared.DeclaredType.{DeclaredType}
+use Rattle.c_typing_rules.specs.declared.c_typing_declared_types.declared.DeclaredType.TheVariants as d
 use Rattle.c_typing_rules.specs.declared.typed.TypedExpression.{TypedExpression}
 use Rattle.c_typing_rules.specs.Conversions.{decay}
 use Rattle.c_typing_place_rules.specs.Places.{step_behind}
 use Rattle.c_typing_place_rules.specs.Members.{field, arrow, size}
 use Rattle.c_typing_primary_rules.specs.Commas.{comma_value}
 use Rattle.c_typing_primary_rules.specs.Primary.{literal_value, integer_constant, character_value, character_constant, enumeration_constant, local, static_object, text, text_type}
-use Rattle.c_typing_operators.specs.Unary.{unary_ruling}
-use Rattle.c_typing_operators.specs.Binary.{binary_ruling, subscript, conditional_ruling}
-use Rattle.c_typing_operators.specs.Assigned.{assign}
-use Rattle.c_typing_operators.specs.Casts.{cast_to, size_of_type}
+use Rattle.c_typing_judgements.specs.c_typing_operators.Unary.{unary_ruling}
+use Rattle.c_typing_judgements.specs.c_typing_operators.Binary.{binary_ruling, subscript, conditional_ruling}
+use Rattle.c_typing_judgements.specs.c_typing_operators.Assigned.{assign}
+use Rattle.c_typing_judgements.specs.c_typing_operators.Casts.{cast_to, size_of_type}
 use Rattle.c_typing_state.specs.declared.meanings.NameMeaning.{NameMeaning}
 use Rattle.c_typing_state.specs.declared.meanings.NameMeaning.TheVariants as m
 use Rattle.c_typing_state.specs.declared.notes.Notes.{Notes}

@@ -17,8 +17,8 @@ use Rattle.c_typed_tree.specs.View.{type_view}
 use Rattle.c_typed_tree.specs.model.View.{opens}
 use Rattle.c_typed_tree.specs.Constants.{is_integer}
 use Rattle.c_typed_tree.specs.Typing.{is_pointer, is_scalar, is_pointer_to_void, points_to_object}
-use Rattle.c_typing_declared_types.specs.declared.declared.DeclaredType.{DeclaredType}
-use Rattle.c_typing_declared_types.specs.declared.declared.DeclaredType.TheVariants as d
+use Rattle.c_typing_rules.specs.declared.c_typing_declared_types.declared.DeclaredType.{DeclaredType}
+use Rattle.c_typing_rules.specs.declared.c_typing_declared_types.declared.DeclaredType.TheVariants as d
 use Rattle.c_typing_rules.specs.declared.typed.TypedExpression.{TypedExpression}
 use Rattle.c_typing_rules.specs.Rulings.{Ruling}
 use Rattle.c_typing_rules.specs.Types.{points_to_struct}
@@ -33,11 +33,11 @@ use Rattle.c_typing_place_rules.specs.Assignments as assignments
 use Rattle.c_typing_place_rules.specs.Members as members
 use Rattle.c_typing_primary_rules.specs.declared.commas.CommaOperands.{CommaOperands}
 use Rattle.c_typing_primary_rules.specs.Commas as commas
-use Rattle.c_typing_operators.specs.Unary as operators
-use Rattle.c_typing_operators.specs.Binary as binaries
-use Rattle.c_typing_operators.specs.Assigned as assigned
-use Rattle.c_typing_operators.specs.Casts as casts
-use Rattle.c_typing_operators.specs.Null.{is_null_for}
+use Rattle.c_typing_judgements.specs.c_typing_operators.Unary as operators
+use Rattle.c_typing_judgements.specs.c_typing_operators.Binary as binaries
+use Rattle.c_typing_judgements.specs.c_typing_operators.Assigned as assigned
+use Rattle.c_typing_judgements.specs.c_typing_operators.Casts as casts
+use Rattle.c_typing_judgements.specs.c_typing_operators.Null.{is_null_for}
 use Rattle.c_typing_expression_sound.proofs.CTypeLaws.Truth.{given_true, given_some, along}
 use Rattle.c_typing_expression_sound.proofs.CTypeLaws.Values.{ElementIs, element_says}
 use Rattle.c_typing_expression_sound.proofs.CTypeLaws.Places.{Leads, object_says}

@@ -10,9 +10,9 @@ use Rattle.c_typed_tree.specs.declared.expressions.Callee.{Callee}
 use Rattle.c_typed_tree.specs.declared.expressions.TExpr.{TExpr}
 use Rattle.c_typed_tree.specs.Typing.{most_depth}
 use Rattle.c_typed_tree.specs.View.{type_view}
-use Rattle.c_typing_declared_types.specs.declared.declared.DeclaredType.{DeclaredType}
-use Rattle.c_typing_declared_types.specs.Declarators.{adjusted_parameter}
-use Rattle.c_typing_declared_types.specs.Depth.{is_declarable, is_deep_at_most}
+use Rattle.c_typing_rules.specs.declared.c_typing_declared_types.declared.DeclaredType.{DeclaredType}
+use Rattle.c_typing_rules.specs.c_typing_declared_types.Declarators.{adjusted_parameter}
+use Rattle.c_typing_rules.specs.c_typing_declared_types.Depth.{is_declarable, is_deep_at_most}
 use Rattle.c_typing_faults.specs.declared.faults.Kind.TheVariants.{BadType, Redeclared, BadOperand, UnknownName, NotFunction}
 use Rattle.c_typing_rules.specs.declared.typed.LvalueKind.{LvalueKind}
 use Rattle.c_typing_rules.specs.declared.typed.LvalueKind.TheVariants as p
@@ -22,8 +22,8 @@ use Rattle.c_typing_rules.specs.Conversions.{decay}
 use Rattle.c_typing_primary_rules.specs.Primary.{text}
 use Rattle.c_typing_primary_rules.specs.Commas.{comma_value}
 use Rattle.c_typing_primary_rules.specs.Calls.{count_arguments}
-use Rattle.c_typing_operators.specs.Unary.{unary_ruling}
-use Rattle.c_typing_operators.specs.Null.{take_value}
+use Rattle.c_typing_judgements.specs.c_typing_operators.Unary.{unary_ruling}
+use Rattle.c_typing_judgements.specs.c_typing_operators.Null.{take_value}
 use Rattle.c_typing_scopes.specs.Names.{find}
 use Rattle.c_typing_state.specs.declared.env.Env.{Env}
 use Rattle.c_typing_state.specs.declared.meanings.NameMeaning.{NameMeaning}

@@ -4,7 +4,7 @@ use Rattle.c_tree.specs.declared.expressions.Expr as e
 use Rattle.c_tree.specs.declared.expressions.Expr.TheBlock as k
 use Rattle.c_tree.specs.declared.types.TypeNode as t
 use Rattle.c_typed_tree.specs.declared.types.CType.{CType}
-use Rattle.c_typing_declared_types.specs.declared.declared.DeclaredType.{DeclaredType}
+use Rattle.c_typing_rules.specs.declared.c_typing_declared_types.declared.DeclaredType.{DeclaredType}
 use Rattle.c_typing_rules.specs.declared.typed.TypedExpression.{TypedExpression}
 use Rattle.c_typing_constants.specs.c_constant_rules.Values.{length_value}
 use Rattle.c_typing_primary_rules.specs.Primary.{integer_constant, character_constant}

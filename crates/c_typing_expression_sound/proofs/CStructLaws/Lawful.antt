@@ -16,7 +16,7 @@ use Rattle.c_typing_struct_layout.specs.declared.fields.Field.{Field}
 use Rattle.c_typing_struct_layout.specs.StructLayout.{offset_after, end_after, members_from, end_behind, deepest_member, struct_with, struct_of, whole_size}
 use Rattle.c_typing_struct_bodies.specs.Members.{is_member_type}
 use Rattle.c_typing_struct_bodies.specs.Structs.{struct_where}
-use Rattle.c_typing_declared_types.specs.Depth.{is_deep_at_most}
+use Rattle.c_typing_rules.specs.c_typing_declared_types.Depth.{is_deep_at_most}
 use Rattle.c_typing_expression_sound.specs.c_type_laws.Typed.{AreKnown}
 use Rattle.c_typing_expression_sound.proofs.CTypeLaws.Truth.{front, back, also, three, along}
 use Rattle.c_typing_expression_sound.proofs.CTypeLaws.Types.{known_size, known_object}

@@ -14,17 +14,17 @@ use Rattle.c_typed_tree.specs.View.{type_view, expr_view}
 use Rattle.c_typed_tree.specs.Constants.{is_integer, is_null_constant}
 use Rattle.c_typed_tree.specs.Typing.{Context, is_pointer, is_pointer_to_void, is_fit}
 use Rattle.c_typing_constants.specs.Null.{is_null_void}
-use Rattle.c_typing_declared_types.specs.declared.declared.DeclaredType.{DeclaredType}
-use Rattle.c_typing_declared_types.specs.declared.declared.DeclaredType.TheVariants as d
+use Rattle.c_typing_rules.specs.declared.c_typing_declared_types.declared.DeclaredType.{DeclaredType}
+use Rattle.c_typing_rules.specs.declared.c_typing_declared_types.declared.DeclaredType.TheVariants as d
 use Rattle.c_typing_rules.specs.declared.typed.TypedExpression.{TypedExpression}
 use Rattle.c_typing_rules.specs.Rulings.{Ruling}
 use Rattle.c_typing_rules.specs.Conversions.{decay}
 use Rattle.c_typing_rules.specs.Comparisons.{condition}
-use Rattle.c_typing_operators.specs.Null.{is_null_value, is_null_for, take_value}
-use Rattle.c_typing_operators.specs.Unary.{unary_ruling}
-use Rattle.c_typing_operators.specs.Binary.{binary_operation, binary_ruling, subscript, condition_tree, conditional_on, conditional_ruling}
-use Rattle.c_typing_operators.specs.Assigned.{assign_rvalue, assign}
-use Rattle.c_typing_operators.specs.Casts.{cast_to, size_of_type}
+use Rattle.c_typing_judgements.specs.c_typing_operators.Null.{is_null_value, is_null_for, take_value}
+use Rattle.c_typing_judgements.specs.c_typing_operators.Unary.{unary_ruling}
+use Rattle.c_typing_judgements.specs.c_typing_operators.Binary.{binary_operation, binary_ruling, subscript, condition_tree, conditional_on, conditional_ruling}
+use Rattle.c_typing_judgements.specs.c_typing_operators.Assigned.{assign_rvalue, assign}
+use Rattle.c_typing_judgements.specs.c_typing_operators.Casts.{cast_to, size_of_type}
 use Rattle.c_typing_expression_sound.specs.c_type_laws.Typed.{IsTypedIn, IsOfType, AreKnown, TakesMemory, IsFitType, IsSmallType, IsTested}
 use Rattle.c_typing_expression_sound.proofs.CTypeLaws.Truth.{no_true, also, along, either_left, either_right, if_true}
 use Rattle.c_typing_expression_sound.proofs.CTypeLaws.Values.{decay_typed}

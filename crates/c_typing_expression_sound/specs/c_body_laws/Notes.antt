@@ -3,7 +3,7 @@ use Rattle.std.specs.Prelude.{List, [], All, Option, IfSome}
 use Rattle.c_typed_tree.specs.declared.types.StructDef.{StructDef}
 use Rattle.c_typed_tree.specs.Typing.{Context}
 use Rattle.c_typed_tree.specs.Lawful.{IsLawfulStruct}
-use Rattle.c_typing_declared_types.specs.declared.declared.DeclaredType.{DeclaredType}
+use Rattle.c_typing_rules.specs.declared.c_typing_declared_types.declared.DeclaredType.{DeclaredType}
 use Rattle.c_typing_state.specs.declared.notes.Notes.{Notes}
 use Rattle.c_typing_judgements.specs.Types.{JudgementState}
 use Rattle.c_typing_expression_sound.specs.c_judgement_laws.Covers.{AreTagsIn, IsUntaggedIn}

@@ -4,7 +4,7 @@ use Rattle.c_tree.specs.declared.expressions.Expr as e
 use Rattle.c_tree.specs.declared.types.TypeName.{TypeName}
 use Rattle.c_tree.specs.declared.types.TypeNode as t
 use Rattle.c_typed_tree.specs.Typing.{Context}
-use Rattle.c_typing_declared_types.specs.declared.declared.DeclaredType.{DeclaredType}
+use Rattle.c_typing_rules.specs.declared.c_typing_declared_types.declared.DeclaredType.{DeclaredType}
 use Rattle.c_typing_judgements.specs.Types.{JudgementState}
 use Rattle.c_typing_expressions.specs.Expressions.{judge, derive, judge_type_name}
 use Rattle.c_typing_expression_sound.specs.c_type_laws.Typed.{IsTypedIn, IsFitType}

@@ -8,7 +8,7 @@ use Rattle.c_tree.specs.declared.expressions.AssignOp.{AssignOp}
 use Rattle.c_tree.specs.declared.expressions.StepOp.{StepOp}
 use Rattle.c_typed_tree.specs.View.{type_view}
 use Rattle.c_typed_tree.specs.Typing.{Context}
-use Rattle.c_typing_declared_types.specs.declared.declared.DeclaredType.{DeclaredType}
+use Rattle.c_typing_rules.specs.declared.c_typing_declared_types.declared.DeclaredType.{DeclaredType}
 use Rattle.c_typing_rules.specs.declared.typed.TypedExpression.{TypedExpression}
 use Rattle.c_typing_primary_rules.specs.Primary.{integer_constant, character_constant}
 use Rattle.c_typing_state.specs.declared.env.Env.{Env}

@@ -3,7 +3,7 @@ use Rattle.std.specs.Prelude.{◌≡◌, ℕ, IsTrue, List, ◌++◌, Option}
 use Rattle.std.specs.List.{list_all}
 use Rattle.c_tree.specs.declared.expressions.Expr.{Expr}
 use Rattle.c_tree.specs.declared.types.TypeNode.{TypeNode}
-use Rattle.c_typing_declared_types.specs.declared.declared.DeclaredType.{DeclaredType}
+use Rattle.c_typing_rules.specs.declared.c_typing_declared_types.declared.DeclaredType.{DeclaredType}
 use Rattle.c_typing_state.specs.declared.env.Env.{Env}
 use Rattle.c_typing_state.specs.declared.notes.Notes.{Notes}
 use Rattle.c_typing_judgements.specs.Leaves.{leaf}

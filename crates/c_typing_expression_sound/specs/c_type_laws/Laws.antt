@@ -15,7 +15,7 @@ use Rattle.c_typed_tree.specs.declared.expressions.Callee.{Callee}
 use Rattle.c_typed_tree.specs.declared.expressions.TExpr.{TExpr}
 use Rattle.c_typed_tree.specs.View.{type_view}
 use Rattle.c_typed_tree.specs.Typing.{Context, is_fit, has_local_type, has_global_type, target_of, depth_behind, most_depth}
-use Rattle.c_typing_declared_types.specs.declared.declared.DeclaredType.{DeclaredType}
+use Rattle.c_typing_rules.specs.declared.c_typing_declared_types.declared.DeclaredType.{DeclaredType}
 use Rattle.c_typing_rules.specs.declared.typed.TypedExpression.{TypedExpression}
 use Rattle.c_typing_rules.specs.Conversions.{decay}
 use Rattle.c_typing_place_rules.specs.declared.members.FoundMember.{FoundMember}
@@ -26,11 +26,11 @@ use Rattle.c_typing_primary_rules.specs.Primary.{integer_constant, character_con
 use Rattle.c_typing_primary_rules.specs.Calls.{call_rvalue}
 use Rattle.c_typing_primary_rules.specs.Commas.{comma_value}
 use Rattle.c_typing_primary_rules.specs.Switches.{switch_operand}
-use Rattle.c_typing_operators.specs.Null.{take_value}
-use Rattle.c_typing_operators.specs.Unary.{unary_ruling}
-use Rattle.c_typing_operators.specs.Binary.{binary_ruling, subscript, conditional_ruling, condition_tree}
-use Rattle.c_typing_operators.specs.Assigned.{assign}
-use Rattle.c_typing_operators.specs.Casts.{cast_to, size_of_type}
+use Rattle.c_typing_judgements.specs.c_typing_operators.Null.{take_value}
+use Rattle.c_typing_judgements.specs.c_typing_operators.Unary.{unary_ruling}
+use Rattle.c_typing_judgements.specs.c_typing_operators.Binary.{binary_ruling, subscript, conditional_ruling, condition_tree}
+use Rattle.c_typing_judgements.specs.c_typing_operators.Assigned.{assign}
+use Rattle.c_typing_judgements.specs.c_typing_operators.Casts.{cast_to, size_of_type}
 use Rattle.c_typing_expression_sound.specs.c_type_laws.Typed.{IsTypedIn, AreTypedIn, IsOfType, AreOfTypes, AreKnown, IsMemberOf, IsFunctionOf, IsSwitched, TakesMemory, IsFitType, IsSmall, IsSmallType, IsTested}
 
 -- ---- operators

@@ -10,10 +10,10 @@ use Rattle.c_typing_state.specs.Checks.{walk, append_part}
 use Rattle.c_typing_state.specs.Scopes.{enter}
 use Rattle.c_typing_judgements.specs.Types.{JudgementState}
 use Rattle.c_typing_statement_rules.specs.Jumps.{no_jumps}
-use Rattle.c_typing_local_rules.specs.Locals.{BodyState, parameter_named, with_addressed}
-use Rattle.c_typing_function_bodies.specs.declared.functions.FunctionType.{FunctionType}
+use Rattle.c_typing_statement_parts.specs.c_typing_local_rules.Locals.{BodyState, parameter_named, with_addressed}
+use Rattle.c_typing_statements.specs.declared.c_typing_function_bodies.functions.FunctionType.{FunctionType}
 use Rattle.c_typing_statements.specs.Statements.{statement}
-use Rattle.c_typing_function_bodies.specs.Functions.{parameters_of, judge_parameter, parameters, typed_parameters, declared_parameters, result_of, typed_function, judge_function}
+use Rattle.c_typing_statements.specs.c_typing_function_bodies.Functions.{parameters_of, judge_parameter, parameters, typed_parameters, declared_parameters, result_of, typed_function, judge_function}
 use Rattle.c_typing_expression_sound.specs.c_found_laws.Laws.{Tells, IsFound}
 use Rattle.c_typing_expression_sound.proofs.CFoundLaws.Forms.{no_true, also, tells_none, tells_as, tells_then, tells_both, append_found, left_tells}
 use Rattle.c_typing_function_sound.specs.c_found_statement_laws.Laws.{are_as_many, type_fits}

@@ -10,8 +10,8 @@ use Rattle.c_tree.specs.declared.statements.ForFirst.TheVariants as g
 use Rattle.c_tree.specs.declared.statements.Label.{Label}
 use Rattle.c_tree.specs.declared.statements.Label.TheVariants as l
 use Rattle.c_typing_scopes.specs.Names.{find}
-use Rattle.c_typing_declared_types.specs.declared.declared.DeclaredType.{DeclaredType}
-use Rattle.c_typing_declared_types.specs.declared.declared.DeclaredType.TheVariants as d
+use Rattle.c_typing_rules.specs.declared.c_typing_declared_types.declared.DeclaredType.{DeclaredType}
+use Rattle.c_typing_rules.specs.declared.c_typing_declared_types.declared.DeclaredType.TheVariants as d
 use Rattle.c_typing_faults.specs.declared.faults.Kind.TheVariants.{BadType, BadInit, BadLabel, BadJump, BadReturn, Redeclared}
 use Rattle.c_typing_rules.specs.declared.typed.TypedExpression.{TypedExpression}
 use Rattle.c_typing_rules.specs.Rulings.{Ruling}
@@ -24,7 +24,7 @@ use Rattle.c_typed_tree.specs.declared.statements.TLabel.TheVariants.{Case, Defa
 use Rattle.c_typed_tree.specs.Typing.{is_array, is_void}
 use Rattle.c_typed_tree.specs.View.{type_view}
 use Rattle.c_typing_constants.specs.c_constant_rules.Values.{label_value}
-use Rattle.c_typing_operators.specs.Null.{take_value}
+use Rattle.c_typing_judgements.specs.c_typing_operators.Null.{take_value}
 use Rattle.c_typing_state.specs.declared.env.Env.{Env}
 use Rattle.c_typing_state.specs.declared.meanings.NameMeaning.TheVariants as m
 use Rattle.c_typing_state.specs.declared.notes.Notes.{Notes}
@@ -34,15 +34,15 @@ use Rattle.c_typing_state.specs.Scopes.{with_meaning, stands_here}
 use Rattle.c_typing_judgements.specs.Leaves.{leaf}
 use Rattle.c_typing_judgements.specs.Types.{JudgementState, parameter_type}
 use Rattle.c_typing_expressions.specs.Expressions.{judge, derive}
-use Rattle.c_typing_local_rules.specs.Members.{is_member_type}
+use Rattle.c_typing_statement_parts.specs.c_typing_local_rules.Members.{is_member_type}
 use Rattle.c_typing_statement_rules.specs.declared.jumps.Jumps.{Jumps}
 use Rattle.c_typing_statement_rules.specs.declared.labels.Labels.{Labels}
-use Rattle.c_typing_local_rules.specs.declared.locals.NewLocal.{NewLocal}
-use Rattle.c_typing_local_rules.specs.Objects.{no_object_type, object_type}
+use Rattle.c_typing_statement_parts.specs.declared.c_typing_local_rules.locals.NewLocal.{NewLocal}
+use Rattle.c_typing_statement_parts.specs.c_typing_local_rules.Objects.{no_object_type, object_type}
 use Rattle.c_typing_statement_rules.specs.Values.{condition_check, switch_check, full_expression, return_of, bad_return, return_value, return_nothing}
 use Rattle.c_typing_statement_rules.specs.Jumps.{bad_jump, break_statement, continue_statement}
 use Rattle.c_typing_statement_rules.specs.Labels.{has_word, with_words, with_default, LabelState, beside_labels, bad_label, operand_type, case_value, case_label, default_label}
-use Rattle.c_typing_local_rules.specs.Locals.{BodyState, with_notes, local_of_type, local_named, nameless_local, parameter_named, parameter_declared, no_initialiser, initialiser, with_initialiser, local_with_value, without_initialiser}
+use Rattle.c_typing_statement_parts.specs.c_typing_local_rules.Locals.{BodyState, with_notes, local_of_type, local_named, nameless_local, parameter_named, parameter_declared, no_initialiser, initialiser, with_initialiser, local_with_value, without_initialiser}
 use Rattle.c_typing_statement_parts.specs.Parts.{condition_of, full_value, operand_of, optional_condition, optional_value, return_statement, judge_type, initialiser_of, local_of, first_of, label_of}
 use Rattle.c_typing_expression_sound.specs.c_found_laws.Laws.{Tells, IsFound, YieldsFound}
 use Rattle.c_typing_expression_sound.proofs.CFoundLaws.Forms.{no_true, tells_none, tells_fault, tells_as, tells_then, tells_both, tells_never, tells_named, ruled_tells, map_found, each_tells, both_tells, each_under, append_found, parameter_type_tells, leaf_tells}

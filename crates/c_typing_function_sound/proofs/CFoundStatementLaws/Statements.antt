@@ -15,7 +15,7 @@ use Rattle.c_typing_judgements.specs.Types.{JudgementState}
 use Rattle.c_typing_statement_rules.specs.declared.jumps.Jumps.{Jumps}
 use Rattle.c_typing_statement_rules.specs.Jumps.{in_loop, in_switch, break_statement, continue_statement}
 use Rattle.c_typing_statement_rules.specs.Labels.{no_labels}
-use Rattle.c_typing_local_rules.specs.Locals.{BodyState}
+use Rattle.c_typing_statement_parts.specs.c_typing_local_rules.Locals.{BodyState}
 use Rattle.c_typing_statement_rules.specs.Forms.{if_else, while_loop, do_loop, for_loop, switch, section_under, switch_type}
 use Rattle.c_typing_statement_parts.specs.Parts.{condition_of, full_value, operand_of, optional_condition, optional_value, local_of, first_of, label_of}
 use Rattle.c_typing_statements.specs.Statements.{SwitchState, in_scope, beside_locals, statement, statement_row, else_held, judge_section_row}

@@ -13,10 +13,10 @@ use Rattle.c_typing_state.specs.Checks.{walk}
 use Rattle.c_typing_state.specs.Scopes.{enter}
 use Rattle.c_typing_judgements.specs.Types.{JudgementState}
 use Rattle.c_typing_statement_rules.specs.Jumps.{no_jumps}
-use Rattle.c_typing_local_rules.specs.Locals.{memory_local_at, with_addressed}
+use Rattle.c_typing_statement_parts.specs.c_typing_local_rules.Locals.{memory_local_at, with_addressed}
 use Rattle.c_typing_statements.specs.Statements.{statement}
-use Rattle.c_typing_function_bodies.specs.declared.functions.FunctionType.{FunctionType}
-use Rattle.c_typing_function_bodies.specs.Functions.{declared_parameters, parameters_of, result_of, typed_function, judge_function}
+use Rattle.c_typing_statements.specs.declared.c_typing_function_bodies.functions.FunctionType.{FunctionType}
+use Rattle.c_typing_statements.specs.c_typing_function_bodies.Functions.{declared_parameters, parameters_of, result_of, typed_function, judge_function}
 use Rattle.c_typing_function_sound.specs.c_local_laws.Laws.{DeclaresItsLocals}
 use Rattle.c_typing_function_sound.proofs.CLocalLaws.Numbers.{Declares, declares_none, count_of, walk_says}
 use Rattle.c_typing_function_sound.proofs.CLocalLaws.Statements.{stmt_here, stmts_here, stmts_push, statement_says}

@@ -23,10 +23,10 @@ use Rattle.c_typing_state.specs.Scopes.{stands_here}
 use Rattle.c_typing_state.specs.declared.env.Env.{Env}
 use Rattle.c_typing_state.specs.declared.notes.Notes.{Notes}
 use Rattle.c_typing_expressions.specs.Expressions.{judge}
-use Rattle.c_typing_local_rules.specs.declared.locals.NewLocal.{NewLocal}
-use Rattle.c_typing_local_rules.specs.Objects.{object_type}
+use Rattle.c_typing_statement_parts.specs.declared.c_typing_local_rules.locals.NewLocal.{NewLocal}
+use Rattle.c_typing_statement_parts.specs.c_typing_local_rules.Objects.{object_type}
 use Rattle.c_typing_statement_rules.specs.Forms.{first_locals, first_value}
-use Rattle.c_typing_local_rules.specs.Locals.{BodyState, with_notes, local_of_type, local_named, with_initialiser, initialiser, local_with_value, without_initialiser}
+use Rattle.c_typing_statement_parts.specs.c_typing_local_rules.Locals.{BodyState, with_notes, local_of_type, local_named, with_initialiser, initialiser, local_with_value, without_initialiser}
 use Rattle.c_typing_statement_parts.specs.Parts.{judge_type, initialiser_of, local_of, first_of, full_value}
 use Rattle.c_typing_function_sound.proofs.CLocalLaws.Numbers.{Declares, Is, declares_as, declares_none, due_one, count_of, walk_says}
 

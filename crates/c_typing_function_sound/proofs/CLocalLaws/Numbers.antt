@@ -5,7 +5,7 @@ use Rattle.std.specs.Option.{option_map}
 use Rattle.std.proofs.lemmas.Bool.{eqb-true, eqb-false, leb-false, ltb-false}
 use Rattle.c_typed_tree.specs.Declarations.{due_declarations}
 use Rattle.c_typing_state.specs.Checks.{walk, append_part}
-use Rattle.c_typing_local_rules.specs.Locals.{BodyState}
+use Rattle.c_typing_statement_parts.specs.c_typing_local_rules.Locals.{BodyState}
 
 -- ---- what is due from one number on, below another
 

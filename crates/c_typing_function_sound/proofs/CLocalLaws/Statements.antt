@@ -21,7 +21,7 @@ use Rattle.c_typed_tree.specs.model.Lists.{sections_view, else_view}
 use Rattle.c_typed_tree.proofs.Views.{view_block, view_switch, view_if}
 use Rattle.c_typing_primary_rules.specs.declared.switches.SwitchValue.{SwitchValue}
 use Rattle.c_typing_rules.specs.declared.typed.TypedExpression.{TypedExpression}
-use Rattle.c_typing_operators.specs.Null.{take_value}
+use Rattle.c_typing_judgements.specs.c_typing_operators.Null.{take_value}
 use Rattle.c_typing_state.specs.declared.notes.Notes.{Notes}
 use Rattle.c_typing_state.specs.Checks.{append_part, both_parts, note_fault, and_then, pure}
 use Rattle.c_typing_judgements.specs.Types.{JudgementState}
@@ -30,7 +30,7 @@ use Rattle.c_typing_statement_rules.specs.declared.jumps.Jumps.{Jumps}
 use Rattle.c_typing_statement_rules.specs.Jumps.{in_loop, in_switch, break_statement, continue_statement}
 use Rattle.c_typing_statement_rules.specs.Labels.{no_labels}
 use Rattle.c_typing_statement_rules.specs.Values.{return_of, bad_return, return_value}
-use Rattle.c_typing_local_rules.specs.Locals.{BodyState}
+use Rattle.c_typing_statement_parts.specs.c_typing_local_rules.Locals.{BodyState}
 use Rattle.c_typing_statement_rules.specs.Forms.{if_else, while_loop, do_loop, for_loop, switch, section_under, switch_type, block, expression_statement, local_statement}
 use Rattle.c_typing_statement_parts.specs.Parts.{condition_of, full_value, operand_of, optional_condition, optional_value, return_statement, local_of, first_of, label_of}
 use Rattle.c_typing_statements.specs.Statements.{SwitchState, in_scope, statement, statement_row, else_held, judge_section_row}

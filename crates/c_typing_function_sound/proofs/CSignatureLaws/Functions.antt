@@ -19,12 +19,12 @@ use Rattle.c_typing_state.specs.Scopes.{enter, stands_here}
 use Rattle.c_typing_judgements.specs.Types.{JudgementState}
 use Rattle.c_typing_expression_sound.specs.c_judgement_laws.Covers.{IsLawfulContext}
 use Rattle.c_typing_expression_sound.proofs.CTypeLaws.Truth.{no_true, front, back}
-use Rattle.c_typing_local_rules.specs.declared.locals.NewLocal.{NewLocal}
+use Rattle.c_typing_statement_parts.specs.declared.c_typing_local_rules.locals.NewLocal.{NewLocal}
 use Rattle.c_typing_statement_rules.specs.Jumps.{no_jumps}
-use Rattle.c_typing_local_rules.specs.Locals.{BodyState, with_notes, local_of_type, parameter_named, with_addressed}
-use Rattle.c_typing_function_bodies.specs.declared.functions.FunctionType.{FunctionType}
+use Rattle.c_typing_statement_parts.specs.c_typing_local_rules.Locals.{BodyState, with_notes, local_of_type, parameter_named, with_addressed}
+use Rattle.c_typing_statements.specs.declared.c_typing_function_bodies.functions.FunctionType.{FunctionType}
 use Rattle.c_typing_statements.specs.Statements.{statement}
-use Rattle.c_typing_function_bodies.specs.Functions.{parameters_of, typed_parameters, typed_function, judge_function}
+use Rattle.c_typing_statements.specs.c_typing_function_bodies.Functions.{parameters_of, typed_parameters, typed_function, judge_function}
 use Rattle.c_typing_function_sound.proofs.CStatementLaws.Locals.{Grows, addressed_types}
 use Rattle.c_typing_function_sound.proofs.CStatementLaws.Moves.{moves_none, walk_moves}
 use Rattle.c_typing_function_sound.proofs.CStatementLaws.Forms.{IsStmt, AreStmts, stmts_more}

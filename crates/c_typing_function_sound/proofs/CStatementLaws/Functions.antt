@@ -21,11 +21,11 @@ use Rattle.c_typing_state.specs.Checks.{walk}
 use Rattle.c_typing_state.specs.Scopes.{enter}
 use Rattle.c_typing_judgements.specs.Types.{JudgementState}
 use Rattle.c_typing_statement_rules.specs.Jumps.{no_jumps}
-use Rattle.c_typing_local_rules.specs.Locals.{BodyState, with_addressed}
+use Rattle.c_typing_statement_parts.specs.c_typing_local_rules.Locals.{BodyState, with_addressed}
 use Rattle.c_typing_statements.specs.Statements.{statement}
-use Rattle.c_typing_function_bodies.specs.declared.functions.FunctionType.{FunctionType}
-use Rattle.c_typing_function_bodies.specs.Functions.{declared_parameters, result_of, typed_function, without_addresses, judge_function}
-use Rattle.c_typing_function_bodies.specs.Functions as own
+use Rattle.c_typing_statements.specs.declared.c_typing_function_bodies.functions.FunctionType.{FunctionType}
+use Rattle.c_typing_statements.specs.c_typing_function_bodies.Functions.{declared_parameters, result_of, typed_function, without_addresses, judge_function}
+use Rattle.c_typing_statements.specs.c_typing_function_bodies.Functions as own
 use Rattle.c_typing_expression_sound.proofs.CTypeLaws.Truth.{front, back, also, along}
 use Rattle.c_typing_expression_sound.specs.c_judgement_laws.Covers.{AreInMemory, HaveTexts, IsLawfulContext}
 use Rattle.c_typing_expression_sound.proofs.CJudgementLaws.Structs.{object_fits}

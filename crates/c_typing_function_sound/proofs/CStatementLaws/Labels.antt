@@ -24,7 +24,7 @@ use Rattle.c_typing_state.specs.Checks.{and_then, each, note_fault}
 use Rattle.c_typing_expressions.specs.Expressions.{judge}
 use Rattle.c_typing_statement_rules.specs.declared.labels.Labels.{Labels}
 use Rattle.c_typing_statement_rules.specs.Labels.{has_word, with_words, with_default, LabelState, beside_labels, bad_label, new_case, operand_type, case_value, case_label, default_label}
-use Rattle.c_typing_local_rules.specs.Locals.{BodyState}
+use Rattle.c_typing_statement_parts.specs.c_typing_local_rules.Locals.{BodyState}
 use Rattle.c_typing_statement_parts.specs.Parts.{label_of}
 use Rattle.c_typing_expression_sound.proofs.CTypeLaws.Truth.{no_true, front, back, three, either_right}
 use Rattle.c_typing_expression_sound.proofs.CTypeLaws.Primary.{label_word}

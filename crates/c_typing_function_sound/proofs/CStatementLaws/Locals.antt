@@ -7,7 +7,7 @@ use Rattle.c_typed_tree.specs.declared.units.Local.{Local}
 use Rattle.c_typed_tree.specs.View.{type_view}
 use Rattle.c_typed_tree.specs.Typing.{Context, is_scalar, has_local_type}
 use Rattle.c_typed_tree.specs.Lawful.{type_of_local, is_object_type, is_lawful_local}
-use Rattle.c_typing_local_rules.specs.Locals.{memory_local_at, put_in_memory, with_addressed}
+use Rattle.c_typing_statement_parts.specs.c_typing_local_rules.Locals.{memory_local_at, put_in_memory, with_addressed}
 use Rattle.c_typing_expression_sound.specs.c_type_laws.Typed.{may_be_memory}
 use Rattle.c_typing_expression_sound.proofs.CTypeLaws.Truth.{front, back, also, either_right}
 use Rattle.c_typing_expression_sound.proofs.CTypeLaws.Types.{alike}

@@ -9,7 +9,7 @@ use Rattle.c_typing_state.specs.declared.notes.Notes.{Notes}
 use Rattle.c_typing_state.specs.Checks.{each, both_parts, walk, append_part, note_fault}
 use Rattle.c_typing_state.specs.Scopes.{leave}
 use Rattle.c_typing_judgements.specs.Types.{JudgementState}
-use Rattle.c_typing_local_rules.specs.Locals.{BodyState}
+use Rattle.c_typing_statement_parts.specs.c_typing_local_rules.Locals.{BodyState}
 use Rattle.c_typing_statements.specs.Statements.{in_scope, behind_scope}
 use Rattle.c_typing_expression_sound.specs.c_judgement_laws.Covers.{HasNames, Knows, Takes}
 use Rattle.c_typing_expression_sound.proofs.CJudgementLaws.Notes.{Later, later_itself, later_then, later_fault}

@@ -22,14 +22,14 @@ use Rattle.c_typed_tree.specs.Typing.{Context, is_valid_type, is_scalar, is_arra
 use Rattle.c_typed_tree.specs.TypingStatements.{is_there, is_declared, is_first}
 use Rattle.c_typed_tree.specs.Lawful.{type_of_local, is_object_type, is_lawful_local}
 use Rattle.mem_objects.specs.declared.TheConstants.{MOST_DATA}
-use Rattle.c_typing_declared_types.specs.declared.declared.DeclaredType.{DeclaredType}
-use Rattle.c_typing_declared_types.specs.declared.declared.DeclaredType.TheVariants as d
-use Rattle.c_typing_declared_types.specs.Declarators.{parameter_value, adjusted_parameter}
-use Rattle.c_typing_declared_types.specs.Depth.{is_deep_at_most}
-use Rattle.c_typing_local_rules.specs.Members.{is_member_type}
+use Rattle.c_typing_rules.specs.declared.c_typing_declared_types.declared.DeclaredType.{DeclaredType}
+use Rattle.c_typing_rules.specs.declared.c_typing_declared_types.declared.DeclaredType.TheVariants as d
+use Rattle.c_typing_rules.specs.c_typing_declared_types.Declarators.{parameter_value, adjusted_parameter}
+use Rattle.c_typing_rules.specs.c_typing_declared_types.Depth.{is_deep_at_most}
+use Rattle.c_typing_statement_parts.specs.c_typing_local_rules.Members.{is_member_type}
 use Rattle.c_typing_faults.specs.declared.faults.Kind.TheVariants.{BadType, BadInit, Redeclared}
 use Rattle.c_typing_rules.specs.declared.typed.TypedExpression.{TypedExpression}
-use Rattle.c_typing_operators.specs.Null.{take_value}
+use Rattle.c_typing_judgements.specs.c_typing_operators.Null.{take_value}
 use Rattle.c_typing_scopes.specs.Names.{find}
 use Rattle.c_typing_state.specs.declared.env.Env.{Env}
 use Rattle.c_typing_state.specs.declared.meanings.NameMeaning.{NameMeaning}
@@ -40,13 +40,13 @@ use Rattle.c_typing_state.specs.Notes.{with_fault}
 use Rattle.c_typing_state.specs.Scopes.{with_meaning, meaning_of, stands_here}
 use Rattle.c_typing_judgements.specs.Types.{no_parameter, within_depth, parameter_type}
 use Rattle.c_typing_expressions.specs.Expressions.{judge}
-use Rattle.c_typing_local_rules.specs.declared.locals.NewLocal.{NewLocal}
-use Rattle.c_typing_local_rules.specs.Objects.{no_object_type, object_type}
+use Rattle.c_typing_statement_parts.specs.declared.c_typing_local_rules.locals.NewLocal.{NewLocal}
+use Rattle.c_typing_statement_parts.specs.c_typing_local_rules.Objects.{no_object_type, object_type}
 use Rattle.c_typing_statement_rules.specs.Forms.{first_value, first_locals}
-use Rattle.c_typing_local_rules.specs.Locals.{BodyState, with_notes, local_of_type, local_named, nameless_local, parameter_named, no_initialiser, with_initialiser, local_with_value, without_initialiser}
+use Rattle.c_typing_statement_parts.specs.c_typing_local_rules.Locals.{BodyState, with_notes, local_of_type, local_named, nameless_local, parameter_named, no_initialiser, with_initialiser, local_with_value, without_initialiser}
 use Rattle.c_typing_statement_parts.specs.Parts.{judge_type, full_value, initialiser_of, local_of, first_of}
-use Rattle.c_typing_function_bodies.specs.declared.functions.FunctionType.{FunctionType}
-use Rattle.c_typing_function_bodies.specs.Functions.{judge_parameter as one_parameter, parameters, typed_parameters, declared_parameters}
+use Rattle.c_typing_statements.specs.declared.c_typing_function_bodies.functions.FunctionType.{FunctionType}
+use Rattle.c_typing_statements.specs.c_typing_function_bodies.Functions.{judge_parameter as one_parameter, parameters, typed_parameters, declared_parameters}
 use Rattle.c_typing_expression_sound.specs.c_type_laws.Typed.{AreKnown, IsTypedIn}
 use Rattle.c_typing_expression_sound.proofs.CTypeLaws.Truth.{no_true, front, back, also, three, along, either_left}
 use Rattle.c_typing_expression_sound.proofs.CTypeLaws.Types.{known_object}

@@ -15,14 +15,14 @@ use Rattle.c_typing_rules.specs.declared.typed.TypedExpression.{TypedExpression}
 use Rattle.c_typing_rules.specs.Conversions.{decay}
 use Rattle.c_typing_rules.specs.Comparisons as rule
 use Rattle.c_typing_primary_rules.specs.Switches as switches
-use Rattle.c_typing_operators.specs.Null.{take_value}
+use Rattle.c_typing_judgements.specs.c_typing_operators.Null.{take_value}
 use Rattle.c_typing_state.specs.declared.notes.Notes.{Notes}
 use Rattle.c_typing_state.specs.Checks.{pure, and_then, each, both_parts, note_fault}
 use Rattle.c_typing_judgements.specs.Leaves.{leaf}
 use Rattle.c_typing_expressions.specs.Expressions.{judge, derive}
 use Rattle.c_typing_statement_rules.specs.Values.{condition_check, switch_check, full_expression, return_of, bad_return, return_value, return_nothing}
 use Rattle.c_typing_statement_rules.specs.Forms.{some_part}
-use Rattle.c_typing_local_rules.specs.Locals.{BodyState}
+use Rattle.c_typing_statement_parts.specs.c_typing_local_rules.Locals.{BodyState}
 use Rattle.c_typing_statement_parts.specs.Parts.{condition_of, full_value, operand_of, optional_condition, optional_value, return_statement, judge_type}
 use Rattle.c_typing_expression_sound.specs.c_type_laws.Typed.{IsTypedIn, IsSwitched}
 use Rattle.c_typing_expression_sound.specs.c_judgement_laws.Covers.{Takes, IsLawfulContext, IsJudged}

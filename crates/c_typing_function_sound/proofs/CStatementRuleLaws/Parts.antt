@@ -18,12 +18,12 @@ use Rattle.c_typing_rules.specs.Rulings.{Ruling}
 use Rattle.c_typing_rules.specs.Conversions.{decay}
 use Rattle.c_typing_rules.specs.Comparisons as rule
 use Rattle.c_typing_primary_rules.specs.Switches as w
-use Rattle.c_typing_operators.specs.Null.{take_value}
+use Rattle.c_typing_judgements.specs.c_typing_operators.Null.{take_value}
 use Rattle.c_typing_state.specs.declared.notes.Notes.{Notes}
 use Rattle.c_typing_state.specs.Checks.{pure, and_then, note_fault}
-use Rattle.c_typing_local_rules.specs.declared.locals.NewLocal.{NewLocal}
+use Rattle.c_typing_statement_parts.specs.declared.c_typing_local_rules.locals.NewLocal.{NewLocal}
 use Rattle.c_typing_statement_rules.specs.Values.{condition_check, switch_check, full_expression, return_of, bad_return, return_value, return_nothing}
-use Rattle.c_typing_local_rules.specs.Locals.{no_initialiser, with_initialiser, local_with_value}
+use Rattle.c_typing_statement_parts.specs.c_typing_local_rules.Locals.{no_initialiser, with_initialiser, local_with_value}
 use Rattle.c_typing_expression_sound.specs.c_type_laws.Typed.{IsTypedIn, IsOfType, IsTested, IsSwitched}
 use Rattle.c_typing_expression_sound.proofs.CTypeLaws.Truth.{no_true, also, three, along}
 use Rattle.c_typing_expression_sound.proofs.CTypeLaws.Types.{same, equal, fit_type}

@@ -7,7 +7,7 @@ use Rattle.c_typing_faults.specs.declared.faults.Kind.{Kind}
 use Rattle.c_typing_faults.specs.declared.faults.Kind.TheVariants.{BadInit}
 use Rattle.c_typing_rules.specs.declared.typed.TypedExpression.{TypedExpression}
 use Rattle.c_typing_rules.specs.Conversions.{decay}
-use Rattle.c_typing_operators.specs.Null.{take_value}
+use Rattle.c_typing_judgements.specs.c_typing_operators.Null.{take_value}
 use Rattle.c_typing_state.specs.declared.notes.Notes.{Notes}
 use Rattle.c_typing_state.specs.Checks.{each}
 use Rattle.c_typing_judgements.specs.Texts.{spelling_bytes}

@@ -14,14 +14,14 @@ use Rattle.c_typed_tree.specs.declared.statements.TLabel.TheVariants.{Case, Defa
 use Rattle.c_typed_tree.specs.declared.statements.TStmt as t
 use Rattle.c_typed_tree.specs.View.{type_view}
 use Rattle.c_typed_tree.specs.Typing.{is_array, is_void}
-use Rattle.c_typing_declared_types.specs.declared.declared.DeclaredType.{DeclaredType}
-use Rattle.c_typing_declared_types.specs.declared.declared.DeclaredType.TheVariants as d
-use Rattle.c_typing_declared_types.specs.Declarators.{adjusted_parameter}
+use Rattle.c_typing_rules.specs.declared.c_typing_declared_types.declared.DeclaredType.{DeclaredType}
+use Rattle.c_typing_rules.specs.declared.c_typing_declared_types.declared.DeclaredType.TheVariants as d
+use Rattle.c_typing_rules.specs.c_typing_declared_types.Declarators.{adjusted_parameter}
 use Rattle.c_typing_faults.specs.declared.faults.Kind.TheVariants.{BadType, BadInit, BadReturn, BadLabel, Redeclared}
 use Rattle.c_typing_rules.specs.declared.typed.TypedExpression.{TypedExpression}
 use Rattle.c_typing_rules.specs.Rulings.{Ruling}
 use Rattle.c_typing_constants.specs.c_constant_rules.Values.{label_value}
-use Rattle.c_typing_operators.specs.Null.{take_value}
+use Rattle.c_typing_judgements.specs.c_typing_operators.Null.{take_value}
 use Rattle.c_typing_scopes.specs.Names.{find}
 use Rattle.c_typing_state.specs.declared.notes.Notes.{Notes}
 use Rattle.c_typing_state.specs.Checks.{pure, and_then, each, walk, append_part, note_fault}
@@ -31,16 +31,16 @@ use Rattle.c_typing_judgements.specs.Leaves.{leaf}
 use Rattle.c_typing_judgements.specs.Types.{JudgementState, parameter_type}
 use Rattle.c_typing_expressions.specs.Expressions.{judge}
 use Rattle.c_typing_statement_rules.specs.declared.labels.Labels.{Labels}
-use Rattle.c_typing_local_rules.specs.declared.locals.NewLocal.{NewLocal}
+use Rattle.c_typing_statement_parts.specs.declared.c_typing_local_rules.locals.NewLocal.{NewLocal}
 use Rattle.c_typing_statement_rules.specs.Labels.{LabelState, beside_labels, bad_label, operand_type, has_word, with_words, with_default, new_case, case_value, case_label, default_label}
-use Rattle.c_typing_local_rules.specs.Locals.{BodyState, in_body, local_of_type, with_notes, local_named, local_declared, nameless_local, parameter_named, no_initialiser, initialiser, local_with_value}
-use Rattle.c_typing_local_rules.specs.Objects.{no_object_type, object_type}
+use Rattle.c_typing_statement_parts.specs.c_typing_local_rules.Locals.{BodyState, in_body, local_of_type, with_notes, local_named, local_declared, nameless_local, parameter_named, no_initialiser, initialiser, local_with_value}
+use Rattle.c_typing_statement_parts.specs.c_typing_local_rules.Objects.{no_object_type, object_type}
 use Rattle.c_typing_statement_rules.specs.Values.{condition_check, switch_check, return_of, bad_return, return_value, return_nothing}
 use Rattle.c_typing_struct_bodies.specs.Members.{is_member_type}
-use Rattle.c_typing_function_bodies.specs.declared.functions.FunctionType.{FunctionType}
+use Rattle.c_typing_statements.specs.declared.c_typing_function_bodies.functions.FunctionType.{FunctionType}
 use Rattle.c_typing_statement_parts.specs.Parts.{condition_of, operand_of, optional_condition, optional_value, return_statement, judge_type, initialiser_of, local_of, first_of, label_of}
-use Rattle.c_typing_function_bodies.specs.Functions.{parameters, typed_parameters, declared_parameters}
-use Rattle.c_typing_function_bodies.specs.Functions as fn
+use Rattle.c_typing_statements.specs.c_typing_function_bodies.Functions.{parameters, typed_parameters, declared_parameters}
+use Rattle.c_typing_statements.specs.c_typing_function_bodies.Functions as fn
 use Rattle.c_typing_expression_sound.specs.c_note_laws.Steps.{NoteSteps}
 use Rattle.c_typing_expression_sound.proofs.CNoteLaws.Forms.{ruled_steps, each_adds, both_adds, leaf_adds, within_adds}
 use Rattle.c_typing_expression_sound.proofs.CNoteLaws.Walks.{judge_adds, derive_adds}

@@ -17,11 +17,11 @@ use Rattle.c_typing_statement_rules.specs.declared.jumps.Jumps.{Jumps}
 use Rattle.c_typing_statement_rules.specs.Jumps.{no_jumps, in_loop, in_switch, bad_jump, break_statement, continue_statement}
 use Rattle.c_typing_statement_rules.specs.Forms.{switch_type, section_under}
 use Rattle.c_typing_statement_rules.specs.Labels.{no_labels}
-use Rattle.c_typing_local_rules.specs.Locals.{BodyState}
+use Rattle.c_typing_statement_parts.specs.c_typing_local_rules.Locals.{BodyState}
 use Rattle.c_typing_statement_parts.specs.Parts.{condition_of, operand_of, optional_condition, optional_value, first_of, label_of}
 use Rattle.c_typing_statements.specs.Statements.{SwitchState, in_scope, statement, statement_row, else_held, judge_section_row}
-use Rattle.c_typing_function_bodies.specs.declared.functions.FunctionType.{FunctionType}
-use Rattle.c_typing_function_bodies.specs.Functions.{parameters_of, declared_parameters, result_of, judge_function}
+use Rattle.c_typing_statements.specs.declared.c_typing_function_bodies.functions.FunctionType.{FunctionType}
+use Rattle.c_typing_statements.specs.c_typing_function_bodies.Functions.{parameters_of, declared_parameters, result_of, judge_function}
 use Rattle.c_typing_expression_sound.specs.c_note_laws.Steps.{NoteSteps}
 use Rattle.c_typing_expression_sound.proofs.CNoteLaws.Walks.{judge_adds}
 use Rattle.c_typing_function_sound.proofs.CStepLaws.Parts.{condition_steps, operand_steps, optional_condition_steps, optional_value_steps, return_steps, local_steps, walk_steps, first_steps, label_steps, declared_steps}

@@ -3,8 +3,8 @@ use Rattle.std.specs.Prelude.{Bool, true, false, IsTrue, List, [], ◌∷◌, Op
 use Rattle.c_tree.specs.declared.types.Declaration.{Declaration}
 use Rattle.c_tree.specs.declared.statements.Stmt.{Stmt}
 use Rattle.c_typing_judgements.specs.Types.{JudgementState}
-use Rattle.c_typing_function_bodies.specs.declared.functions.FunctionType.{FunctionType}
-use Rattle.c_typing_function_bodies.specs.Functions.{parameters_of, judge_function}
+use Rattle.c_typing_statements.specs.declared.c_typing_function_bodies.functions.FunctionType.{FunctionType}
+use Rattle.c_typing_statements.specs.c_typing_function_bodies.Functions.{parameters_of, judge_function}
 use Rattle.c_typing_expression_sound.specs.c_found_laws.Laws.{Tells, IsFound}
 
 -- whether there is a type for each parameter

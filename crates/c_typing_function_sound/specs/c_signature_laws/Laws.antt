@@ -6,8 +6,8 @@ use Rattle.c_typed_tree.specs.declared.units.TypedFn.{TypedFn}
 use Rattle.c_typed_tree.specs.View.{type_view}
 use Rattle.c_typed_tree.specs.Lawful.{signature_of}
 use Rattle.c_typing_judgements.specs.Types.{JudgementState}
-use Rattle.c_typing_function_bodies.specs.declared.functions.FunctionType.{FunctionType}
-use Rattle.c_typing_function_bodies.specs.Functions.{judge_function}
+use Rattle.c_typing_statements.specs.declared.c_typing_function_bodies.functions.FunctionType.{FunctionType}
+use Rattle.c_typing_statements.specs.c_typing_function_bodies.Functions.{judge_function}
 
 pub record HasItsType (d : Declaration) (of : FunctionType) (f : TypedFn) : Type 0 where
   pub name : f.name ≡ d.name

@@ -13,8 +13,8 @@ use Rattle.c_typed_tree.specs.Lawful.{context_of, is_object_type, is_result, is_
 use Rattle.c_typing_judgements.specs.Types.{JudgementState}
 use Rattle.c_typing_expression_sound.specs.c_judgement_laws.Covers.{Knows, HaveTexts, IsLawfulContext}
 use Rattle.c_typing_expression_sound.specs.c_expression_laws.Laws.{HasScope}
-use Rattle.c_typing_function_bodies.specs.declared.functions.FunctionType.{FunctionType}
-use Rattle.c_typing_function_bodies.specs.Functions.{judge_function}
+use Rattle.c_typing_statements.specs.declared.c_typing_function_bodies.functions.FunctionType.{FunctionType}
+use Rattle.c_typing_statements.specs.c_typing_function_bodies.Functions.{judge_function}
 
 -- a parameter is a scalar no deeper than a type may be
 abbrev pub is_parameter : List StructDef → CType → Bool

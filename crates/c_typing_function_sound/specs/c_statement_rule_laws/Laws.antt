@@ -7,9 +7,9 @@ use Rattle.c_typed_tree.specs.Typing.{Context, is_fit, has_local_type}
 use Rattle.c_typed_tree.specs.TypingStatements.{Jumps, is_condition, is_value, is_declared, is_typed_stmt}
 use Rattle.c_typing_rules.specs.declared.typed.TypedExpression.{TypedExpression}
 use Rattle.c_typing_state.specs.declared.notes.Notes.{Notes}
-use Rattle.c_typing_local_rules.specs.declared.locals.NewLocal.{NewLocal}
+use Rattle.c_typing_statement_parts.specs.declared.c_typing_local_rules.locals.NewLocal.{NewLocal}
 use Rattle.c_typing_statement_rules.specs.Values.{condition_check, switch_check, full_expression, return_value, return_nothing}
-use Rattle.c_typing_local_rules.specs.Locals.{local_with_value}
+use Rattle.c_typing_statement_parts.specs.c_typing_local_rules.Locals.{local_with_value}
 use Rattle.c_typing_expression_sound.specs.c_type_laws.Typed.{IsTypedIn, IsSwitched}
 
 abbrev pub ConditionIsTyped : Type 0

@@ -7,8 +7,8 @@ use Rattle.c_typed_tree.specs.declared.types.CType.{CType}
 use Rattle.c_typing_faults.specs.declared.faults.Kind.{Kind}
 use Rattle.c_typing_judgements.specs.Types.{JudgementState}
 use Rattle.c_typing_expression_sound.specs.c_note_laws.Steps.{NoteSteps}
-use Rattle.c_typing_function_bodies.specs.declared.functions.FunctionType.{FunctionType}
-use Rattle.c_typing_function_bodies.specs.Functions.{judge_function}
+use Rattle.c_typing_statements.specs.declared.c_typing_function_bodies.functions.FunctionType.{FunctionType}
+use Rattle.c_typing_statements.specs.c_typing_function_bodies.Functions.{judge_function}
 use Rattle.c_typing_initialisers.specs.Initialisers.{object_cells}
 use Rattle.c_typing_initialisers.specs.Unfit.{judge_init, faulty_init}
 

@@ -19,7 +19,7 @@ use Rattle.c_typing_faults.specs.declared.faults.Kind.TheVariants.{BadInit}
 use Rattle.c_typing_rules.specs.declared.typed.TypedExpression.{TypedExpression}
 use Rattle.c_typing_rules.specs.Conversions.{decay}
 use Rattle.c_typing_rules.specs.Rulings.{Ruling}
-use Rattle.c_typing_operators.specs.Null.{take_value}
+use Rattle.c_typing_judgements.specs.c_typing_operators.Null.{take_value}
 use Rattle.c_typing_state.specs.Notes.{with_fault}
 use Rattle.c_typing_state.specs.Checks.{each, note_fault}
 use Rattle.c_typing_judgements.specs.Texts.{spelling_bytes}

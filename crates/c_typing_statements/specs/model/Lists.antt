@@ -11,7 +11,7 @@ use Rattle.c_typing_state.specs.Checks.{pure, and_then, walk}
 use Rattle.c_typing_primary_rules.specs.declared.switches.SwitchValue.{SwitchValue}
 use Rattle.c_typing_statement_rules.specs.declared.jumps.Jumps.{Jumps}
 use Rattle.c_typing_statement_rules.specs.Labels.{no_labels, beside_labels}
-use Rattle.c_typing_local_rules.specs.Locals.{BodyState}
+use Rattle.c_typing_statement_parts.specs.c_typing_local_rules.Locals.{BodyState}
 use Rattle.c_typing_statement_rules.specs.Forms.{section_under, switch, switch_type, block}
 use Rattle.c_typing_statement_parts.specs.Parts.{label_of}
 use Rattle.c_typing_statements.specs.Statements.{SwitchState, beside_locals, in_scope, behind_scope, statement}

@@ -11,16 +11,16 @@ use Rattle.c_tree.specs.declared.declarations.FunctionEnd.{FunctionEnd}
 use Rattle.c_tree.specs.declared.declarations.FunctionEnd.TheVariants as f
 use Rattle.c_tree.specs.declared.declarations.External.{External}
 use Rattle.c_tree.specs.declared.declarations.External.TheVariants as x
-use Rattle.c_typing_declared_types.specs.declared.declared.DeclaredType.{DeclaredType}
-use Rattle.c_typing_declared_types.specs.declared.declared.DeclaredType.TheVariants as d
+use Rattle.c_typing_rules.specs.declared.c_typing_declared_types.declared.DeclaredType.{DeclaredType}
+use Rattle.c_typing_rules.specs.declared.c_typing_declared_types.declared.DeclaredType.TheVariants as d
 use Rattle.c_typed_tree.specs.declared.types.CType.{CType}
 use Rattle.c_typing_definitions.specs.declared.names.Definitions.{Definitions}
 use Rattle.c_typing_state.specs.Checks.{each}
 use Rattle.c_typing_judgements.specs.Types.{JudgementState, type_named}
 use Rattle.c_typing_struct_bodies.specs.Bodies.{TagScope, declared_type}
 use Rattle.c_typing_declarations.specs.Unfit.{judge_init}
-use Rattle.c_typing_function_bodies.specs.declared.functions.FunctionType.{FunctionType}
-use Rattle.c_typing_function_bodies.specs.Functions.{judge_function}
+use Rattle.c_typing_statements.specs.declared.c_typing_function_bodies.functions.FunctionType.{FunctionType}
+use Rattle.c_typing_statements.specs.c_typing_function_bodies.Functions.{judge_function}
 use Rattle.c_typing_unit_names.specs.declared.names.NameDeclaration.{NameDeclaration}
 use Rattle.c_typing_declarations.specs.declared.walk.UnitSoFar.{UnitSoFar}
 use Rattle.c_typing_declarations.specs.Walk.{UnitWalk, in_notes, with_state, declare, body_kept}

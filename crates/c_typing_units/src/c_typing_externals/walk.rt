@@ -13,13 +13,13 @@ use c_typing_declarations::{
     defined_type, function_type, judge_parts, keep_function, refuse_optional, refuse_value,
     see_main,
 };
-use c_typing_declared_types::DeclaredType;
 use c_typing_definitions::Definitions;
-use c_typing_function_bodies::{FunctionType, function};
 use c_typing_judgements::leaves::copy_types;
 use c_typing_judgements::types::type_named;
+use c_typing_rules::c_typing_declared_types::DeclaredType;
 use c_typing_scopes::NameTable;
 use c_typing_state::{Env, Notes};
+use c_typing_statements::c_typing_function_bodies::{FunctionType, function};
 use c_typing_struct_bodies::declared_type;
 use c_typing_unit_names::NameDeclaration;
 use std::alloc::{AllocError, Global};

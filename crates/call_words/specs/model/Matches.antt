@@ -1,5 +1,5 @@
--- What comes of a parse of the words, and a request of the code as its definition has it.
-use Rattle.std.specs.Prelude.{◌≡◌, ◌≢◌, ℕ, Bool, true, false, List, Option, option_map}
+-- What comes of a parse of the words.
+use Rattle.std.specs.Prelude.{◌≡◌, ◌≢◌, true, false, List}
 use Rattle.bk_memory.specs.Shortage.{MemoryIsShort}
 use Rattle.clap.specs.Words.{Text, found_of, kind_of, rows_of}
 use Rattle.clap.specs.declared.error.Error.{Error}
@@ -7,8 +7,6 @@ use Rattle.clap.specs.declared.error.kind.ErrorKind.TheVariants.{OutOfMemory}
 use Rattle.clap.specs.declared.parser.matches.ArgMatches.{ArgMatches}
 use Rattle.call_words.specs.declared.read.WordsFault.{WordsFault}
 use Rattle.call_words.specs.declared.read.WordsFault.TheVariants as fault
-use Rattle.call_words.specs.declared.request.Command.{Command}
-use Rattle.call_words.specs.declared.request.Request.{Request}
 use Rattle.call_words.specs.Line.{are_well, rows_in}
 
 -- the fault of an error
@@ -25,7 +23,3 @@ pub record IsMatched (words : List Text) (m : ArgMatches) : Type 0 where
 abbrev pub IsUnmatched : List Text → WordsFault → Type 0
 IsUnmatched words fault.Usage = are_well words ≡ false
 IsUnmatched words fault.NoMemory = MemoryIsShort
-
--- a request of the code, as the pair of its command and its file
-abbrev pub shown_request : Option Request → Option (Command × List ℕ)
-shown_request = option_map (λ r. (r.command, r.file.now))

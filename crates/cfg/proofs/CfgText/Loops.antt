@@ -4,7 +4,7 @@ use Rattle.std.proofs.lemmas.List.{at_drop_more, at_drop_all}
 use Rattle.suifvm_ir.specs.declared.insn.VmInsn.{VmInsn}
 use Rattle.suifvm_ir.specs.Insns.{targets_of, flows_on_of}
 use Rattle.suifvm_ir.specs.Programs.{VmFunction}
-use Rattle.suifvm_ir.specs.Text.{block_name}
+use Rattle.suifvm_ir.specs.Lines.{block_name}
 use Rattle.cfg.specs.Edges.{successors_from}
 use Rattle.cfg.specs.cfg_text.Text.{followers_text, block_line, lines_text, function_graph, graphs_text}
 

@@ -2,7 +2,7 @@
 use Rattle.std.specs.Prelude.{ℕ, ◌+◌, List, [], ◌∷◌, ◌++◌, codes}
 use Rattle.suifvm_ir.specs.Insns.{targets_of, flows_on_of}
 use Rattle.suifvm_ir.specs.Programs.{VmFunction}
-use Rattle.suifvm_ir.specs.Text.{block_name}
+use Rattle.suifvm_ir.specs.Lines.{block_name}
 use Rattle.cfg.specs.Edges.{successors_from}
 
 -- each with a blank before it

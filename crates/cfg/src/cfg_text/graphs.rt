@@ -4,12 +4,12 @@ ghost use Rattle.std.specs.Prelude.{◌≡◌, ◌++◌, ◌≤◌, ◌^◌, IfO
 ghost use Rattle.cfg.specs.cfg_text.Text as text;
 
 use crate::build;
-use crate::cfg_text::words::{put, put_block};
 use bk_containers::Seq;
 use pass_core::function::Func;
 use std::alloc::{AllocError, Global};
 use suifvm_ir::insn::VmInsn;
 use suifvm_ir::program::VmProgram;
+use suifvm_ir::text_parts::{put, put_block};
 
 /// Puts blocks that may follow one.
 #[tactic(auto, using(crate::proofs::CfgText::Loops::followers_next, crate::proofs::CfgText::Loops::followers_end))]

@@ -17,8 +17,8 @@ use Rattle.c_semantics.specs.Behaves.{rooms_of}
 use Rattle.suifvm_ir.specs.declared.program.VmProgram.{VmProgram}
 use Rattle.pass_core.specs.Functions.{count_of}
 use Rattle.suifvm_ir.specs.Programs.{VmFunction, program_size}
-use Rattle.lowering.specs.Lowered.{AreWithinWeight}
-use Rattle.lowering_theorem.specs.Laws.{IsCodeOf}
+use Rattle.lowering.specs.Lowered.{AllStandFor}
+use Rattle.lowering_theorem.specs.Laws.{IsCodeOf, CodeRunsAs}
 use Rattle.temp_ir.specs.declared.program.TempProgram.{TempProgram}
 use Rattle.temp_ir.specs.Programs.{TempFn}
 use Rattle.alpha_select.specs.Selection.{AreSelected, CostLittle}
@@ -30,21 +30,29 @@ use Rattle.alloc_rules.specs.Allocations.{AreAllocationsOf}
 use Rattle.image_assembly_laws.specs.allocation_laws.Laws.{HasFrame}
 use Rattle.image_assembly.specs.Assemblies.{whole_assembly}
 use Rattle.image_assembly.specs.Layouts.{end_label, FitsProgram, FunctionsAreLaidOut}
-use Rattle.image_assembly.specs.Programs.{IsAllocated, HasItemsOf, ProgramPlacement, plans_of}
+use Rattle.image_assembly.specs.Programs.{IsAllocated}
+use Rattle.image_assembly_laws.specs.ProgramAssembly.{program_assembly}
 use Rattle.call_words.specs.declared.compile_options.Allocator.{Allocator}
 use Rattle.compiler_theorem.specs.Correct.{IsCorrectImage}
 use Rattle.compiler_front_end.specs.Units.{IsUnitWithin}
 use Rattle.compiler.specs.declared.built.Built.{Built}
-use Rattle.compiler.specs.Made.{Made, CodeRunsAs, IsCalledAs}
+use Rattle.compiler.specs.Made.{Made, IsCalledAs}
 
 -- ---- the code of a unit
+
+-- Code over virtual registers does what a unit does, within the bounds that selection asks for: whatever passes there
+-- are over such code, this is what they keep.
+pub record DoesAsUnit (u : TypedUnit) (vm : VmProgram) : Type 0 where
+  pub functions : AllStandFor u.structs u.functions vm.functions
+  pub globals : vm.globals ≡ u.globals
+  pub runs : CodeRunsAs u vm
+  pub size : program_size vm.functions ≤ 2 ^ 24
+  pub registers : All (λ (f : VmFunction). f.temps ≤ 2 ^ 24) vm.functions
 
 -- what lowering gives of a unit
 pub record IsLoweredUnit (u : TypedUnit) (vm : VmProgram) : Type 0 where
   pub code : IsCodeOf u vm
-  pub weights : AreWithinWeight u.structs u.functions vm.functions
-  pub size : program_size vm.functions ≤ 2 ^ 24
-  pub registers : All (λ (f : VmFunction). f.temps ≤ 2 ^ 24) vm.functions
+  pub does : DoesAsUnit u vm
 
 -- what selection gives of code over virtual registers
 pub record IsSelectedProgram (vm : VmProgram) (selected : TempProgram) : Type 0 where
@@ -63,7 +71,7 @@ pub record ArePassed (selected temps : TempProgram) : Type 0 where
 
 -- so the code over temporaries is that of a unit
 pub record IsCodeWithin (u : TypedUnit) (vm : VmProgram) (temps : TempProgram) : Type 0 where
-  pub lowered : IsLoweredUnit u vm
+  pub does : DoesAsUnit u vm
   pub selected : TempProgram
   pub selection : IsSelectedProgram vm selected
   pub passed : ArePassed selected temps
@@ -104,12 +112,10 @@ pub record IsAssemblyOf (temps : TempProgram) (allocations : List Allocation) (a
 -- what is known of the code and the assembly of a unit
 pub record IsAssemblyOfUnit (u : TypedUnit) (vm : VmProgram) (temps : TempProgram) (allocations : List Allocation)
     (asm : Assembly) : Type 0 where
-  pub runs : CodeRunsAs u vm
   pub selection : SelectionKeeps vm temps
   pub called : AllZip IsCalledAs vm.functions temps.functions
   pub allocated : IsAllocated temps allocations (rooms_of u)
-  pub placing : ProgramPlacement
-  pub items : HasItemsOf asm temps (plans_of allocations) placing
+  pub exact : asm ≡ program_assembly temps allocations
   pub few_words : HasFewWords asm
   pub short : (far : List Bool) → text_words asm.items far ≤ 2048 * unit_weight u
 

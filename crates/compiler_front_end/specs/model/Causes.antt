@@ -11,7 +11,8 @@ use Rattle.call_outcomes.specs.declared.outcome.SourceFault.TheVariants.{Lex, Sy
 use Rattle.call_outcomes.specs.declared.outcome.Which.TheVariants.{Nesting, Weight, Data}
 use Rattle.compiler_front_end.specs.declared.fault.CompileFault.{CompileFault}
 use Rattle.compiler_front_end.specs.declared.fault.CompileFault.TheVariants.{Source, Limit, NoMemory}
-use Rattle.compiler_front_end.specs.Limits.{most_weight, most_data}
+use Rattle.mem_objects.specs.declared.TheConstants.{MOST_DATA}
+use Rattle.c_typing_weight.specs.Limits.{most_weight}
 use Rattle.compiler_front_end.specs.Units.{as_count}
 
 -- where a text is not read
@@ -30,5 +31,5 @@ fault_of_check types.NoMemory = NoMemory
 abbrev pub IsBeyond : TypedUnit → CompileFault → Type 0
 IsBeyond unit (Limit Weight counted) = (most_weight < unit_weight unit) × (counted ≡ as_count (unit_weight unit))
 IsBeyond unit (Limit Data counted) =
-    (unit_weight unit ≤ most_weight) × (most_data < data_size unit) × (counted ≡ as_count (data_size unit))
+    (unit_weight unit ≤ most_weight) × (MOST_DATA < data_size unit) × (counted ≡ as_count (data_size unit))
 IsBeyond unit _ = ⊥

@@ -14,7 +14,7 @@ use Rattle.image_theorem.specs.same_runs.Same.{IsSame, RunsAreSame}
 use Rattle.c_typed_tree.specs.declared.units.TypedUnit.{TypedUnit}
 use Rattle.c_typed_tree.specs.Lawful.{IsTypedUnit}
 use Rattle.c_semantics.specs.Behaves.{run_main}
-use Rattle.lowering_theorem.specs.Laws.{VmRunsTo, ProgramsKeepMeaning}
+use Rattle.lowering_theorem.specs.Laws.{VmRunsTo}
 use Rattle.compiler_theorem.specs.unit_images.Laws.{IsMadeOf, InputIsGood, UnitsAreSame}
 
 -- ---- endings that are alike
@@ -113,9 +113,9 @@ bytes_all : (input : List ℕ) → AreBytes input → All (λ byte. byte < 256) 
 bytes_all [] h = All-nil (λ byte. byte < 256)
 bytes_all (b ∷ bs) h = All-cons (λ byte. byte < 256) b bs h.0 (bytes_all bs h.1)
 
-module _ (behave : ProgramsBehave) (keep : ProgramsKeepMeaning) (are_same : RunsAreSame) (u : TypedUnit) (rooms : Rooms) (p : Program) (typed : IsTypedUnit u) (made : IsMadeOf u rooms p) (stack : ℕ) (is_stack : IsStack stack) (input : List ℕ) (bytes : AreBytes input) (good : InputIsGood u rooms stack input) where
+module _ (behave : ProgramsBehave) (are_same : RunsAreSame) (u : TypedUnit) (rooms : Rooms) (p : Program) (typed : IsTypedUnit u) (made : IsMadeOf u rooms p) (stack : ℕ) (is_stack : IsStack stack) (input : List ℕ) (bytes : AreBytes input) (good : InputIsGood u rooms stack input) where
   at : (turns : ℕ) → VmRunsTo rooms made.code input turns (run_main u rooms input turns)
-  at n = keep u made.code typed made.is_code rooms input n (bytes_all input bytes) (good.defined n)
+  at n = made.runs rooms input n (bytes_all input bytes) (good.defined n)
 
   defined : (n : ℕ) → IsDefined (at n).ending
   defined n = defined_too (at n).ending (run_main u rooms input n) (good.defined n) (at n).same
@@ -132,5 +132,5 @@ module _ (behave : ProgramsBehave) (keep : ProgramsKeepMeaning) (are_same : Runs
       (made.keeps rooms input n (at n).ending (bytes_all input bytes) (at n).ends (defined n)).ends (room n))
       defined)
 
-pub units_are_same : ProgramsBehave → ProgramsKeepMeaning → RunsAreSame → UnitsAreSame
-units_are_same behave keep are_same u rooms p typed made stack is_stack input bytes good = unit_is_same behave keep are_same u rooms p typed made stack is_stack input bytes good
+pub units_are_same : ProgramsBehave → RunsAreSame → UnitsAreSame
+units_are_same behave are_same u rooms p typed made stack is_stack input bytes good = unit_is_same behave are_same u rooms p typed made stack is_stack input bytes good

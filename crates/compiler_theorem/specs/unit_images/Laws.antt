@@ -16,13 +16,14 @@ use Rattle.image_theorem.specs.same_runs.Same.{IsSame}
 use Rattle.c_typed_tree.specs.declared.units.TypedUnit.{TypedUnit}
 use Rattle.c_typed_tree.specs.Lawful.{IsTypedUnit}
 use Rattle.c_semantics.specs.Behaves.{run_main}
-use Rattle.lowering_theorem.specs.Laws.{IsCodeOf}
+use Rattle.lowering_theorem.specs.Laws.{CodeRunsAs}
 
--- what stands between a unit and an image: its program over virtual registers, the one over temporaries that does as
--- that does, right allocations of its functions in these rooms, and the assembly with their items
+-- what stands between a unit and an image: a program over virtual registers that runs as the unit, the one over
+-- temporaries that does as that does, right allocations of its functions in these rooms, and the assembly with their
+-- items
 pub record IsMadeOf (u : TypedUnit) (rooms : Rooms) (image : Program) : Type 0 where
   pub code : VmProgram
-  pub is_code : IsCodeOf u code
+  pub runs : CodeRunsAs u code
   pub selected : TempProgram
   pub keeps : SelectionKeeps code selected
   pub allocations : List Allocation

@@ -14,7 +14,7 @@ use Rattle.alpha_isa.specs.Lawful.{AreLawfulFields, IsDisplacement}
 use Rattle.alpha_items.specs.declared.item.AsmItem.{AsmItem}
 use Rattle.alpha_items.specs.declared.item.AsmItem.TheVariants.{Label, Plain}
 use Rattle.alpha_items.specs.Items.{IsItem}
-use Rattle.alpha_items.specs.Words.{high_of}
+use Rattle.alpha_items.specs.Words.{high_of, most_address}
 use Rattle.suifvm_ir.specs.declared.insn.VmObject.TheVariants.{Global, Local}
 use Rattle.pass_core.specs.Functions.{AllInsns}
 use Rattle.temp_ir.specs.declared.operation.Service.{Service}
@@ -83,13 +83,13 @@ module _ (a : Plan) (g : ItemSetting) (size : ℕ) (registers : HasRegisters a) 
   memory : (op : MemoryOp) (ra rb : ℕ) (disp : ℤ) (rest : List AsmItem) → ra < 32 → rb < 32 → IsDisplacement disp → All P rest → All P (Plain (Memory op ra rb disp) ∷ rest)
   memory op ra rb disp rest first second fits h = put (Plain (Memory op ra rb disp)) rest ((first, second, fits), refl) h
 
-  frame-by : (near : Bool) (op : MemoryOp) (way r offset : ℕ) (rest : List AsmItem) → way < 32 → r < 32 → offset < 2147450880 → nat_lt offset near_size ≡ near → All P rest → All P (frame_item op way r offset ++ rest)
+  frame-by : (near : Bool) (op : MemoryOp) (way r offset : ℕ) (rest : List AsmItem) → way < 32 → r < 32 → offset < most_address → nat_lt offset near_size ≡ near → All P rest → All P (frame_item op way r offset ++ rest)
   frame-by true op way r offset rest w q far e h = rw e (memory op r 30 (pos offset) rest q (omega arith) (ltb-true offset near_size e) h)
   frame-by false op way r offset rest w q far e h =
       rw e (memory Ldah way 30 (pos (high_of offset)) (Plain (Memory op r way (pos offset -ℤ pos (high_of offset * 65536))) ∷ rest) w (omega arith) (omega (arith, far))
       (memory op r way (pos offset -ℤ pos (high_of offset * 65536)) rest q w (rest_fits (pos offset -ℤ pos (high_of offset * 65536)) offset (high_of offset * 65536) refl (omega arith) (omega arith)) h))
 
-  frame-in : (op : MemoryOp) (r offset : ℕ) (rest : List AsmItem) → r < 32 → offset < 2147450880 → All P rest → All P (frame_item op 29 r offset ++ rest)
+  frame-in : (op : MemoryOp) (r offset : ℕ) (rest : List AsmItem) → r < 32 → offset < most_address → All P rest → All P (frame_item op 29 r offset ++ rest)
   frame-in op r offset rest q far h = frame-by (nat_lt offset near_size) op 29 r offset rest (omega arith) q far refl h
 
   move-by : (same : Bool) (from to : ℕ) (rest : List AsmItem) → from < 32 → to < 32 → (from == to) ≡ same → All P rest → All P (register_move from to ++ rest)
@@ -99,7 +99,7 @@ module _ (a : Plan) (g : ItemSetting) (size : ℕ) (registers : HasRegisters a) 
   move-in : (from to : ℕ) (rest : List AsmItem) → from < 32 → to < 32 → All P rest → All P (register_move from to ++ rest)
   move-in from to rest f t h = move-by (from == to) from to rest f t refl h
 
-  slot-near : (t : ℕ) → t < a.temps → slot_at g.shape t < 2147450880
+  slot-near : (t : ℕ) → t < a.temps → slot_at g.shape t < most_address
   slot-near t lt = let e : g.shape.temps ≡ a.temps = ap (λ (s : FrameShape). s.temps) shape in omega (arith, small, lt, e)
 
   transfer-in : (x : Transfer) (rest : List AsmItem) → IsMove a.temps x → All P rest → All P (transfer_items g.shape x ++ rest)
@@ -228,7 +228,7 @@ module _ (a : Plan) (g : ItemSetting) (size : ℕ) (registers : HasRegisters a) 
   restores-in saves r zero rest le h = h
   restores-in saves r (suc count) rest le h = restore-in (saves r) r (restore_registers g.shape saves (suc r) count rest) (omega (arith, le)) (restores-in saves (suc r) count rest (omega (arith, le)) h)
 
-  return-near : return_at g.shape < 2147450880
+  return-near : return_at g.shape < most_address
   return-near = omega (arith, small)
 
   entry-in : (saves : ℕ → Bool) (rest : List AsmItem) → All P rest → All P (entry_part g.shape saves rest)

@@ -5,6 +5,7 @@ use Rattle.std.specs.Option.{option_map}
 use Rattle.std.proofs.lemmas.Bool.{leb-true}
 use Rattle.std.proofs.lemmas.Option.{slice_get-map}
 use Rattle.std.proofs.lemmas.List.Elements.{All-tail}
+use Rattle.alpha_items.specs.Words.{most_address}
 use Rattle.mem_objects.specs.declared.DataObject.{DataObject}
 use Rattle.mem_objects.specs.Layout.{end_of, data_end, ObjectsLieFrom}
 use Rattle.pass_core.specs.declared.function.MemoryLocal.{MemoryLocal}
@@ -69,7 +70,7 @@ module _ (a : Allocation) (globals : List DataObject) (first : ℕ) (laid : Obje
       let at : g.global_at k ≡ o.offset = ap global_offset e in
       omega (arith, fits, low, at)
 
-  local-fits : (o : Option MemoryLocal) (k plus : ℕ) → slice_get a.func.objects k ≡ o → IsTrue (local_reaches plus o) → frame_object_at g.shape k + plus < 2147450880
+  local-fits : (o : Option MemoryLocal) (k plus : ℕ) → slice_get a.func.objects k ≡ o → IsTrue (local_reaches plus o) → frame_object_at g.shape k + plus < most_address
   local-fits None k plus e h = let clash : ⊥ = cc in absurd clash
   local-fits (Some o) k plus e h =
       let fits = leb-true plus o.size h in

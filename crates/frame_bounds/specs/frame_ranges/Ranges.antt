@@ -3,6 +3,7 @@ use Rattle.std.specs.Prelude.{◌≡◌, ℕ, ◌+◌, ◌≤◌, ◌<◌, ◌^�
 use Rattle.alpha_isa.specs.Lawful.{IsDisplacement}
 use Rattle.alpha_items.specs.declared.item.AsmItem.{AsmItem}
 use Rattle.alpha_items.specs.Items.{IsItem}
+use Rattle.alpha_items.specs.Words.{most_address}
 use Rattle.mem_objects.specs.declared.DataObject.{DataObject}
 use Rattle.mem_objects.specs.Layout.{ObjectsLieFrom, data_end}
 use Rattle.suifvm_ir.specs.declared.insn.VmObject.TheVariants.{Global, Local}
@@ -24,7 +25,7 @@ use Rattle.frame_layout.specs.Names.{NamesObjects}
 abbrev pub IsInRange : ItemSetting → (size : ℕ) → TempInsn → Type 0
 IsInRange g size (i.Address op destination base plus) = IsDisplacement plus
 IsInRange g size (i.ObjectAddress destination (Global k) plus) = g.global_at k + plus ≤ size
-IsInRange g size (i.ObjectAddress destination (Local k) plus) = frame_object_at g.shape k + plus < 2147450880
+IsInRange g size (i.ObjectAddress destination (Local k) plus) = frame_object_at g.shape k + plus < most_address
 IsInRange g size (i.Load op destination pointer plus) = IsDisplacement plus
 IsInRange g size (i.Store op value pointer plus) = IsDisplacement plus
 IsInRange g size (i.Operate op destination left right) = IsSmallOperand right

@@ -3,13 +3,14 @@ use Rattle.std.specs.Prelude.{ℕ, ◌+◌, ◌<◌, ◌≤◌, ◌^◌, ◌&&�
 use Rattle.std.specs.List.{list_all}
 use Rattle.mem_objects.specs.declared.DataObject.{DataObject}
 use Rattle.alloc_model.specs.declared.allocation.Allocation.{Allocation}
+use Rattle.frame_steps.specs.instruction_items.Items.{function_label}
 use Rattle.frame_checks.specs.model.Asked.{is_asked}
 use Rattle.frame_checks.specs.model.Storage.{lie_from, are_small_from}
 
 -- labels and temporaries are few enough
 abbrev pub Numbers : Allocation → (number first : ℕ) → Type 0
 Numbers a number first =
-    (256 + number < first) × (first + length a.func.blocks < 4294967295) × (a.func.temps ≤ 2 ^ 24)
+    (function_label number < first) × (first + length a.func.blocks < 4294967295) × (a.func.temps ≤ 2 ^ 24)
 
 -- objects lie where they may, and each instruction is as is asked
 abbrev pub names_fit : Allocation → List DataObject → (first : ℕ) → Bool

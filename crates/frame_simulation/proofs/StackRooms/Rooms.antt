@@ -2,6 +2,7 @@
 use Rattle.std.proofs.Common.{◌≡◌, ℕ, ◌+◌, ◌<◌, ◌≤◌, List, [], ◌∷◌, ◌∙◌, arith}
 use Rattle.alpha_isa.specs.Program.{Program, stack_start}
 use Rattle.alpha_isa.specs.State.{State, register}
+use Rattle.alpha_items.specs.Words.{most_address}
 use Rattle.frame_steps.specs.item_steps.Standing.{Labels}
 use Rattle.alpha_rt.specs.Calls.{scratch_size}
 use Rattle.alloc_model.specs.Places.{Places}
@@ -39,7 +40,7 @@ scratch_is_there p there start c gs held s h le =
       reached = λ y from to. h.reached y from (omega (arith, to, fill));
     }
 
-pub room_is_there : (p : Program) (there : Labels) (start : Start) (c : CallAt) (gs : List WaitingCall) (held : Places) (s : State) (called : FrameShape) → StackIs p there start c gs held s → stack_start p + (frame_size called + scratch_size + rooms_size c.shape gs) ≤ start.top → frame_size called + frame_size c.shape < 2147450880 → HasRoom p c called
+pub room_is_there : (p : Program) (there : Labels) (start : Start) (c : CallAt) (gs : List WaitingCall) (held : Places) (s : State) (called : FrameShape) → StackIs p there start c gs held s → stack_start p + (frame_size called + scratch_size + rooms_size c.shape gs) ≤ start.top → frame_size called + frame_size c.shape < most_address → HasRoom p c called
 room_is_there p there start c gs held s called h le near =
     let fill = frames_fill_stack p there start c gs held s h in
     let below = frames-below gs c.shape in

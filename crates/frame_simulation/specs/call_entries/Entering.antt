@@ -5,6 +5,7 @@ use Rattle.alpha_isa.specs.Program.{Program, stack_start, word_address}
 use Rattle.alpha_isa.specs.State.{State}
 use Rattle.alpha_items.specs.declared.item.AsmItem.{AsmItem}
 use Rattle.alpha_items.specs.declared.item.AsmItem.TheVariants.{Branch}
+use Rattle.alpha_items.specs.Words.{most_address}
 use Rattle.frame_steps.specs.item_steps.Standing.{Labels, ItemsAt}
 use Rattle.frame_steps.specs.item_steps.Steps.{Comes, Leaves}
 use Rattle.mem_model.specs.World.{Outer}
@@ -61,7 +62,7 @@ waiting_call c held behind place end =
 -- the stack has room for the frame, and an argument place of the caller is near from it
 pub record HasRoom (p : Program) (c : CallAt) (s : FrameShape) : Type 0 where
   pub room : stack_start p + frame_size s ≤ c.sp
-  pub near : frame_size s + frame_size c.shape < 2147450880
+  pub near : frame_size s + frame_size c.shape < most_address
 
 -- the machine stands at the first item of the called function, for the called function; it came there by its label, to
 -- which it went by a call behind which a word stands

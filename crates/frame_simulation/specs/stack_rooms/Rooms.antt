@@ -2,6 +2,7 @@
 use Rattle.std.specs.Prelude.{◌≡◌, ℕ, ◌+◌, ◌<◌, ◌≤◌, List, [], ◌∷◌}
 use Rattle.alpha_isa.specs.Program.{Program, stack_start}
 use Rattle.alpha_isa.specs.State.{State}
+use Rattle.alpha_items.specs.Words.{most_address}
 use Rattle.frame_steps.specs.item_steps.Standing.{Labels}
 use Rattle.alpha_rt.specs.Calls.{scratch_size}
 use Rattle.alloc_model.specs.Places.{Places}
@@ -39,4 +40,4 @@ RoomIsThere =
     (p : Program) (there : Labels) (start : Start) (c : CallAt) (gs : List WaitingCall) (held : Places) (s : State)
     (called : FrameShape) → StackIs p there start c gs held s →
     stack_start p + (frame_size called + scratch_size + rooms_size c.shape gs) ≤ start.top →
-    frame_size called + frame_size c.shape < 2147450880 → HasRoom p c called
+    frame_size called + frame_size c.shape < most_address → HasRoom p c called

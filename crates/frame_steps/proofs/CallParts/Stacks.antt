@@ -10,7 +10,7 @@ use Rattle.alpha_isa.specs.State.{State, register, with_register}
 use Rattle.alpha_isa.specs.Step.{memory_address, next_instruction}
 use Rattle.alpha_items.specs.declared.item.AsmItem.{AsmItem}
 use Rattle.alpha_items.specs.declared.item.AsmItem.TheVariants.{Plain}
-use Rattle.alpha_items.specs.Words.{high_of}
+use Rattle.alpha_items.specs.Words.{high_of, most_address}
 use Rattle.frame_steps.specs.item_steps.Standing.{Labels}
 use Rattle.frame_steps.proofs.ItemSteps.Steps.{steps_add_up}
 use Rattle.frame_memory.specs.Machine.{memory_bytes}
@@ -31,7 +31,7 @@ down-high : (z : ℤ) (x high : ℕ) → z ≡ (pos 0 -ℤ pos high) *ℤ pos 65
 down-high (pos d) x high e lt small = let f : d + high * 65536 ≡ 0 = omega (arith, ints, e) in let g : word_at (x + d) ≡ word_at (x + (2 ^ 64 - high * 65536)) = omega (arith, f, lt) in g
 down-high (negsuc d) x high e lt small = let f : suc d ≡ high * 65536 = omega (arith, ints, e) in let g : word_at (x + (2 ^ 64 - suc d)) ≡ word_at (x + (2 ^ 64 - high * 65536)) = omega (arith, f) in g
 
-down-rest : (z : ℤ) (sp n high : ℕ) → z ≡ pos (high * 65536) -ℤ pos n → sp + n < 2 ^ 64 → n < 2147450880 → high < 2 ^ 40 → word_at (word_at (sp + n + (2 ^ 64 - high * 65536)) + word_from z) ≡ sp
+down-rest : (z : ℤ) (sp n high : ℕ) → z ≡ pos (high * 65536) -ℤ pos n → sp + n < 2 ^ 64 → n < most_address → high < 2 ^ 40 → word_at (word_at (sp + n + (2 ^ 64 - high * 65536)) + word_from z) ≡ sp
 down-rest (pos d) sp n high e small near lt = let f : d + n ≡ high * 65536 = omega (arith, ints, e) in let g : word_at (word_at (sp + n + (2 ^ 64 - high * 65536)) + d) ≡ sp = omega (arith, f, small, near, lt) in g
 down-rest (negsuc d) sp n high e small near lt = let f : high * 65536 + suc d ≡ n = omega (arith, ints, e) in let g : word_at (word_at (sp + n + (2 ^ 64 - high * 65536)) + (2 ^ 64 - suc d)) ≡ sp = omega (arith, f, small, near, lt) in g
 
@@ -72,7 +72,7 @@ twice p there mid rest end u v s x y = record {
   bytes = y.bytes ∙ x.bytes;
 }
 
-pub stack-lowered : (p : Program) (there : Labels) (w n sp : ℕ) (rest : List AsmItem) (end : ℕ) (s : State) → IsAt p there w (lower_stack n rest) end s → register s 30 ≡ sp + n → sp + n < 2 ^ 64 → n < 2147450880 → StackMoved p there rest end sp s
+pub stack-lowered : (p : Program) (there : Labels) (w n sp : ℕ) (rest : List AsmItem) (end : ℕ) (s : State) → IsAt p there w (lower_stack n rest) end s → register s 30 ≡ sp + n → sp + n < 2 ^ 64 → n < most_address → StackMoved p there rest end sp s
 stack-lowered p there w n sp rest end s h e small near = by_test (nat_lt n near_size) h
   where
     by_test : (b : Bool) → IsAt p there w (if b then Plain (Memory Lda 30 30 (pos 0 -ℤ pos n)) ∷ rest else Plain (Memory Ldah 30 30 (pos 0 -ℤ pos (high_below n))) ∷ Plain (Memory Lda 30 30 (pos (high_below n * 65536) -ℤ pos n)) ∷ rest) end s → StackMoved p there rest end sp s
@@ -88,7 +88,7 @@ stack-lowered p there w n sp rest end s h e small near = by_test (nat_lt n near_
         let k : memory_address x.to 30 (pos (high_below n * 65536) -ℤ pos n) ≡ sp = ap (λ z. word_at (z + word_from (pos (high_below n * 65536) -ℤ pos n))) x.here ∙ down-rest (pos (high_below n * 65536) -ℤ pos n) sp n (high_below n) refl small near high in
         twice p there mid rest end u sp s x (word-written p there x.come.next (Memory Lda 30 30 (pos (high_below n * 65536) -ℤ pos n)) rest end 30 sp x.to x.come.is_at (omega arith) (omega (arith, small)) (ap (λ v. next_instruction (with_register 30 v x.to)) k))
 
-pub stack-raised : (p : Program) (there : Labels) (w n sp : ℕ) (rest : List AsmItem) (end : ℕ) (s : State) → IsAt p there w (raise_stack n rest) end s → register s 30 ≡ sp → sp + n < 2 ^ 64 → n < 2147450880 → StackMoved p there rest end (sp + n) s
+pub stack-raised : (p : Program) (there : Labels) (w n sp : ℕ) (rest : List AsmItem) (end : ℕ) (s : State) → IsAt p there w (raise_stack n rest) end s → register s 30 ≡ sp → sp + n < 2 ^ 64 → n < most_address → StackMoved p there rest end (sp + n) s
 stack-raised p there w n sp rest end s h e small near = by_test (nat_lt n near_size) h
   where
     by_test : (b : Bool) → IsAt p there w (if b then Plain (Memory Lda 30 30 (pos n)) ∷ rest else Plain (Memory Ldah 30 30 (pos (high_of n))) ∷ Plain (Memory Lda 30 30 (pos n -ℤ pos (high_of n * 65536))) ∷ rest) end s → StackMoved p there rest end (sp + n) s

@@ -16,7 +16,7 @@ use Rattle.alpha_isa.specs.State.{State, register, with_register, bytes_at, with
 use Rattle.alpha_isa.specs.Step.{exec, Goes, memory_address, insn_step, load_into, go_on_stored, next_instruction}
 use Rattle.alpha_items.specs.declared.item.AsmItem.{AsmItem}
 use Rattle.alpha_items.specs.declared.item.AsmItem.TheVariants.{Plain}
-use Rattle.alpha_items.specs.Words.{high_of}
+use Rattle.alpha_items.specs.Words.{high_of, most_address}
 use Rattle.frame_steps.specs.item_steps.Standing.{Labels}
 use Rattle.frame_steps.specs.item_steps.Steps.{Comes, StandsAt, SameElse}
 use Rattle.frame_steps.proofs.ItemSteps.Steps.{steps_add_up, plain_steps, same-with, pc-with, read-same, read-other, same-through, same-at}
@@ -99,7 +99,7 @@ word-written p there w insn rest end r v s h lt small e =
 
 -- ---- far offsets
 
-high-sum : (sp offset : ℕ) → offset < 2147450880 → word_at (sp + word_from (pos (high_of offset) *ℤ pos 65536)) ≡ word_at (sp + high_of offset * 65536)
+high-sum : (sp offset : ℕ) → offset < most_address → word_at (sp + word_from (pos (high_of offset) *ℤ pos 65536)) ≡ word_at (sp + high_of offset * 65536)
 high-sum sp offset small = refl
 
 far-sum : (z : ℤ) (sp offset high : ℕ) → z ≡ pos offset -ℤ pos high → sp + offset < 2 ^ 64 → offset < 2 ^ 63 → high < 2 ^ 63 → word_at (word_at (sp + high) + word_from z) ≡ sp + offset

@@ -6,6 +6,7 @@ use Rattle.alpha_isa.specs.Program.{Program, data_start}
 use Rattle.alpha_isa.specs.State.{State, register}
 use Rattle.alpha_items.specs.declared.item.AsmItem.{AsmItem}
 use Rattle.alpha_items.specs.declared.item.AsmItem.TheVariants.{DataAddress}
+use Rattle.alpha_items.specs.Words.{most_address}
 use Rattle.frame_steps.specs.item_steps.Standing.{Labels}
 use Rattle.frame_steps.proofs.ItemSteps.Steps.{data_address_steps}
 use Rattle.mem_model.specs.Memory as memory
@@ -120,7 +121,7 @@ module _ (p : Program) (there : Labels) (rest : List AsmItem) (end : ℕ) (c : C
       })
       d.others d.bytes
 
-  pub globals_have_addresses : (r k offset plus : ℕ) (e : Extent) → StandsFor p there (DataAddress r (offset + plus) ∷ rest) end c m known store s → IsWritable c.shape r → slice_get c.extents k ≡ Some e → IsExtent e → e.base ≡ data_start p + offset → plus ≤ e.size → data_start p + (offset + plus) < 2147450880 → GivesRegister p there rest end c m known store s r (address_content k plus)
+  pub globals_have_addresses : (r k offset plus : ℕ) (e : Extent) → StandsFor p there (DataAddress r (offset + plus) ∷ rest) end c m known store s → IsWritable c.shape r → slice_get c.extents k ≡ Some e → IsExtent e → e.base ≡ data_start p + offset → plus ≤ e.size → data_start p + (offset + plus) < most_address → GivesRegister p there rest end c m known store s r (address_content k plus)
   globals_have_addresses r k offset plus e h value made sound base le small =
       let d = data_address_steps p there h.word r (offset + plus) rest end s (stands p there h.word (DataAddress r (offset + plus)) rest end s h.is_at) (let lt = value.value in omega (arith, lt)) small in
       let same = d.has.same in

@@ -20,7 +20,7 @@ use Rattle.alpha_items.specs.declared.item.AsmItem.TheVariants.{Label, Name, Pla
 use Rattle.alpha_items.specs.Items.{names_label, IsItem}
 use Rattle.alpha_items.specs.Assembly.{Assembly, IsWhole, labels, label_index}
 use Rattle.alpha_items.specs.Layout.{item_words, sizes, text_words, item_place, label_place, ItemReaches, is_far}
-use Rattle.alpha_items.specs.Words.{item_insns, text_insns, far_insns, address_insns, high_of, Words}
+use Rattle.alpha_items.specs.Words.{item_insns, text_insns, far_insns, address_insns, high_of, Words, most_address}
 use Rattle.alpha_items.proofs.Sums.{sum-cons}
 use Rattle.alpha_items.proofs.Unique.{length-item_insns, length-words}
 use Rattle.frame_steps.specs.item_steps.Standing.{Labels, InsnsAt, ItemStands, ItemsAt, HasLabel, StandsInTwo}
@@ -76,11 +76,11 @@ rest-fits : (z : ℤ) (a b : ℕ) → z ≡ pos a -ℤ pos b → a < b + 32768 �
 rest-fits (pos n) a b e lt le = let f : n + b ≡ a = omega (arith, ints, e) in omega (arith, f)
 rest-fits (negsuc n) a b e lt le = let f : a + suc n ≡ b = omega (arith, ints, e) in omega (arith, f)
 
-address-lawful : (ra address : ℕ) → ra < 32 → address < 2147450880 → AllLawful (address_insns ra address)
+address-lawful : (ra address : ℕ) → ra < 32 → address < most_address → AllLawful (address_insns ra address)
 address-lawful ra address r small =
     ((r, omega arith, omega arith), ((r, r, rest-fits (pos address -ℤ pos (high_of address * 65536)) address (high_of address * 65536) refl (omega arith) (omega arith)), tt))
 
-far-lawful : (op : BranchOp) (ra address : ℕ) → ra < 32 → address < 2147450880 → AllLawful (far_insns op ra address)
+far-lawful : (op : BranchOp) (ra address : ℕ) → ra < 32 → address < most_address → AllLawful (far_insns op ra address)
 far-lawful Br ra address r small = lawful-append (address_insns 28 address) (fields.Jump Jmp ra 28 ∷ []) (address-lawful 28 address (omega arith) small) ((r, omega arith), tt)
 far-lawful Bsr ra address r small = lawful-append (address_insns 28 address) (fields.Jump Jsr ra 28 ∷ []) (address-lawful 28 address (omega arith) small) ((r, omega arith), tt)
 far-lawful Blbc ra address r small = ((r, omega arith), lawful-append (address_insns 28 address) (fields.Jump Jmp 31 28 ∷ []) (address-lawful 28 address (omega arith) small) ((omega arith, omega arith), tt))
@@ -94,8 +94,8 @@ far-lawful Bgt ra address r small = ((r, omega arith), lawful-append (address_in
 
 -- addresses of labels and data fit
 record Bounds (there : Labels) (start size : ℕ) : Type 0 where
-  label : (l : ℕ) → word_address (there l) < 2147450880
-  offset : start + size < 2147450880
+  label : (l : ℕ) → word_address (there l) < most_address
+  offset : start + size < most_address
 
 item-lawful : (there : Labels) (start size here : ℕ) (far : Bool) (i : AsmItem) → Bounds there start size → IsItem size i → (far ≡ false → ItemReaches there here i) → AllLawful (item_insns there start here far i)
 item-lawful there start size here far (Label l) b is reach = tt

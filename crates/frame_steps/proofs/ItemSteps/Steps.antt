@@ -21,7 +21,7 @@ use Rattle.alpha_isa.proofs.Runs.{exec_split}
 use Rattle.alpha_items.specs.declared.item.AsmItem.{AsmItem}
 use Rattle.alpha_items.specs.declared.item.AsmItem.TheVariants.{Plain, Branch, TextAddress, DataAddress}
 use Rattle.alpha_items.specs.Layout.{item_words, displacement}
-use Rattle.alpha_items.specs.Words.{item_insns, address_insns, high_of, inverse, far_insns}
+use Rattle.alpha_items.specs.Words.{item_insns, address_insns, high_of, inverse, far_insns, most_address}
 use Rattle.frame_steps.specs.item_steps.Standing.{Labels, InsnsAt, ItemsAt}
 use Rattle.frame_steps.specs.item_steps.Steps.{ArePaid, Comes, Leaves, StandsAt, ComesBehind, SameElse, HasAddress, AddressDone, HoldsWords, BranchDone}
 use Rattle.frame_steps.proofs.ItemSteps.Standing.{insn-at}
@@ -224,10 +224,10 @@ same-at s pc = record { registers = refl; data_bytes = refl; stack_bytes = refl;
 
 -- ---- addresses
 
-high-word : (n : ℕ) → n < 2147450880 → word_at (0 + word_from (pos (high_of n) *ℤ pos 65536)) ≡ high_of n * 65536
+high-word : (n : ℕ) → n < most_address → word_at (0 + word_from (pos (high_of n) *ℤ pos 65536)) ≡ high_of n * 65536
 high-word n small = omega arith
 
-rest-word : (z : ℤ) (n k : ℕ) → z ≡ pos n -ℤ pos k → n < 2147450880 → k < 2 ^ 63 → word_at (k + word_from z) ≡ n
+rest-word : (z : ℤ) (n k : ℕ) → z ≡ pos n -ℤ pos k → n < most_address → k < 2 ^ 63 → word_at (k + word_from z) ≡ n
 rest-word (pos d) n k e small less = let f : d + k ≡ n = omega (arith, ints, e) in omega (arith, f)
 rest-word (negsuc d) n k e small less = let f : n + suc d ≡ k = omega (arith, ints, e) in omega (arith, f)
 
@@ -238,7 +238,7 @@ record AddressIsLoaded (p : Program) (ra n w : ℕ) (s : State) : Type 0 where
   pc : to.pc ≡ word_address (w + 2)
   has : HasAddress ra n s to
 
-address-loaded : (p : Program) (ra n w : ℕ) (s : State) → ra < 31 → n < 2147450880 → InsnsAt p w (address_insns ra n) → s.pc ≡ word_address w → length s.registers ≡ 32 → AddressIsLoaded p ra n w s
+address-loaded : (p : Program) (ra n w : ℕ) (s : State) → ra < 31 → n < most_address → InsnsAt p w (address_insns ra n) → s.pc ≡ word_address w → length s.registers ≡ 32 → AddressIsLoaded p ra n w s
 address-loaded p ra n w s lt small h pc len =
     let u = record (with_register ra (memory_address s 31 (pos (high_of n) *ℤ pos 65536)) s) { pc = next_pc (with_register ra (memory_address s 31 (pos (high_of n) *ℤ pos 65536)) s) } in
     let none : w + 0 ≡ w = omega arith in
@@ -264,7 +264,7 @@ address-loaded p ra n w s lt small h pc len =
       };
     }
 
-label-small : (p : Program) (there : Labels) (l : ℕ) → IsLawful p → ((l : ℕ) → there l ≤ length p.words) → word_address (there l) < 2147450880
+label-small : (p : Program) (there : Labels) (l : ℕ) → IsLawful p → ((l : ℕ) → there l ≤ length p.words) → word_address (there l) < most_address
 label-small p there l lawful labels = let n = lawful.words in let h = labels l in omega (arith, n, h)
 
 pub text_address_steps : (p : Program) (there : Labels) (w ra l : ℕ) (items : List AsmItem) (end : ℕ) (s : State) → StandsAt p there w (TextAddress ra l) items end s → ra < 31 → AddressDone p there w items end ra (word_address (there l)) s
@@ -272,7 +272,7 @@ text_address_steps p there w ra l items end s h lt =
     let r = address-loaded p ra (word_address (there l)) w s lt (label-small p there l h.lawful h.labels) h.items_at.1 h.pc h.registers in
     record { to = r.to; behind = record { comes = r.comes; next = w + 2; pc = r.pc; items_at = h.items_at.2 }; has = r.has }
 
-pub data_address_steps : (p : Program) (there : Labels) (w ra offset : ℕ) (items : List AsmItem) (end : ℕ) (s : State) → StandsAt p there w (DataAddress ra offset) items end s → ra < 31 → data_start p + offset < 2147450880 → AddressDone p there w items end ra (data_start p + offset) s
+pub data_address_steps : (p : Program) (there : Labels) (w ra offset : ℕ) (items : List AsmItem) (end : ℕ) (s : State) → StandsAt p there w (DataAddress ra offset) items end s → ra < 31 → data_start p + offset < most_address → AddressDone p there w items end ra (data_start p + offset) s
 data_address_steps p there w ra offset items end s h lt small =
     let r = address-loaded p ra (data_start p + offset) w s lt small h.items_at.1 h.pc h.registers in
     record { to = r.to; behind = record { comes = r.comes; next = w + 2; pc = r.pc; items_at = h.items_at.2 }; has = r.has }
@@ -310,7 +310,7 @@ with-agree r v s u lt ls lu agree q ne = elim (cases_eq r 31) [
 ]
 
 module _ (p : Program) (there : Labels) (w ra l : ℕ) (items : List AsmItem) (end : ℕ) (s : State) (r32 : ra < 32) (lawful_image : IsLawful p) (labels : (l : ℕ) → there l ≤ length p.words) (stands : s.pc ≡ word_address w) (len : length s.registers ≡ 32) where
-  label_small : word_address (there l) < 2147450880
+  label_small : word_address (there l) < most_address
   label_small = label-small p there l lawful_image labels
 
   -- ---- near

@@ -3,6 +3,7 @@ use Rattle.std.specs.Prelude.{◌≡◌, ◌≢◌, ℕ, ◌+◌, ◌*◌, ◌/�
 use Rattle.alpha_isa.specs.Program.{Program, word_address}
 use Rattle.alpha_isa.specs.State.{State, register}
 use Rattle.alpha_items.specs.declared.item.AsmItem.{AsmItem}
+use Rattle.alpha_items.specs.Words.{most_address}
 use Rattle.frame_steps.specs.item_steps.Standing.{Labels, ItemsAt}
 use Rattle.frame_steps.specs.item_steps.Steps.{Leaves}
 use Rattle.frame_memory.specs.Machine.{memory_bytes, is_reached}
@@ -15,7 +16,7 @@ use Rattle.frame_steps.specs.call_parts.Items.{entry_part, exit_part}
 pub record IsFrameAt (p : Program) (s : State) (shape : FrameShape) (sp : ℕ) : Type 0 where
   pub aligned : sp % 16 ≡ 0
   pub small : sp + frame_size shape < 2 ^ 64
-  pub near : frame_size shape < 2147450880
+  pub near : frame_size shape < most_address
   pub reached : (i : ℕ) → i < frame_size shape → is_reached p s (sp + i) ≡ true
 
 -- the function is entered: its frame has the return address and the registers that it saves, and no byte beside the

@@ -3,6 +3,7 @@ use Rattle.std.specs.Prelude.{◌≡◌, ◌≢◌, ℕ, ◌+◌, ◌^◌, ◌<�
 use Rattle.alpha_isa.specs.Program.{Program, IsLawful, word_address}
 use Rattle.alpha_isa.specs.State.{State, register}
 use Rattle.alpha_items.specs.declared.item.AsmItem.{AsmItem}
+use Rattle.alpha_items.specs.Words.{most_address}
 use Rattle.frame_steps.specs.item_steps.Standing.{Labels, ItemsAt}
 use Rattle.frame_steps.specs.item_steps.Steps.{Comes}
 use Rattle.frame_memory.specs.Bytes.{bytes_from, put_bytes, low_bytes, number_from}
@@ -31,7 +32,7 @@ pub record HasCome (p : Program) (there : Labels) (items : List AsmItem) (end : 
 
 -- an offset from register 30 that is an address, and not too far for an instruction
 pub record IsOffset (s : State) (offset : ℕ) : Type 0 where
-  pub near : offset < 2147450880
+  pub near : offset < most_address
   pub small : register s 30 + offset < 2 ^ 64
 
 -- registers of values are below 29

@@ -4,6 +4,7 @@ use Rattle.alpha_isa.specs.Program.{Program, data_start}
 use Rattle.alpha_isa.specs.State.{State}
 use Rattle.alpha_items.specs.declared.item.AsmItem.{AsmItem}
 use Rattle.alpha_items.specs.declared.item.AsmItem.TheVariants.{DataAddress}
+use Rattle.alpha_items.specs.Words.{most_address}
 use Rattle.frame_steps.specs.item_steps.Standing.{Labels}
 use Rattle.mem_model.specs.declared.value.Value.TheVariants.{Address}
 use Rattle.mem_model.specs.Memory as memory
@@ -34,7 +35,7 @@ pub record IsArgument (c : CallAt) (k : ℕ) (content : Content) (p : Program) (
   pub owned : (i : ℕ) → i < 8 →
       c.owner (c.sp + (frame_size c.shape + argument_at k) + i) ≡ OfFrame depth (ArgumentPiece k)
   pub small : c.sp + (frame_size c.shape + argument_at k) < 2 ^ 64
-  pub near : frame_size c.shape + argument_at k < 2147450880
+  pub near : frame_size c.shape + argument_at k < most_address
   pub is : ContentIs c.extents content (word_in (memory_bytes p s) (c.sp + (frame_size c.shape + argument_at k)))
 
 abbrev pub ArgumentsAreRead : Type 0
@@ -65,5 +66,5 @@ GlobalsHaveAddresses =
     (r k offset plus : ℕ) (e : Extent) →
     StandsFor p there (DataAddress r (offset + plus) ∷ rest) end c m known store s →
     IsWritable c.shape r → slice_get c.extents k ≡ Some e → IsExtent e → e.base ≡ data_start p + offset →
-    plus ≤ e.size → data_start p + (offset + plus) < 2147450880 →
+    plus ≤ e.size → data_start p + (offset + plus) < most_address →
     GivesRegister p there rest end c m known store s r (address_content k plus)

@@ -3,6 +3,7 @@ use Rattle.std.specs.Prelude.{◌≡◌, ◌≢◌, ℕ, ◌+◌, ◌^◌, ◌<�
 use Rattle.alpha_isa.specs.Program.{Program}
 use Rattle.alpha_isa.specs.State.{State, register}
 use Rattle.alpha_items.specs.declared.item.AsmItem.{AsmItem}
+use Rattle.alpha_items.specs.Words.{most_address}
 use Rattle.frame_steps.specs.item_steps.Standing.{Labels}
 use Rattle.frame_steps.specs.item_steps.Steps.{Comes}
 use Rattle.mem_model.specs.Memory.{Memory}
@@ -29,7 +30,7 @@ pub record CallAt : Type 0 where
 -- a frame that the stack may hold
 pub record FitsTheStack (c : CallAt) : Type 0 where
   pub small : c.sp + frame_size c.shape < 2 ^ 64
-  pub near : frame_size c.shape < 2147450880
+  pub near : frame_size c.shape < most_address
 
 -- the machine stands at the first of some items, and for a call with what it holds, where a memory is as it is
 pub record StandsFor (p : Program) (there : Labels) (items : List AsmItem) (end : ℕ) (c : CallAt) (memory : Memory)

@@ -7,6 +7,7 @@ use Rattle.alpha_isa.specs.State.{State}
 use Rattle.alpha_isa.specs.Step as step
 use Rattle.alpha_isa.specs.Step.{Halt, exec}
 use Rattle.alpha_items.specs.declared.item.AsmItem.{AsmItem}
+use Rattle.alpha_items.specs.Words.{most_address}
 use Rattle.frame_steps.specs.item_steps.Standing.{Labels, ItemsAt}
 use Rattle.frame_steps.specs.item_steps.Steps.{Comes, Leaves}
 use Rattle.mem_model.specs.World.{Outer}
@@ -64,7 +65,7 @@ pub record IsGlobal (p : Program) (g : ItemSetting) (c : CallAt) (k plus : ℕ) 
   pub sound : IsExtent extent
   pub base : extent.base ≡ data_start p + g.global_at k
   pub within : plus ≤ extent.size
-  pub near : data_start p + (g.global_at k + plus) < 2147450880
+  pub near : data_start p + (g.global_at k + plus) < most_address
 
 pub record IsNearLocal (c : CallAt) (k plus : ℕ) : Type 0 where
   pub size : ℕ
@@ -87,7 +88,7 @@ pub record IsHeldArgument (c : CallAt) (k : ℕ) (content : Content) (m : Bytes)
   pub owned : (j : ℕ) → j < 8 →
       c.owner (c.sp + (frame_size c.shape + argument_at k) + j) ≡ OfFrame caller (ArgumentPiece k)
   pub small : c.sp + (frame_size c.shape + argument_at k) < 2 ^ 64
-  pub near : frame_size c.shape + argument_at k < 2147450880
+  pub near : frame_size c.shape + argument_at k < most_address
   pub is : ContentIs c.extents content (word_in m (c.sp + (frame_size c.shape + argument_at k)))
 
 abbrev pub ArgumentIs : CallAt → (k : ℕ) → Content → Bytes → Type 0

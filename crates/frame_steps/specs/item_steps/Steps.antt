@@ -7,6 +7,7 @@ use Rattle.alpha_isa.specs.State.{State, register, with_register}
 use Rattle.alpha_isa.specs.Step.{Halt, Goes, Over, insn_step, exec, is_branch_taken, links}
 use Rattle.alpha_items.specs.declared.item.AsmItem.{AsmItem}
 use Rattle.alpha_items.specs.declared.item.AsmItem.TheVariants.{Plain, Branch, TextAddress, DataAddress}
+use Rattle.alpha_items.specs.Words.{most_address}
 use Rattle.frame_steps.specs.item_steps.Standing.{Labels, ItemsAt}
 
 -- so many steps from a state are paid by the words from where it stands up to an address: each word pays for 600
@@ -84,7 +85,7 @@ pub record AddressesStep : Type 0 where
       StandsAt p there w (TextAddress ra l) items end s → ra < 31 →
       AddressDone p there w items end ra (word_address (there l)) s
   pub data_address : (p : Program) (there : Labels) (w ra offset : ℕ) (items : List AsmItem) (end : ℕ) (s : State) →
-      StandsAt p there w (DataAddress ra offset) items end s → ra < 31 → data_start p + offset < 2147450880 →
+      StandsAt p there w (DataAddress ra offset) items end s → ra < 31 → data_start p + offset < most_address →
       AddressDone p there w items end ra (data_start p + offset) s
 
 -- each register holds a word

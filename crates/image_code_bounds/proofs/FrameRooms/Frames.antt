@@ -47,8 +47,8 @@ fits frame objects temps registers wide weight most four few narrow = omega (ari
 
 pub frames_fit_rooms : FramesFitRooms
 frames_fit_rooms ds f g a p =
-    let objects : objects_size a.function.sizes ≡ locals_bytes ds f = ap objects_size (p.sizes ∙ ap (λ os. map (λ o. o.size) os) p.lowered.objects) ∙ objects_are ds f.locals in
+    let objects : objects_size a.function.sizes ≡ locals_bytes ds f = ap objects_size (p.sizes ∙ ap (λ os. map (λ o. o.size) os) p.stands.objects) ∙ objects_are ds f.locals in
     let wide : ℕ = widest_call a.function.blocks in
     let most : frame_size (shape_of a) ≤ 8 * (wide - 6) + 64 + 8 * a.temps + objects_size a.function.sizes + 15 = whole_least (8 * (wide - 6) + 64 + 8 * a.temps + objects_size a.function.sizes + 15) in
-    let fit = fits (frame_size (shape_of a)) (objects_size a.function.sizes) a.temps g.temps wide (function_weight ds f) most p.temps p.registers p.calls in
+    let fit = fits (frame_size (shape_of a)) (objects_size a.function.sizes) a.temps g.temps wide (function_weight ds f) most p.temps p.stands.within.registers p.calls in
     omega (arith, fit, objects)

@@ -7,6 +7,7 @@ use Rattle.mem_objects.specs.declared.TheConstants.{MOST_DATA}
 use Rattle.c_typed_tree.specs.declared.types.StructDef.{StructDef}
 use Rattle.c_typed_tree.specs.declared.units.TypedFn.{TypedFn}
 use Rattle.c_typed_tree.specs.Weight.{function_weight}
+use Rattle.c_typing_weight.specs.Limits.{most_weight}
 use Rattle.c_typed_tree.specs.Rooms.{room, locals_bytes, greatest_locals}
 use Rattle.pass_core.specs.declared.function.MemoryLocal.{MemoryLocal}
 use Rattle.temp_ir.specs.declared.insn.TempInsn.{TempInsn}
@@ -28,13 +29,13 @@ use Rattle.image_code_bounds.specs.program_rooms.Laws.{FunctionsHaveFrames, Fram
 -- ---- one function
 
 module _ (ds : List StructDef) where
-  frame-made : (f : TypedFn) (t : TempFn) → IsTempFunctionOf ds f t → function_weight ds f ≤ 131072 → locals_bytes ds f ≤ MOST_DATA → HasFrame t
+  frame-made : (f : TypedFn) (t : TempFn) → IsTempFunctionOf ds f t → function_weight ds f ≤ most_weight → locals_bytes ds f ≤ MOST_DATA → HasFrame t
   frame-made f t m light little =
       let params = m.params in
       let temps = m.temps in
-      let own = m.lowered.temps in
-      let few = m.within.registers in
-      let size : objects_size (map (λ (o : MemoryLocal). o.size) t.objects) ≡ locals_bytes ds f = ap (λ (os : List MemoryLocal). objects_size (map (λ (o : MemoryLocal). o.size) os)) (m.objects ∙ m.lowered.objects) ∙ objects_are ds f.locals in
+      let own = m.stands.registers in
+      let few = m.stands.within.registers in
+      let size : objects_size (map (λ (o : MemoryLocal). o.size) t.objects) ≡ locals_bytes ds f = ap (λ (os : List MemoryLocal). objects_size (map (λ (o : MemoryLocal). o.size) os)) (m.objects ∙ m.stands.objects) ∙ objects_are ds f.locals in
       record {
         params = omega (arith, params, own, few, light);
         temps = omega (arith, temps, few, light);
@@ -47,8 +48,7 @@ module _ (ds : List StructDef) where
       let temps = m.temps in
       frames_fit_rooms ds f m.code (plan_of a)
       record {
-        lowered = m.lowered;
-        registers = m.within.registers;
+        stands = m.stands;
         temps = omega (arith, same, temps);
         sizes = ap (λ (os : List MemoryLocal). map (λ (o : MemoryLocal). o.size) os) (of.objects ∙ m.objects);
         calls = subst (λ (bs : List (List TempInsn)). widest_call bs ≤ function_weight ds f) (sym of.blocks) m.widths.narrow;

@@ -1,5 +1,5 @@
 -- The frame of a function fits the room that its source has.
-use Rattle.std.specs.Prelude.{◌≡◌, ◌≤◌, ◌+◌, ◌*◌, List, map}
+use Rattle.std.specs.Prelude.{◌≡◌, ◌≤◌, ◌+◌, List, map}
 use Rattle.c_typed_tree.specs.declared.types.StructDef.{StructDef}
 use Rattle.c_typed_tree.specs.declared.units.TypedFn.{TypedFn}
 use Rattle.c_typed_tree.specs.Weight.{function_weight}
@@ -10,13 +10,12 @@ use Rattle.alloc_model.specs.Effect.{widest_call}
 use Rattle.alloc_model.specs.Places.{Plan}
 use Rattle.frame_memory.specs.flat_frames.Shapes.{frame_size}
 use Rattle.frame_simulation.specs.function_shapes.Shapes.{shape_of}
-use Rattle.lowering.specs.Lowered.{IsLowered}
+use Rattle.lowering.specs.Lowered.{StandsFor}
 
--- a plan is one of the code of a function of a unit: it has at most four temporaries more than the code has registers, the
+-- a plan is one of the code that stands for a function of a unit: it has at most four temporaries more than the code has registers, the
 -- objects of the code, and no call that is wider than the function weighs
 pub record IsPlanOf (ds : List StructDef) (f : TypedFn) (g : VmFunction) (a : Plan) : Type 0 where
-  pub lowered : IsLowered ds f g
-  pub registers : g.temps ≤ 7 * function_weight ds f
+  pub stands : StandsFor ds f g
   pub temps : a.temps ≤ g.temps + 4
   pub sizes : a.function.sizes ≡ map (λ o. o.size) g.objects
   pub calls : widest_call a.function.blocks ≤ function_weight ds f

@@ -4,6 +4,7 @@ use Rattle.std.specs.Prelude.{◌≡◌, ℕ, ◌+◌, ◌≤◌, All, List, Som
 use Rattle.mem_objects.specs.declared.TheConstants.{MOST_DATA}
 use Rattle.c_typed_tree.specs.declared.units.TypedUnit.{TypedUnit}
 use Rattle.c_typed_tree.specs.Weight.{unit_weight}
+use Rattle.c_typing_weight.specs.Limits.{most_weight}
 use Rattle.c_typed_tree.specs.Rooms.{data_size}
 use Rattle.c_semantics.specs.Behaves.{rooms_of}
 use Rattle.mem_model.specs.World.{room_of}
@@ -22,7 +23,7 @@ use Rattle.image_assembly_laws.specs.allocation_laws.Laws.{HasFrame}
 -- data
 abbrev pub FunctionsHaveFrames : Type 0
 FunctionsHaveFrames =
-    (u : TypedUnit) (program : TempProgram) → AreTempFunctionsOf u program → unit_weight u ≤ 131072 →
+    (u : TypedUnit) (program : TempProgram) → AreTempFunctionsOf u program → unit_weight u ≤ most_weight →
     data_size u ≤ MOST_DATA → All HasFrame program.functions
 
 -- by an allocation for each, the frame of each with the bytes of a division routine fits the room of the function of

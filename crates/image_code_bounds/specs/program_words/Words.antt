@@ -11,6 +11,7 @@ use Rattle.alpha_rt.specs.Items.{all_items}
 use Rattle.c_typed_tree.specs.declared.units.TypedFn.{TypedFn}
 use Rattle.c_typed_tree.specs.declared.units.TypedUnit.{TypedUnit}
 use Rattle.c_typed_tree.specs.Weight.{function_weight, unit_weight}
+use Rattle.c_typing_weight.specs.Limits.{most_weight}
 use Rattle.mem_objects.specs.declared.DataObject.{DataObject}
 use Rattle.pass_core.specs.Functions.{AllInsns}
 use Rattle.temp_ir.specs.Cost.{bulk}
@@ -64,7 +65,7 @@ TextsAreWithinWeight = OfAssemblies TextIsWithinWeight
 
 -- so it fits an image where the unit is no heavier than a unit may be
 abbrev pub FitsImages : (unit : TypedUnit) → (asm : Assembly) → Type 0
-FitsImages unit asm = unit_weight unit ≤ 131072 → HasFewWords asm
+FitsImages unit asm = unit_weight unit ≤ most_weight → HasFewWords asm
 
 abbrev pub LightTextsFitImages : Type 0
 LightTextsFitImages = OfAssemblies FitsImages

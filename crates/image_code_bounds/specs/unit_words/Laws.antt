@@ -5,6 +5,7 @@ use Rattle.alpha_items.specs.Layout.{text_words}
 use Rattle.alpha_asm.specs.Fault.{HasFewWords}
 use Rattle.c_typed_tree.specs.declared.units.TypedUnit.{TypedUnit}
 use Rattle.c_typed_tree.specs.Weight.{unit_weight}
+use Rattle.c_typing_weight.specs.Limits.{most_weight}
 use Rattle.temp_ir.specs.declared.program.TempProgram.{TempProgram}
 use Rattle.alloc_model.specs.declared.allocation.Allocation.{Allocation}
 use Rattle.alloc_rules.specs.Allocations.{AreAllocationsOf}
@@ -31,5 +32,5 @@ UnitTextsAreWithinWeight =
 abbrev pub UnitTextsFitImages : Type 0
 UnitTextsFitImages =
     (unit : TypedUnit) (program : TempProgram) (allocations : List Allocation) (finals : List FinalFn) →
-    unit_weight unit ≤ 131072 → AreTempFunctionsOf unit program → AreAllocationsOf program.functions allocations →
+    unit_weight unit ≤ most_weight → AreTempFunctionsOf unit program → AreAllocationsOf program.functions allocations →
     FunctionsAreLaidOut program.globals allocations finals → HasFewWords (whole_assembly finals program.globals)

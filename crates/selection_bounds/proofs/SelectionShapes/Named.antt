@@ -6,11 +6,6 @@ use Rattle.std.proofs.lemmas.Bool.{and_from, and_parts}
 use Rattle.std.proofs.lemmas.List.Elements.{All-nil, All-cons, All-head, All-tail, All-append}
 use Rattle.mem_objects.specs.declared.DataObject.{DataObject}
 use Rattle.pass_core.specs.declared.function.MemoryLocal.{MemoryLocal}
-use Rattle.suifvm_ir.specs.declared.types.VmType.{VmType}
-use Rattle.suifvm_ir.specs.declared.insn.VmBinaryOp.{VmBinaryOp}
-use Rattle.suifvm_ir.specs.declared.insn.VmBinaryOp.TheVariants.{Add, Subtract, Multiply, Divide, Remainder, And, Or, ExclusiveOr}
-use Rattle.suifvm_ir.specs.declared.insn.VmBuiltin.{VmBuiltin}
-use Rattle.suifvm_ir.specs.declared.insn.VmBuiltin.TheVariants.{PutChar, GetChar, Abort, Exit}
 use Rattle.suifvm_ir.specs.declared.insn.VmCallee.{VmCallee}
 use Rattle.suifvm_ir.specs.declared.insn.VmCallee.TheVariants as callee
 use Rattle.suifvm_ir.specs.declared.insn.TypedRegister.{TypedRegister}
@@ -21,30 +16,23 @@ use Rattle.suifvm_ir.specs.Programs as vm
 use Rattle.temp_ir.specs.declared.insn.TempInsn.{TempInsn}
 use Rattle.temp_ir.specs.declared.insn.TempInsn.TheVariants as i
 use Rattle.temp_ir.specs.Programs.{TempFn, function_takes, names_what_is_there}
-use Rattle.selection_forms.specs.alpha_forms.Operations.{binary_items}
-use Rattle.selection_code.specs.Instructions.{temp_of, argument_register, pass_item, pass_items, take_item, take_items, result_items, byte_items, put_char_items, exit_call_items, builtin_items, call_items, return_items, selected_insn}
+use Rattle.selection_code.specs.Instructions.{temp_of, argument_register, pass_item, pass_items, take_item, take_items, result_items, builtin_items, call_items, return_items, selected_insn}
 use Rattle.selection_code.specs.Functions.{selected_insns, parameter_items, selected_blocks}
 use Rattle.selection_bounds.specs.selection_shapes.Shapes.{SelectedNamesAreThere}
-use Rattle.selection_bounds.proofs.SelectionShapes.Plain.{is_nameless, is_simple, is_plain, are_simple, constant_simple, load_simple, store_simple, parts_simple, shift_simple, compare_simple, convert_simple}
+use Rattle.selection_bounds.proofs.SelectionShapes.Plain.{is_nameless, is_placeless, is_bare, is_plain, are_bare, are_simple, simple_bare, binary_bare, result_bare, builtin_bare, constant_simple, load_simple, store_simple, parts_simple, shift_simple, compare_simple, convert_simple}
 
 abbrev are_nameless : List TempInsn → Bool
 are_nameless xs = list_all is_nameless xs
 
-simple_nameless : (xs : List TempInsn) → are_simple xs ≡ true → are_nameless xs ≡ true
-simple_nameless [] e = refl
-simple_nameless (z ∷ xs) e =
-    let p = and_parts (is_simple z) (are_simple xs) e in
-    and_from (is_nameless z) (are_nameless xs) (and_parts (is_nameless z) (is_plain z) (and_parts _ (is_nameless z && is_plain z) p.0).1).0 (simple_nameless xs p.1)
+bare_nameless : (xs : List TempInsn) → are_bare xs ≡ true → are_nameless xs ≡ true
+bare_nameless [] e = refl
+bare_nameless (z ∷ xs) e =
+    let p = and_parts (is_bare z) (are_bare xs) e in
+    let q = and_parts (is_placeless z) (is_nameless z && is_plain z) p.0 in
+    and_from (is_nameless z) (are_nameless xs) (and_parts (is_nameless z) (is_plain z) q.1).0 (bare_nameless xs p.1)
 
-binary_nameless : (op : VmBinaryOp) (ty : VmType) (d a b : ℕ) → are_nameless (binary_items op ty d a b) ≡ true
-binary_nameless Add ty d a b = refl
-binary_nameless Subtract ty d a b = refl
-binary_nameless Multiply ty d a b = refl
-binary_nameless Divide ty d a b = refl
-binary_nameless Remainder ty d a b = refl
-binary_nameless And ty d a b = refl
-binary_nameless Or ty d a b = refl
-binary_nameless ExclusiveOr ty d a b = refl
+simple_nameless : (xs : List TempInsn) → are_simple xs ≡ true → are_nameless xs ≡ true
+simple_nameless xs e = bare_nameless xs (simple_bare xs e)
 
 pass_nameless : (k t : ℕ) → is_nameless (pass_item k t) ≡ true
 pass_nameless k t = by_test (nat_lt k 6)
@@ -67,28 +55,6 @@ take_nameless k t = by_test (nat_lt k 6)
 takes_nameless : (k count : ℕ) → are_nameless (take_items k count) ≡ true
 takes_nameless k zero = refl
 takes_nameless k (suc count) = and_from (is_nameless (take_item k (temp_of k))) (are_nameless (take_items (suc k) count)) (take_nameless k (temp_of k)) (takes_nameless (suc k) count)
-
-result_nameless : (d : Option ℕ) → are_nameless (result_items d) ≡ true
-result_nameless None = refl
-result_nameless (Some d) = refl
-
-byte_nameless : (d : Option ℕ) (a : ℕ) → are_nameless (byte_items d a) ≡ true
-byte_nameless None a = refl
-byte_nameless (Some d) a = refl
-
-put_char_nameless : (d : Option ℕ) (arguments : List ℕ) → are_nameless (put_char_items d arguments) ≡ true
-put_char_nameless d [] = refl
-put_char_nameless d (a ∷ arguments) = byte_nameless d a
-
-exit_nameless : (arguments : List ℕ) → are_nameless (exit_call_items arguments) ≡ true
-exit_nameless [] = refl
-exit_nameless (a ∷ arguments) = refl
-
-builtin_nameless : (d : Option ℕ) (b : VmBuiltin) (arguments : List ℕ) → are_nameless (builtin_items d b arguments) ≡ true
-builtin_nameless d PutChar arguments = put_char_nameless d arguments
-builtin_nameless d GetChar arguments = result_nameless d
-builtin_nameless d Abort arguments = refl
-builtin_nameless d Exit arguments = exit_nameless arguments
 
 return_nameless : (value : Option TypedRegister) → are_nameless (return_items value) ≡ true
 return_nameless None = refl
@@ -131,8 +97,8 @@ module _ (fs : List vm.VmFunction) (ts : List TempFn) (globals : List DataObject
   call_there : (d : Option ℕ) (c : VmCallee) (arguments : List ℕ) → vm.callee_takes fs (length arguments) c ≡ true → All There (call_items d c arguments)
   call_there d (callee.Function k) arguments h =
       All-append There (pass_items 0 arguments) (i.Call k (length arguments) ∷ result_items d) (nameless_there (pass_items 0 arguments) (passes_nameless 0 arguments))
-      (All-cons There (i.Call k (length arguments)) (result_items d) (same k (length arguments) h) (nameless_there (result_items d) (result_nameless d)))
-  call_there d (callee.Builtin b) arguments h = nameless_there (builtin_items d b arguments) (builtin_nameless d b arguments)
+      (All-cons There (i.Call k (length arguments)) (result_items d) (same k (length arguments) h) (nameless_there (result_items d) (bare_nameless (result_items d) (result_bare d))))
+  call_there d (callee.Builtin b) arguments h = nameless_there (builtin_items d b arguments) (bare_nameless (builtin_items d b arguments) (builtin_bare d b arguments))
 
   insn_there : (y : VmInsn) → vm.names_what_is_there fs globals objects y ≡ true → All There (selected_insn y)
   insn_there (x.LoadConstant ty d word) h = nameless_there (selected_insn (x.LoadConstant ty d word)) (simple_nameless (selected_insn (x.LoadConstant ty d word)) (constant_simple (temp_of d) word))
@@ -141,7 +107,7 @@ module _ (fs : List vm.VmFunction) (ts : List TempFn) (globals : List DataObject
   insn_there (x.Store ty p plus a) h = nameless_there (selected_insn (x.Store ty p plus a)) (simple_nameless (selected_insn (x.Store ty p plus a)) (store_simple ty (temp_of p) plus (temp_of a)))
   insn_there (x.Copy to from size align) h = nameless_there (selected_insn (x.Copy to from size align)) (simple_nameless (selected_insn (x.Copy to from size align)) (parts_simple align _ (temp_of to) (temp_of from) 0))
   insn_there (x.Unary op ty d a) h = nameless_there (selected_insn (x.Unary op ty d a)) refl
-  insn_there (x.Binary op ty d a b) h = nameless_there (selected_insn (x.Binary op ty d a b)) (binary_nameless op ty (temp_of d) (temp_of a) (temp_of b))
+  insn_there (x.Binary op ty d a b) h = nameless_there (selected_insn (x.Binary op ty d a b)) (bare_nameless (selected_insn (x.Binary op ty d a b)) (binary_bare op ty (temp_of d) (temp_of a) (temp_of b)))
   insn_there (x.Shift op ty d a b) h = nameless_there (selected_insn (x.Shift op ty d a b)) (simple_nameless (selected_insn (x.Shift op ty d a b)) (shift_simple op ty (temp_of d) (temp_of a) (temp_of b)))
   insn_there (x.Convert from to d a) h = nameless_there (selected_insn (x.Convert from to d a)) (simple_nameless (selected_insn (x.Convert from to d a)) (convert_simple from to (temp_of d) (temp_of a)))
   insn_there (x.Compare op ty d a b) h = nameless_there (selected_insn (x.Compare op ty d a b)) (simple_nameless (selected_insn (x.Compare op ty d a b)) (compare_simple op ty (temp_of d) (temp_of a) (temp_of b)))

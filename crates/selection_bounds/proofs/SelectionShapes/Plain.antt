@@ -1,4 +1,5 @@
--- The code of instructions that are followed by the next one alone consists of such instructions.
+-- The code of instructions that are followed by the next one alone consists of such instructions. What holds of each
+-- that names neither an object nor a function nor an argument place holds of most code.
 use Rattle.std.proofs.Common.{◌≡◌, ℕ, zero, suc, ◌+◌, ◌-◌, List, [], ◌∷◌, ◌++◌, length, Bool, true, false, ℤ, pos, Option, Some, None, refl, ◌∙◌}
 use Rattle.std.specs.Prelude.{◌&&◌, ◌==◌, nat_lt, if◌then◌else◌}
 use Rattle.std.specs.List.{list_all}
@@ -50,9 +51,22 @@ is_nameless (i.ObjectAddress d place plus) = false
 is_nameless (i.Call function arguments) = false
 is_nameless _ = true
 
--- a plain one that is this too, and reads no fixed register
+-- one that names no argument place
+abbrev pub is_placeless : TempInsn → Bool
+is_placeless (i.WriteArgument number source) = false
+is_placeless (i.ReadArgument d number) = false
+is_placeless _ = true
+
+-- a plain one that is both
+abbrev pub is_bare : TempInsn → Bool
+is_bare z = is_placeless z && (is_nameless z && is_plain z)
+
+abbrev pub are_bare : List TempInsn → Bool
+are_bare xs = list_all is_bare xs
+
+-- one of these that reads no fixed register
 abbrev pub is_simple : TempInsn → Bool
-is_simple z = (length (fixed_reads_of z) == 0) && (is_nameless z && is_plain z)
+is_simple z = (length (fixed_reads_of z) == 0) && is_bare z
 
 abbrev pub are_simple : List TempInsn → Bool
 are_simple xs = list_all is_simple xs
@@ -67,11 +81,21 @@ simple_one : (b : Bool) (xs ys : List TempInsn) → are_simple xs ≡ true → a
 simple_one true xs ys h g = h
 simple_one false xs ys h g = g
 
-pub simple_plain : (xs : List TempInsn) → are_simple xs ≡ true → are_plain xs ≡ true
-simple_plain [] e = refl
-simple_plain (z ∷ xs) e =
+pub simple_bare : (xs : List TempInsn) → are_simple xs ≡ true → are_bare xs ≡ true
+simple_bare [] e = refl
+simple_bare (z ∷ xs) e =
     let p = and_parts (is_simple z) (are_simple xs) e in
-    and_from (is_plain z) (are_plain xs) (and_parts (is_nameless z) (is_plain z) (and_parts (length (fixed_reads_of z) == 0) (is_nameless z && is_plain z) p.0).1).1 (simple_plain xs p.1)
+    and_from (is_bare z) (are_bare xs) (and_parts (length (fixed_reads_of z) == 0) (is_bare z) p.0).1 (simple_bare xs p.1)
+
+pub bare_plain : (xs : List TempInsn) → are_bare xs ≡ true → are_plain xs ≡ true
+bare_plain [] e = refl
+bare_plain (z ∷ xs) e =
+    let p = and_parts (is_bare z) (are_bare xs) e in
+    let q = and_parts (is_placeless z) (is_nameless z && is_plain z) p.0 in
+    and_from (is_plain z) (are_plain xs) (and_parts (is_nameless z) (is_plain z) q.1).1 (bare_plain xs p.1)
+
+pub simple_plain : (xs : List TempInsn) → are_simple xs ≡ true → are_plain xs ≡ true
+simple_plain xs e = bare_plain xs (simple_bare xs e)
 
 -- ---- constants
 
@@ -141,15 +165,15 @@ parts_simple al (suc n) to from at =
 
 -- ---- operations
 
-pub binary_plain : (op : VmBinaryOp) (ty : VmType) (d a b : ℕ) → are_plain (binary_items op ty d a b) ≡ true
-binary_plain Add ty d a b = refl
-binary_plain Subtract ty d a b = refl
-binary_plain Multiply ty d a b = refl
-binary_plain Divide ty d a b = refl
-binary_plain Remainder ty d a b = refl
-binary_plain And ty d a b = refl
-binary_plain Or ty d a b = refl
-binary_plain ExclusiveOr ty d a b = refl
+pub binary_bare : (op : VmBinaryOp) (ty : VmType) (d a b : ℕ) → are_bare (binary_items op ty d a b) ≡ true
+binary_bare Add ty d a b = refl
+binary_bare Subtract ty d a b = refl
+binary_bare Multiply ty d a b = refl
+binary_bare Divide ty d a b = refl
+binary_bare Remainder ty d a b = refl
+binary_bare And ty d a b = refl
+binary_bare Or ty d a b = refl
+binary_bare ExclusiveOr ty d a b = refl
 
 left_simple : (narrow : Bool) (d a b : ℕ) → are_simple (left_items narrow d a b) ≡ true
 left_simple true d a b = refl
@@ -216,28 +240,28 @@ pub takes_plain : (k count : ℕ) → are_plain (take_items k count) ≡ true
 takes_plain k zero = refl
 takes_plain k (suc count) = and_from (is_plain (take_item k (temp_of k))) (are_plain (take_items (suc k) count)) (take_plain k (temp_of k)) (takes_plain (suc k) count)
 
-result_plain : (d : Option ℕ) → are_plain (result_items d) ≡ true
-result_plain None = refl
-result_plain (Some d) = refl
+pub result_bare : (d : Option ℕ) → are_bare (result_items d) ≡ true
+result_bare None = refl
+result_bare (Some d) = refl
 
-byte_plain : (d : Option ℕ) (a : ℕ) → are_plain (byte_items d a) ≡ true
-byte_plain None a = refl
-byte_plain (Some d) a = refl
+byte_bare : (d : Option ℕ) (a : ℕ) → are_bare (byte_items d a) ≡ true
+byte_bare None a = refl
+byte_bare (Some d) a = refl
 
-put_char_plain : (d : Option ℕ) (arguments : List ℕ) → are_plain (put_char_items d arguments) ≡ true
-put_char_plain d [] = refl
-put_char_plain d (a ∷ arguments) = byte_plain d a
+put_char_bare : (d : Option ℕ) (arguments : List ℕ) → are_bare (put_char_items d arguments) ≡ true
+put_char_bare d [] = refl
+put_char_bare d (a ∷ arguments) = byte_bare d a
 
-exit_plain : (arguments : List ℕ) → are_plain (exit_call_items arguments) ≡ true
-exit_plain [] = refl
-exit_plain (a ∷ arguments) = refl
+exit_bare : (arguments : List ℕ) → are_bare (exit_call_items arguments) ≡ true
+exit_bare [] = refl
+exit_bare (a ∷ arguments) = refl
 
-builtin_plain : (d : Option ℕ) (b : VmBuiltin) (arguments : List ℕ) → are_plain (builtin_items d b arguments) ≡ true
-builtin_plain d PutChar arguments = put_char_plain d arguments
-builtin_plain d GetChar arguments = result_plain d
-builtin_plain d Abort arguments = refl
-builtin_plain d Exit arguments = exit_plain arguments
+pub builtin_bare : (d : Option ℕ) (b : VmBuiltin) (arguments : List ℕ) → are_bare (builtin_items d b arguments) ≡ true
+builtin_bare d PutChar arguments = put_char_bare d arguments
+builtin_bare d GetChar arguments = result_bare d
+builtin_bare d Abort arguments = refl
+builtin_bare d Exit arguments = exit_bare arguments
 
 pub call_plain : (d : Option ℕ) (c : VmCallee) (arguments : List ℕ) → are_plain (call_items d c arguments) ≡ true
-call_plain d (callee.Function k) arguments = plain-append (pass_items 0 arguments) (i.Call k (length arguments) ∷ result_items d) (passes_plain 0 arguments) (result_plain d)
-call_plain d (callee.Builtin b) arguments = builtin_plain d b arguments
+call_plain d (callee.Function k) arguments = plain-append (pass_items 0 arguments) (i.Call k (length arguments) ∷ result_items d) (passes_plain 0 arguments) (bare_plain (result_items d) (result_bare d))
+call_plain d (callee.Builtin b) arguments = bare_plain (builtin_items d b arguments) (builtin_bare d b arguments)

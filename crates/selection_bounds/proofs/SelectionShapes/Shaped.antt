@@ -15,7 +15,7 @@ use Rattle.temp_ir.specs.Insns.{targets_of, flows_on_of}
 use Rattle.selection_code.specs.Instructions.{temp_of, selected_insn}
 use Rattle.selection_code.specs.Functions.{selected_insns, parameter_items, selected_blocks}
 use Rattle.selection_bounds.specs.selection_shapes.Shapes.{BlocksAreShaped}
-use Rattle.selection_bounds.proofs.SelectionShapes.Plain.{is_plain, are_plain, simple_plain, constant_simple, load_simple, store_simple, parts_simple, binary_plain, shift_simple, compare_simple, convert_simple, call_plain, takes_plain}
+use Rattle.selection_bounds.proofs.SelectionShapes.Plain.{is_plain, are_plain, bare_plain, simple_plain, constant_simple, load_simple, store_simple, parts_simple, binary_bare, shift_simple, compare_simple, convert_simple, call_plain, takes_plain}
 
 -- ---- lists
 
@@ -43,7 +43,7 @@ straight_plain (x.Load ty d p plus) s = simple_plain (selected_insn (x.Load ty d
 straight_plain (x.Store ty p plus a) s = simple_plain (selected_insn (x.Store ty p plus a)) (store_simple ty (temp_of p) plus (temp_of a))
 straight_plain (x.Copy to from size align) s = simple_plain (selected_insn (x.Copy to from size align)) (parts_simple align _ (temp_of to) (temp_of from) 0)
 straight_plain (x.Unary op ty d a) s = refl
-straight_plain (x.Binary op ty d a b) s = binary_plain op ty (temp_of d) (temp_of a) (temp_of b)
+straight_plain (x.Binary op ty d a b) s = bare_plain (selected_insn (x.Binary op ty d a b)) (binary_bare op ty (temp_of d) (temp_of a) (temp_of b))
 straight_plain (x.Shift op ty d a b) s = simple_plain (selected_insn (x.Shift op ty d a b)) (shift_simple op ty (temp_of d) (temp_of a) (temp_of b))
 straight_plain (x.Convert from to d a) s = simple_plain (selected_insn (x.Convert from to d a)) (convert_simple from to (temp_of d) (temp_of a))
 straight_plain (x.Compare op ty d a b) s = simple_plain (selected_insn (x.Compare op ty d a b)) (compare_simple op ty (temp_of d) (temp_of a) (temp_of b))

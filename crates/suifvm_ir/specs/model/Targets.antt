@@ -1,138 +1,55 @@
 -- The laws of instructions.
-use Rattle.std.proofs.Common.{◌≡◌, ◌≢◌, ◌≤◌, arith, length, ℕ, zero, suc, Bool, true, false, List, [], ◌∷◌, Option, Some, refl, ap, sym, ◌∙◌}
-use Rattle.std.specs.Prelude.{slice_get, slice_set}
+use Rattle.std.proofs.Common.{true, refl}
 use Rattle.pass_core.specs.Insns.{InsnLaws}
 use Rattle.suifvm_ir.specs.declared.insn.VmInsn.{VmInsn}
 use Rattle.suifvm_ir.specs.declared.insn.VmInsn.TheVariants.{LoadConstant, LoadAddress, Load, Store, Copy, Unary, Binary, Shift, Convert, Compare, Branch, Jump, Call, Return, Mark, Nop}
 use Rattle.suifvm_ir.specs.Insns.{reads_of, writes_of, targets_of, with_block, jump_of, flows_on_of, may_trap_of}
+use Rattle.suifvm_ir.specs.model.OneTarget.{IsJump, Kind, HasOne, HasNone, laws_of_kinds, clash}
 
--- an instruction with a target, and any other one
-data Kind : VmInsn → Type 0 where
-  IsBranch : (op : _) (ty : _) (source block : _) → Kind (Branch op ty source block)
-  IsJump : (block : _) → Kind (Jump block)
-  HasNone : (i : VmInsn) → ((k block : ℕ) → with_block i k block ≡ i) → targets_of i ≡ [] → Kind i
+is_jump : IsJump reads_of writes_of targets_of with_block jump_of flows_on_of may_trap_of
+is_jump = record {
+  goes = record {
+    targets_at = λ block. refl;
+    sets = λ old block. refl;
+    keeps = λ old k block. refl;
+    reads_at = λ a b. refl;
+    writes_at = λ a b. refl;
+    flow_at = λ a b. refl;
+    traps_at = λ a b. refl;
+    jumps_at = λ block stops. refl;
+  };
+  reads_none = λ block. refl;
+  writes_none = λ block. refl;
+  stops = λ block. refl;
+  no_trap = λ block. refl;
+}
 
-kind : (i : VmInsn) → Kind i
-kind (Branch op ty source block) = IsBranch op ty source block
-kind (Jump block) = IsJump block
-kind (LoadConstant ty destination word) = HasNone _ (λ k block. refl) refl
-kind (LoadAddress destination place plus) = HasNone _ (λ k block. refl) refl
-kind (Load ty destination pointer plus) = HasNone _ (λ k block. refl) refl
-kind (Store ty pointer plus value) = HasNone _ (λ k block. refl) refl
-kind (Copy to from size align) = HasNone _ (λ k block. refl) refl
-kind (Unary op ty destination source) = HasNone _ (λ k block. refl) refl
-kind (Binary op ty destination left right) = HasNone _ (λ k block. refl) refl
-kind (Shift op ty destination source count) = HasNone _ (λ k block. refl) refl
-kind (Convert from to destination source) = HasNone _ (λ k block. refl) refl
-kind (Compare op ty destination left right) = HasNone _ (λ k block. refl) refl
-kind (Call destination c arguments) = HasNone _ (λ k block. refl) refl
-kind (Return value) = HasNone _ (λ k block. refl) refl
-kind Mark = HasNone _ (λ k block. refl) refl
-kind Nop = HasNone _ (λ k block. refl) refl
-
-one : (i : VmInsn) → Kind i → length (targets_of i) ≤ 1
-one _ (IsBranch op ty source block) = omega arith
-one _ (IsJump block) = omega arith
-one _ (HasNone i same none) = omega (arith, ap length none)
-
-sets : (i : VmInsn) (k block : ℕ) → targets_of (with_block i k block) ≡ slice_set (targets_of i) k block
-sets (Branch op ty source old) zero block = refl
-sets (Branch op ty source old) (suc k) block = refl
-sets (Jump old) zero block = refl
-sets (Jump old) (suc k) block = refl
-sets (LoadConstant ty destination word) k block = refl
-sets (LoadAddress destination place plus) k block = refl
-sets (Load ty destination pointer plus) k block = refl
-sets (Store ty pointer plus value) k block = refl
-sets (Copy to from size align) k block = refl
-sets (Unary op ty destination source) k block = refl
-sets (Binary op ty destination left right) k block = refl
-sets (Shift op ty destination source count) k block = refl
-sets (Convert from to destination source) k block = refl
-sets (Compare op ty destination left right) k block = refl
-sets (Call destination c arguments) k block = refl
-sets (Return value) k block = refl
-sets Mark k block = refl
-sets Nop k block = refl
-
--- what a change of target keeps: it changes no more than a block
-module _ (A : Type 0) (f : VmInsn → A)
-    (branches : (op : _) (ty : _) (source : _) (a b : _) → f (Branch op ty source a) ≡ f (Branch op ty source b))
-    (jumps : (a b : _) → f (Jump a) ≡ f (Jump b)) where
-  by_kind : (i : VmInsn) (k block : ℕ) → Kind i → f (with_block i k block) ≡ f i
-  by_kind _ zero block (IsBranch op ty source old) = branches op ty source block old
-  by_kind _ (suc k) block (IsBranch op ty source old) = refl
-  by_kind _ zero block (IsJump old) = jumps block old
-  by_kind _ (suc k) block (IsJump old) = refl
-  by_kind _ k block (HasNone i same none) = ap f (same k block)
-
-  kept : (i : VmInsn) (k block : ℕ) → f (with_block i k block) ≡ f i
-  kept i k block = by_kind i k block (kind i)
-
-again : (i : VmInsn) (k block other : ℕ) → Kind i → with_block (with_block i k block) k other ≡ with_block i k other
-again _ zero block other (IsBranch op ty source old) = refl
-again _ (suc k) block other (IsBranch op ty source old) = refl
-again _ zero block other (IsJump old) = refl
-again _ (suc k) block other (IsJump old) = refl
-again _ k block other (HasNone i same none) = ap (λ j. with_block j k other) (same k block)
-
-same_target : (i : VmInsn) (k block : ℕ) → Kind i → slice_get (targets_of i) k ≡ Some block → with_block i k block ≡ i
-same_target _ zero block (IsBranch op ty source old) is = ap (λ b. Branch op ty source b) (some_is old block is)
-  where
-    some_is : (a b : ℕ) → (let x : Option ℕ = Some a in x ≡ Some b) → b ≡ a
-    some_is a b h = cc
-same_target _ (suc k) block (IsBranch op ty source old) is = refl
-same_target _ zero block (IsJump old) is = ap Jump (some_is old block is)
-  where
-    some_is : (a b : ℕ) → (let x : Option ℕ = Some a in x ≡ Some b) → b ≡ a
-    some_is a b h = cc
-same_target _ (suc k) block (IsJump old) is = refl
-same_target _ k block (HasNone i same none) is = same k block
-
-apart : (i : VmInsn) (j k block other : ℕ) → Kind i → j ≢ k →
-    with_block (with_block i j block) k other ≡ with_block (with_block i k other) j block
-apart _ zero zero block other (IsBranch op ty source old) ne = absurd (ne refl)
-apart _ zero (suc k) block other (IsBranch op ty source old) ne = refl
-apart _ (suc j) zero block other (IsBranch op ty source old) ne = refl
-apart _ (suc j) (suc k) block other (IsBranch op ty source old) ne = refl
-apart _ zero zero block other (IsJump old) ne = absurd (ne refl)
-apart _ zero (suc k) block other (IsJump old) ne = refl
-apart _ (suc j) zero block other (IsJump old) ne = refl
-apart _ (suc j) (suc k) block other (IsJump old) ne = refl
-apart _ j k block other (HasNone i same none) ne =
-    ap (λ x. with_block x k other) (same j block) ∙ same k other
-    ∙ sym (ap (λ x. with_block x j block) (same k other) ∙ same j block)
-
-flows : (b : Bool) → b ≡ true → b ≡ false → ⊥
-flows b h k = cc
-
-only : (i : VmInsn) (block : ℕ) (others : List ℕ) → Kind i → flows_on_of i ≡ false → targets_of i ≡ block ∷ others →
-    i ≡ Jump block
-only _ block others (IsBranch op ty source old) stops is = absurd (flows true refl stops)
-only _ block others (IsJump old) stops is = ap Jump (head_is old block others is)
-  where
-    head_is : (a b : ℕ) (bs : List ℕ) → (let x : List ℕ = a ∷ [] in x ≡ b ∷ bs) → a ≡ b
-    head_is a b bs h = cc
-only _ block others (HasNone i same none) stops is = absurd (nothing (targets_of i) block others none is)
-  where
-    nothing : (x : List ℕ) (b : ℕ) (bs : List ℕ) → x ≡ [] → x ≡ b ∷ bs → ⊥
-    nothing x b bs h k = cc
+kind : (i : VmInsn) → Kind reads_of writes_of targets_of with_block jump_of flows_on_of may_trap_of i
+kind (Branch op ty source block) = HasOne (λ b. Branch op ty source b) block refl (record {
+  targets_at = λ block. refl;
+  sets = λ old block. refl;
+  keeps = λ old k block. refl;
+  reads_at = λ a b. refl;
+  writes_at = λ a b. refl;
+  flow_at = λ a b. refl;
+  traps_at = λ a b. refl;
+  jumps_at = λ block stops. absurd (clash true refl stops);
+})
+kind (Jump block) = HasOne jump_of block refl is_jump.goes
+kind (LoadConstant ty destination word) = HasNone (λ k block. refl) refl
+kind (LoadAddress destination place plus) = HasNone (λ k block. refl) refl
+kind (Load ty destination pointer plus) = HasNone (λ k block. refl) refl
+kind (Store ty pointer plus value) = HasNone (λ k block. refl) refl
+kind (Copy to from size align) = HasNone (λ k block. refl) refl
+kind (Unary op ty destination source) = HasNone (λ k block. refl) refl
+kind (Binary op ty destination left right) = HasNone (λ k block. refl) refl
+kind (Shift op ty destination source count) = HasNone (λ k block. refl) refl
+kind (Convert from to destination source) = HasNone (λ k block. refl) refl
+kind (Compare op ty destination left right) = HasNone (λ k block. refl) refl
+kind (Call destination c arguments) = HasNone (λ k block. refl) refl
+kind (Return value) = HasNone (λ k block. refl) refl
+kind Mark = HasNone (λ k block. refl) refl
+kind Nop = HasNone (λ k block. refl) refl
 
 pub insn_laws : InsnLaws reads_of writes_of targets_of with_block jump_of flows_on_of may_trap_of
-insn_laws = record {
-  one_target = λ i. one i (kind i);
-  sets_target = λ i k block within. sets i k block;
-  keeps_reads = kept (List ℕ) reads_of (λ op ty source a b. refl) (λ a b. refl);
-  keeps_writes = kept (List ℕ) writes_of (λ op ty source a b. refl) (λ a b. refl);
-  keeps_flow = kept Bool flows_on_of (λ op ty source a b. refl) (λ a b. refl);
-  keeps_traps = kept Bool may_trap_of (λ op ty source a b. refl) (λ a b. refl);
-  sets_again = λ i k block other. again i k block other (kind i);
-  sets_same = λ i k block is. same_target i k block (kind i) is;
-  sets_apart = λ i j k block other ne first_within within. apart i j k block other (kind i) ne;
-  jump_targets = λ block. refl;
-  jump_reads = λ block. refl;
-  jump_writes = λ block. refl;
-  jump_stops = λ block. refl;
-  jump_traps = λ block. refl;
-  only_jumps = λ i block others stops is. only i block others (kind i) stops is;
-}
+insn_laws = laws_of_kinds reads_of writes_of targets_of with_block jump_of flows_on_of may_trap_of is_jump kind

@@ -1,5 +1,5 @@
 -- How a run from any configuration stops.
-use Rattle.std.specs.Prelude.{◌≡◌, ℕ, ◌++◌, Some, option_map}
+use Rattle.std.specs.Prelude.{◌≡◌, ℕ, List, ◌++◌, option_map}
 use Rattle.bk_memory.specs.Shortage.{MemoryIsShort}
 use Rattle.mem_model.specs.World.{World}
 use Rattle.mem_model.specs.Ending.{Ending, Done, Trap, Undefined, More}
@@ -23,10 +23,10 @@ StopsAs run turns e.InputFault last = TakesNext run last
 StopsAs run turns e.WriteFault last = PutsNext run last
 StopsAs run turns e.NoMemory last = GoesOn run last × MemoryIsShort
 
--- a run that stopped: how, and what it did to the input and the output
-pub record IsRun (run : Steps) (turns : ℕ) (ending : VmEnding) (told after : Traffic) : Type 0 where
+-- a run that stopped, of whose input this rest is left: how, and what it did to the input and the output
+pub record IsRun (run : Steps) (turns : ℕ) (ending : VmEnding) (rest : List ℕ) (told after : Traffic) : Type 0 where
   pub last : World
   pub stops : StopsAs run turns ending last
-  pub left : after.left ≡ Some last.outer.input
+  pub left : last.outer.input ≡ rest
   pub made : after.made ≡ option_map (count_plus (input_calls ending last.outer.takings)) told.made
   pub taken : after.taken ≡ option_map (λ bytes. bytes ++ last.outer.output) told.taken

@@ -1,8 +1,8 @@
 -- Which names have a body.
 use Rattle.std.specs.Prelude.{ℕ, Bool, true, false, not, ◌&&◌, List, Option, Some, None}
 use Rattle.c_typing_scopes.specs.Names.{find}
-use Rattle.c_typing_declared_types.specs.declared.declared.DeclaredType.{DeclaredType}
-use Rattle.c_typing_declared_types.specs.declared.declared.DeclaredType.TheVariants as d
+use Rattle.c_typing_rules.specs.declared.c_typing_declared_types.declared.DeclaredType.{DeclaredType}
+use Rattle.c_typing_rules.specs.declared.c_typing_declared_types.declared.DeclaredType.TheVariants as d
 use Rattle.c_typing_unit_names.specs.declared.names.NameDeclaration.{NameDeclaration}
 use Rattle.c_typing_unit_names.specs.declared.names.UnitNames.{UnitNames}
 

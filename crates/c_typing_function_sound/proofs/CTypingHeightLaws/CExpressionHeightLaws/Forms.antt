@@ -11,7 +11,7 @@ use Rattle.c_typing_rules.specs.declared.typed.TypedExpression.{TypedExpression}
 use Rattle.c_typing_rules.specs.Rulings.{Ruling}
 use Rattle.c_typing_rules.specs.Rulings as rulings
 use Rattle.c_typing_rules.specs.Conversions.{decay}
-use Rattle.c_typing_operators.specs.Null.{take_value}
+use Rattle.c_typing_judgements.specs.c_typing_operators.Null.{take_value}
 use Rattle.c_typing_primary_rules.specs.Calls.{count_arguments}
 use Rattle.c_typing_primary_rules.specs.Commas.{comma_value}
 use Rattle.c_typing_primary_rules.specs.Primary.{text, text_type}

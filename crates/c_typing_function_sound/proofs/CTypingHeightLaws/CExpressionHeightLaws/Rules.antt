@@ -18,8 +18,8 @@ use Rattle.c_typed_tree.specs.View.{type_view}
 use Rattle.c_typed_tree.specs.Constants.{is_integer}
 use Rattle.c_typed_tree.specs.Layout.{is_object, size_of}
 use Rattle.c_typed_tree.specs.Typing.{is_pointer, is_scalar, points_to_object}
-use Rattle.c_typing_declared_types.specs.declared.declared.DeclaredType.{DeclaredType}
-use Rattle.c_typing_declared_types.specs.declared.declared.DeclaredType.TheVariants as d
+use Rattle.c_typing_rules.specs.declared.c_typing_declared_types.declared.DeclaredType.{DeclaredType}
+use Rattle.c_typing_rules.specs.declared.c_typing_declared_types.declared.DeclaredType.TheVariants as d
 use Rattle.c_typing_rules.specs.declared.typed.TypedExpression.{TypedExpression}
 use Rattle.c_typing_rules.specs.Rulings.{Ruling}
 use Rattle.c_typing_rules.specs.Types.{points_to_struct}
@@ -31,11 +31,11 @@ use Rattle.c_typing_place_rules.specs.declared.members.FoundMember.{FoundMember}
 use Rattle.c_typing_place_rules.specs.Assignments.{set_to, set, moves, right_type, moved_place, compound_of, compound}
 use Rattle.c_typing_place_rules.specs.Members.{field_found, is_struct_place, field, arrow_found, arrow, size}
 use Rattle.c_typing_place_rules.specs.Places.{object_of, dereference_of, element_by_index, index, is_somewhere, address, is_assignable, is_steppable, step_before, step_behind}
-use Rattle.c_typing_operators.specs.Null.{is_null_for, take_value}
-use Rattle.c_typing_operators.specs.Unary.{unary_ruling}
-use Rattle.c_typing_operators.specs.Binary.{binary_operation, binary_ruling, subscript, conditional_on, condition_tree, conditional_ruling}
-use Rattle.c_typing_operators.specs.Assigned as assigned
-use Rattle.c_typing_operators.specs.Casts.{cast_to, size_of_type}
+use Rattle.c_typing_judgements.specs.c_typing_operators.Null.{is_null_for, take_value}
+use Rattle.c_typing_judgements.specs.c_typing_operators.Unary.{unary_ruling}
+use Rattle.c_typing_judgements.specs.c_typing_operators.Binary.{binary_operation, binary_ruling, subscript, conditional_on, condition_tree, conditional_ruling}
+use Rattle.c_typing_judgements.specs.c_typing_operators.Assigned as assigned
+use Rattle.c_typing_judgements.specs.c_typing_operators.Casts.{cast_to, size_of_type}
 use Rattle.c_typing_primary_rules.specs.declared.commas.CommaOperands.{CommaOperands}
 use Rattle.c_typing_primary_rules.specs.Commas.{no_operands, with_operand, comma_operands, comma_value}
 use Rattle.c_typing_primary_rules.specs.Primary.{literal_value, character_value}

@@ -3,7 +3,7 @@ use Rattle.std.proofs.Common.{ℕ, suc, ◌≤◌, max, List, [], Option, Some, 
 use Rattle.c_tree.specs.declared.expressions.Expr as e
 use Rattle.c_tree.specs.declared.expressions.Expr.TheBlock as k
 use Rattle.c_tree.specs.Nodes.{expr_node, expr_row, type_node, node_height, nodes_height}
-use Rattle.c_typing_declared_types.specs.declared.declared.DeclaredType.{DeclaredType}
+use Rattle.c_typing_rules.specs.declared.c_typing_declared_types.declared.DeclaredType.{DeclaredType}
 use Rattle.c_typing_rules.specs.declared.typed.TypedExpression.{TypedExpression}
 use Rattle.c_typing_primary_rules.specs.Primary.{integer_constant, character_constant}
 use Rattle.c_typing_literals.specs.Integers.{integer_literal}

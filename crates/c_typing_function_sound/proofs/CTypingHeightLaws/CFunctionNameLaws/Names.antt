@@ -13,8 +13,8 @@ use Rattle.c_tree.specs.declared.declarations.TranslationUnit.{TranslationUnit}
 use Rattle.mem_objects.specs.declared.DataCell.{DataCell}
 use Rattle.c_typing_definitions.specs.declared.names.Definitions.{Definitions}
 use Rattle.c_typing_definitions.specs.Definitions.{definitions}
-use Rattle.c_typing_declared_types.specs.declared.declared.DeclaredType.{DeclaredType}
-use Rattle.c_typing_declared_types.specs.declared.declared.DeclaredType.TheVariants as d
+use Rattle.c_typing_rules.specs.declared.c_typing_declared_types.declared.DeclaredType.{DeclaredType}
+use Rattle.c_typing_rules.specs.declared.c_typing_declared_types.declared.DeclaredType.TheVariants as d
 use Rattle.c_typed_tree.specs.declared.types.CType.{CType}
 use Rattle.c_typed_tree.specs.declared.statements.TStmt.{TStmt}
 use Rattle.c_typed_tree.specs.declared.units.Local.{Local}
@@ -24,12 +24,12 @@ use Rattle.c_typing_judgements.specs.Types.{JudgementState}
 use Rattle.c_typing_state.specs.Checks.{walk}
 use Rattle.c_typing_state.specs.Scopes.{enter}
 use Rattle.c_typing_statement_rules.specs.Jumps.{no_jumps}
-use Rattle.c_typing_local_rules.specs.Locals.{with_addressed}
+use Rattle.c_typing_statement_parts.specs.c_typing_local_rules.Locals.{with_addressed}
 use Rattle.c_typing_statements.specs.Statements.{statement}
 use Rattle.c_typing_struct_bodies.specs.Bodies.{TagScope}
 use Rattle.c_typing_initialisers.specs.Initialisers.{object_cells, length_given}
-use Rattle.c_typing_function_bodies.specs.declared.functions.FunctionType.{FunctionType}
-use Rattle.c_typing_function_bodies.specs.Functions.{parameters_of, declared_parameters, result_of, typed_function, judge_function}
+use Rattle.c_typing_statements.specs.declared.c_typing_function_bodies.functions.FunctionType.{FunctionType}
+use Rattle.c_typing_statements.specs.c_typing_function_bodies.Functions.{parameters_of, declared_parameters, result_of, typed_function, judge_function}
 use Rattle.c_typing_declarations.specs.declared.walk.UnitFunction.{UnitFunction}
 use Rattle.c_typing_declarations.specs.declared.walk.UnitSoFar.{UnitSoFar}
 use Rattle.c_typing_declarations.specs.Walk.{UnitWalk, in_notes, with_notes, declare, main_checked, next_object, object_number, add_numbered, with_unit_object, fill_numbered, keep_cells, function_at, add_function, keep_function}

@@ -23,15 +23,15 @@ use Rattle.c_typing_rules.specs.declared.typed.TypedExpression.{TypedExpression}
 use Rattle.c_typing_rules.specs.Conversions.{decay}
 use Rattle.c_typing_rules.specs.Comparisons as rule
 use Rattle.c_typing_rules.specs.Values.{integer, type_of_integer}
-use Rattle.c_typing_operators.specs.Null.{take_value}
+use Rattle.c_typing_judgements.specs.c_typing_operators.Null.{take_value}
 use Rattle.c_typing_primary_rules.specs.declared.switches.SwitchValue.{SwitchValue}
 use Rattle.c_typing_primary_rules.specs.Switches as w
 use Rattle.c_typing_state.specs.declared.notes.Notes.{Notes}
 use Rattle.c_typing_state.specs.Checks.{pure, and_then, append_part, note_fault, walk}
 use Rattle.c_typing_judgements.specs.Types.{JudgementState}
 use Rattle.c_typing_expressions.specs.Expressions.{judge}
-use Rattle.c_typing_local_rules.specs.declared.locals.NewLocal.{NewLocal}
-use Rattle.c_typing_local_rules.specs.Locals.{BodyState, local_declared, no_initialiser, initialiser, with_initialiser, local_with_value}
+use Rattle.c_typing_statement_parts.specs.declared.c_typing_local_rules.locals.NewLocal.{NewLocal}
+use Rattle.c_typing_statement_parts.specs.c_typing_local_rules.Locals.{BodyState, local_declared, no_initialiser, initialiser, with_initialiser, local_with_value}
 use Rattle.c_typing_statement_rules.specs.Values.{condition_check, switch_check, full_expression, return_of, bad_return, return_value, return_nothing}
 use Rattle.c_typing_statement_parts.specs.Parts.{condition_of, full_value, operand_of, optional_condition, optional_value, return_statement, judge_type, initialiser_of, local_of, first_of}
 use Rattle.c_typing_function_sound.specs.c_typing_height_laws.c_expression_height_laws.Laws.{IsWithin}

@@ -21,12 +21,12 @@ use Rattle.c_typing_statement_rules.specs.declared.jumps.Jumps.{Jumps}
 use Rattle.c_typing_statement_rules.specs.Jumps.{no_jumps, in_loop, in_switch}
 use Rattle.c_typing_statement_rules.specs.Forms.{switch_type, section_under}
 use Rattle.c_typing_statement_rules.specs.Labels.{no_labels}
-use Rattle.c_typing_local_rules.specs.Locals.{BodyState, with_addressed}
-use Rattle.c_typing_function_bodies.specs.declared.functions.FunctionType.{FunctionType}
+use Rattle.c_typing_statement_parts.specs.c_typing_local_rules.Locals.{BodyState, with_addressed}
+use Rattle.c_typing_statements.specs.declared.c_typing_function_bodies.functions.FunctionType.{FunctionType}
 use Rattle.c_typing_statement_parts.specs.Parts.{condition_of, full_value, operand_of, optional_condition, optional_value, local_of, first_of, label_of}
 use Rattle.c_typing_statements.specs.Statements as j
 use Rattle.c_typing_statements.specs.Statements.{SwitchState, in_scope, statement, statement_row, else_held}
-use Rattle.c_typing_function_bodies.specs.Functions.{parameters_of, declared_parameters, result_of, typed_function, judge_function}
+use Rattle.c_typing_statements.specs.c_typing_function_bodies.Functions.{parameters_of, declared_parameters, result_of, typed_function, judge_function}
 use Rattle.c_typing_function_sound.proofs.CTypingHeightLaws.CExpressionHeightLaws.Forms.{appended_all}
 use Rattle.c_typing_function_sound.proofs.CTypingHeightLaws.CStatementHeightLaws.Parts.{IsLow, lower_left, lower_right, fits_left, fits_right, no_more, nothing_low, node_low, found_lower, walk_low, condition_low, value_low, value_height, operand_low, operand_height, optional_condition_low, optional_value_low, optional_value_height, return_low, local_low, first_low, first_of_for_height, statement_height}
 use Rattle.c_typing_function_sound.proofs.CTypingHeightLaws.CStatementHeightLaws.Forms.{statements_height, statements_more, section_height, all_sections_height, sections_more, otherwise_height, block_low, if_low, while_low, do_low, for_low, switch_low, section_low, expression_low, empty_low, break_low, continue_low, local_statement_low, else_low}

@@ -12,8 +12,8 @@ use Rattle.c_tree.specs.Nodes.{nodes_of, external_node, node_height, nodes_heigh
 use Rattle.c_typed_tree.specs.declared.units.TypedFn.{TypedFn}
 use Rattle.c_typed_tree.specs.c_typed_height.Heights.{function_height}
 use Rattle.c_typing_judgements.specs.Types.{JudgementState}
-use Rattle.c_typing_function_bodies.specs.declared.functions.FunctionType.{FunctionType}
-use Rattle.c_typing_function_bodies.specs.Functions.{judge_function}
+use Rattle.c_typing_statements.specs.declared.c_typing_function_bodies.functions.FunctionType.{FunctionType}
+use Rattle.c_typing_statements.specs.c_typing_function_bodies.Functions.{judge_function}
 use Rattle.c_typing_function_sound.proofs.CTypingHeightLaws.CStatementHeightLaws.Parts.{IsLow, fits_left, fits_right, no_more, found_lower}
 use Rattle.c_typing_function_sound.proofs.CTypingHeightLaws.CStatementHeightLaws.Statements.{function_within}
 use Rattle.c_typing_units.specs.Units.{whole_unit}

@@ -8,8 +8,8 @@ use Rattle.c_tree.specs.declared.declarations.External.TheVariants.{Function}
 use Rattle.c_tree.specs.Nodes.{external_node, node_height}
 use Rattle.c_typed_tree.specs.c_typed_height.Heights.{function_height}
 use Rattle.c_typing_judgements.specs.Types.{JudgementState}
-use Rattle.c_typing_function_bodies.specs.declared.functions.FunctionType.{FunctionType}
-use Rattle.c_typing_function_bodies.specs.Functions.{judge_function}
+use Rattle.c_typing_statements.specs.declared.c_typing_function_bodies.functions.FunctionType.{FunctionType}
+use Rattle.c_typing_statements.specs.c_typing_function_bodies.Functions.{judge_function}
 
 abbrev pub FunctionsAreWithin : Type 0
 FunctionsAreWithin =

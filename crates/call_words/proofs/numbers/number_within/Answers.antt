@@ -1,5 +1,5 @@
 -- A text of digits that is not read is larger than any word.
-use Rattle.std.proofs.Common.{◌≡◌, ◌<◌, ◌^◌, true, rules, arith}
+use Rattle.std.proofs.Common.{◌≡◌, true, rules, arith}
 use Rattle.call_words.specs.Numbers.{is_decimal}
 use Rattle.call_words.proofs.LargeNumbers.{too_large}
 use Rattle.call_words.proofs.numbers.number_within.Goals as goal

@@ -1,3 +1,5 @@
+use Rattle.std.proofs.Common.{refl}
+use Rattle.bk_io.specs.Outside.{Traffic, traffic_of}
 use Rattle.compile_calls.proofs.Made.{runs, runs_made}
 use Rattle.compile_calls.proofs.Steps.{enough, refused}
 use Rattle.call_outcomes.specs.FromFile.{file_bytes}
@@ -18,6 +20,5 @@ returns-in-Ok-clause-enough g c =
 
 pub returns-in-Err-clause-enough : goal.returns-in-Err-clause-enough
 returns-in-Err-clause-enough g c =
-    refused c.args.limits (file_bytes (g.F.Files.told c.args.files.now) c.args.name.now) c.in-Err.outcome
-    (record { left = g.I.Source.left c.args.input.now; made = g.I.Source.made c.args.input.now; taken = g.O.Sink.taken c.args.out.now })
-    c.in-Err.ensures.cause
+    let told : Traffic = traffic_of g.I.Source.left g.I.Source.made g.O.Sink.taken c.args.input.now c.args.out.now in
+    refused c.args.limits (file_bytes (g.F.Files.told c.args.files.now) c.args.name.now) c.in-Err.outcome told told c.in-Err.ensures.cause refl

@@ -4,7 +4,7 @@ use Rattle.compile_calls.proofs.Runs.{no_file, input_count, output_count}
 use Rattle.compile_calls.proofs.vm.run_program.Goals as goal
 
 pub returns-clause-answer : goal.returns-clause-answer
-returns-clause-answer g c = (c.run_vm.result, c.outcome_of.ensures, λ rooms bytes told. c.run_vm.ensures.run rooms bytes told)
+returns-clause-answer g c = (c.run_vm.result, c.outcome_of.ensures, c.run_vm.ensures.run)
 
 pub returns-clause-no_file : goal.returns-clause-no_file
 returns-clause-no_file g c h = no_file c.args.turns c.run_vm.result (sym c.outcome_of.ensures ∙ h)

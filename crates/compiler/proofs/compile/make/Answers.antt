@@ -6,10 +6,10 @@ pub lower_unit-requires : goal.lower_unit-requires
 lower_unit-requires c = c.requires.front.light
 
 pub select_code-requires-clause-size : goal.select_code-requires-clause-size
-select_code-requires-clause-size c = c.in_ok-typed.ensures.made.size
+select_code-requires-clause-size c = c.in_ok-typed.ensures.made.does.size
 
 pub select_code-requires-clause-registers : goal.select_code-requires-clause-registers
-select_code-requires-clause-registers c = c.in_ok-typed.ensures.made.registers
+select_code-requires-clause-registers c = c.in_ok-typed.ensures.made.does.registers
 
 pub clean_and_split-requires : goal.clean_and_split-requires
 clean_and_split-requires c = record { few = c.in_ok-vm.ensures.made.few }
@@ -20,7 +20,7 @@ assemble_by_choice-requires c =
     c.code_can_be_assembled.ensures c.requires.text c.args.front.unit c.args.front.typed c.in_ok-typed.field-0.made
     c.in_ok-cleaned.cleaned c.requires.front
     (code_within c.args.front.typed.unit c.in_ok-typed.field-0.made c.in_ok-vm.field-0.made c.in_ok-cleaned.cleaned
-    c.in_ok-typed.ensures.made c.in_ok-vm.ensures.made
+    c.in_ok-typed.ensures.made.does c.in_ok-vm.ensures.made
     (record { keeps = p.keeps; reached = p.reached; split = p.split; labels = p.labels }))
 
 pub image_of-requires : goal.image_of-requires
@@ -29,7 +29,7 @@ image_of-requires c =
     few_words c.assemblies_are_made.ensures c.args.allocator c.args.wanted c.args.front.unit c.args.front.typed
     c.in_ok-typed.field-0.made c.in_ok-cleaned.cleaned
     (code_within c.args.front.typed.unit c.in_ok-typed.field-0.made c.in_ok-vm.field-0.made c.in_ok-cleaned.cleaned
-    c.in_ok-typed.ensures.made c.in_ok-vm.ensures.made
+    c.in_ok-typed.ensures.made.does c.in_ok-vm.ensures.made
     (record { keeps = p.keeps; reached = p.reached; split = p.split; labels = p.labels }))
     c.in_ok-temps.field-0 c.in_ok-temps.ensures c.requires
 
@@ -39,8 +39,8 @@ returns-clause-made c =
     unit_parts c.assemblies_are_made.ensures c.args.allocator c.args.wanted c.args.front.unit c.args.front.typed
     c.in_ok-typed.field-0.made c.in_ok-cleaned.cleaned
     (code_within c.args.front.typed.unit c.in_ok-typed.field-0.made c.in_ok-vm.field-0.made c.in_ok-cleaned.cleaned
-    c.in_ok-typed.ensures.made c.in_ok-vm.ensures.made
+    c.in_ok-typed.ensures.made.does c.in_ok-vm.ensures.made
     (record { keeps = p.keeps; reached = p.reached; split = p.split; labels = p.labels }))
     c.in_ok-temps.field-0 c.in_ok-temps.ensures _ c.in_ok-image.ensures.words c.in_ok-image.ensures.lawful
     (λ is. all_kept _ _ (c.keep-unit.ensures is) (c.in_ok-typed.ensures.kept is) (c.in_ok-vm.ensures.kept is)
-    (c.in_ok-temps.ensures.program is) (c.in_ok-temps.ensures.kept is) (c.keep-asm.ensures is) refl)
+    (c.in_ok-temps.ensures.program is) (c.in_ok-temps.ensures.kept is) (c.keep-asm.ensures is) refl) c.in_ok-typed.ensures.made.code

@@ -12,14 +12,15 @@ pub layout_of-requires-clause-arguments : goal.layout_of-requires-clause-argumen
 layout_of-requires-clause-arguments c =
     let e = c.as_slice-2.ensures ∙ c.in_ok-blocks.ensures ∙ ap near_blocks c.as_slice.ensures in
     let w = ap widest_call e ∙ near_widest c.args.a.now.func.blocks in
-    omega (arith, w, c.requires.arguments)
+    omega (arith, w, c.requires.can.arguments)
 
 pub items_of-requires-clause-sound : goal.items_of-requires-clause-sound
 items_of-requires-clause-sound c =
     let a = c.args.a.now in
+    let can = c.requires.can in
     let e = c.as_slice-2.ensures ∙ c.in_ok-blocks.ensures ∙ ap near_blocks c.as_slice.ensures in
     sound_of a c.args.globals.now c.args.first_label c.in_ok-layout.layout c.requires.faithful.lists
-    c.requires.calls c.requires.labels c.requires.layout c.requires.data_size c.requires.names c.requires.objects c.requires.temps c.requires.arguments
+    can.calls can.labels can.layout can.data_size can.names can.objects can.temps can.arguments
     c.in_ok-layout.ensures.allocation (c.in_ok-layout.ensures.blocks ∙ e) c.in_ok-layout.ensures.label
     (c.in_ok-layout.ensures.setting ∙ ap (λ bs. setting_of (with_blocks (plan_of a) bs) c.args.globals.now c.args.first_label) e)
 

@@ -1,5 +1,5 @@
 -- What was lowered is a program.
-use Rattle.std.proofs.Common.{◌≡◌, sym, subst}
+use Rattle.std.proofs.Common.{◌≡◌, sym, ◌∙◌, subst}
 use Rattle.std.specs.Prelude.{All}
 use Rattle.mem_objects.specs.Globals.{AreLawful}
 use Rattle.suifvm_ir.specs.Programs.{IsLawfulFunction}
@@ -20,7 +20,7 @@ invariant_of-result c =
     let functions = c.in_ok-functions.functions in
     let all : AreLowered u.structs u.functions functions =
     subst (λ ds. AreLowered ds u.functions functions) c.as_slice.ensures (subst (λ fs. AreLowered c.as_slice.result.now fs functions) c.as_slice-2.ensures c.in_ok-functions.ensures) in
-    let same : c.in_ok-globals.globals ≡ u.globals = c.in_ok-globals.ensures in
+    let same : c.in_ok-globals.globals ≡ u.globals = c.in_ok-globals.ensures ∙ c.as_slice-3.ensures in
     let p : IsProgram u functions = program_is u functions c.args.typed.now.lawful c.requires all in
     record {
       few_functions = p.few;

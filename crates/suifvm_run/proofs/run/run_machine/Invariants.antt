@@ -1,12 +1,9 @@
 -- After so many steps the machine stands where they lead.
-use Rattle.std.proofs.Common.{◌≡◌}
-use Rattle.machine_model.specs.Machine.{Config}
-use Rattle.mem_model.specs.World.{Rooms}
-use Rattle.suifvm_meaning.specs.Behave.{Registers}
-use Rattle.bk_io.specs.Outside.{Traffic, traffic_of}
+use Rattle.std.proofs.Common.{◌≡◌, None}
+use Rattle.bk_io.specs.Outside.{traffic_of, OnInput}
 use Rattle.suifvm_machine.specs.Config.{IsSound, program_of}
 use Rattle.suifvm_run.specs.model.Falls.{AreMarked, machine_left}
-use Rattle.suifvm_run.specs.model.Progress.{StandsAt}
+use Rattle.suifvm_run.specs.model.Progress.{LeadsOn}
 use Rattle.suifvm_run.proofs.run.run_machine.Given as goal
 
 abbrev pub invariant-loop-ending : goal.invariant-loop-ending
@@ -14,7 +11,7 @@ invariant-loop-ending g l = record {
   sound : IsSound l.machine;
   marked : AreMarked (program_of l.machine);
   program : l.machine.program.now ≡ l.fn.machine.program.now;
-  run : (rooms : Rooms) (start : Config Registers) (told : Traffic) → StandsAt rooms l.fn.machine.program.now start told (traffic_of g.I.Source.left g.I.Source.made g.O.Sink.taken l.fn.input l.fn.out) l.fn.machine → StandsAt rooms l.fn.machine.program.now start told (traffic_of g.I.Source.left g.I.Source.made g.O.Sink.taken l.input l.out) l.machine;
+  run : OnInput (g.I.Source.left l.fn.input) (g.I.Source.left l.input) (LeadsOn l.fn.machine l.machine l.turns (traffic_of g.I.Source.left g.I.Source.made g.O.Sink.taken l.fn.input l.fn.out) (traffic_of g.I.Source.left g.I.Source.made g.O.Sink.taken l.input l.out) None);
   input_count : g.I.Source.faults l.input ≡ g.I.Source.faults l.fn.input;
   output_count : g.O.Sink.faults l.out ≡ g.O.Sink.faults l.fn.out;
 }

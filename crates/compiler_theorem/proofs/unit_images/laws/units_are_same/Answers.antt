@@ -1,7 +1,6 @@
-use Rattle.lowering_theorem.proofs.Programs.{programs_keep_meaning}
 use Rattle.image_theorem.proofs.SameRuns.Same.{runs_are_same}
 use Rattle.compiler_theorem.proofs.UnitImages.Units.{units_are_same}
 use Rattle.compiler_theorem.proofs.unit_images.laws.units_are_same.Goals as goal
 
 pub returns : goal.returns
-returns c = units_are_same c.programs_behave.ensures programs_keep_meaning runs_are_same
+returns c = units_are_same c.programs_behave.ensures runs_are_same

@@ -1,0 +1,16 @@
+mod Holders
+mod Claims
+mod Moves
+mod Tables
+mod Acts
+mod Visited
+mod Loops
+mod Parts
+mod Names
+mod Bringing
+mod Rests
+mod Leads
+mod Tops
+mod Functions
+mod Wants
+mod Said

@@ -1,0 +1,19 @@
+//! One scan over a function that gives its temporaries registers, with second chances.
+#![tactic(auto)]
+
+mod bins;
+mod block;
+mod blocks;
+mod choice;
+mod fixing;
+mod handover;
+mod held;
+mod moving;
+mod registers;
+mod saving;
+mod scan;
+mod standing;
+mod visit;
+mod wanted;
+
+pub use scan::{Placement, place_temporaries};

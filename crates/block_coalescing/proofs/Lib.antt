@@ -1,0 +1,15 @@
+pub mod Lagging
+pub mod Forms
+pub mod Pure
+pub mod Held
+pub mod Blocks
+pub mod Functions
+pub mod Runs
+pub mod Stays
+pub mod Entries
+pub mod Lifted
+pub mod Homes
+pub mod Taken
+pub mod Listed
+pub mod Shape
+pub mod Endings

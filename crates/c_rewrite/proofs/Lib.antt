@@ -1,0 +1,7 @@
+pub mod Exchanges
+pub mod LiteralLists
+pub mod Kept
+pub mod IdleSteps
+pub mod StatementViews
+pub mod StatementHeights
+pub mod Functions

@@ -1,3 +1,0 @@
-pub mod Declarators
-pub mod Depth
-pub mod model

@@ -1,0 +1,4 @@
+pub mod Dead
+pub mod Chains
+pub mod ChainRuns
+pub mod model

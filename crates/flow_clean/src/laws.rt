@@ -1,0 +1,27 @@
+//! Laws, each the contract of a function that does nothing.
+
+ghost use Rattle.flow_clean.specs.ChainRuns.{ChainsKeepRuns};
+ghost use Rattle.flow_clean.specs.Dead.{CleaningKeepsRuns, NoneIsLeftDead, NoSumRises};
+
+/// A run that ends with a meaning ends so too where jumps go on past those that are only instructions.
+pub fn chains_keep_runs()
+    ensures { ChainsKeepRuns }
+{}
+
+/// A run that ends with a meaning ends so too without the instructions whose writes nothing reads.
+pub fn cleaning_keeps_runs()
+    ensures { CleaningKeepsRuns }
+{
+    suifvm_meaning::laws::only_these_trap();
+}
+
+/// Where instructions are left out from the last one on, none is left that may be left out and whose write nothing reads
+/// behind it.
+pub fn none_is_dead()
+    ensures { NoneIsLeftDead }
+{}
+
+/// Nothing that is summed over the instructions of a block rises where they are left out.
+pub fn no_sum_rises()
+    ensures { NoSumRises }
+{}

@@ -1,0 +1,6 @@
+-- So many empty lists are made.
+use Rattle.std.proofs.Common.{◌≡◌, [], replicate}
+use Rattle.lifetime_holes.proofs.lives.empty_lists.Given as goal
+
+abbrev pub invariant-loop-list : goal.invariant-loop-list
+invariant-loop-list g l = l.lists.items ≡ replicate l._list []

@@ -1,0 +1,19 @@
+//! The table of functions over temporaries with what is live in them and the lifetimes of their temporaries.
+//!
+//! The files stand in `back_rows/data`. Their form is described in `docs/rows.md`, and that of each kind of row at the
+//! head of its file.
+#![tactic(auto)]
+
+mod kind;
+mod rows;
+
+use crate::kind::KINDS;
+use anyhow::Result;
+use row_sheets::check_tables;
+
+/// Checks the files that the words of the command line name, or all of them in the folder where the program runs where
+/// there are no words, and answers how many differ.
+pub fn check_rows(rt: &HostRuntime) -> Result<u32> {
+    let mut kinds = KINDS;
+    check_tables(rt, &mut kinds)
+}

@@ -1,9 +1,0 @@
-use Rattle.std.proofs.Common.{◌≡◌, ◌+◌, ◌++◌, drop}
-use Rattle.pass_core.specs.Functions.{count_of}
-use Rattle.suifvm_ir.specs.Text.{blocks_text}
-use Rattle.suifvm_ir.proofs.text.put_blocks.Given as goal
-
-abbrev pub invariant-loop-at : goal.invariant-loop-at
-invariant-loop-at l =
-    (l.out.items ++ blocks_text l.functions l.at l.number (drop l.at l.blocks) ≡ l.initial.out.items ++ blocks_text l.functions 0 l.initial.number l.blocks)
-    × (l.number + count_of (drop l.at l.blocks) ≡ l.initial.number + count_of l.blocks)

@@ -1,8 +1,0 @@
-use Rattle.std.proofs.Common.{◌≡◌, ◌≤◌, ◌*◌, ◌^◌, ◌++◌, drop}
-use Rattle.suifvm_ir.specs.Text.{functions_text, program_text}
-use Rattle.suifvm_ir.proofs.text.put_functions.Given as goal
-
-abbrev pub invariant-loop-at : goal.invariant-loop-at
-invariant-loop-at l =
-    (l.out.items ++ functions_text l.functions l.number (drop l.at l.functions) ≡ l.initial.out.items ++ program_text l.functions)
-    × (l.number ≤ l.at * 2 ^ 30)
