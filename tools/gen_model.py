@@ -5,6 +5,8 @@ usage: gen_model.py SEED SIZE    the text
        gen_model.py --run SEED SIZE    x behind each round, the byte that the text puts, and its status
        gen_model.py --texts    rows: a seed and a size with the text
        gen_model.py --sums    rows: a seed and a size with the length of the text and its checksum FNV-1a of 64 bits
+       gen_model.py --programs    rows: a seed and a size with how the program of the text runs
+       gen_model.py --calls    rows: a seed and a size with what `run` and `vm` answer for the text
 
 A seed and a size give one line for each function and one for `main`. Two numbers are drawn for each function, by a
 linear congruence of 32 bits that begins with the seed: the upper 8 bits of the first, and one more, are its factor, and
@@ -84,11 +86,36 @@ def sum_rows():
         print(f"{seed} {size} => {len(data)} {checksum(data):016x}")
 
 
+# 300 texts with up to 20 functions, and seeds over all of their range
+RUNS = [(k * 2654435761 % WORD, 1 + k % 20) for k in range(300)]
+
+
+def escaped(byte):
+    return chr(byte) if chr(byte).isalnum() else f"\\x{byte:02x}"
+
+
+def program_rows():
+    for seed, size in RUNS:
+        _, byte, status = run(seed, size)
+        print(f"{seed} {size} =>\n  Ended {{ status: {status} }}\n  out {escaped(byte)}")
+
+
+def call_rows():
+    for seed, size in RUNS:
+        _, byte, status = run(seed, size)
+        answer = f'  Ran {{ status: {status} }}, status {status}, out "{escaped(byte)}"'
+        print(f"{seed} {size} =>\n{answer}\n{answer}")
+
+
 def main(words):
     if words == ["--texts"]:
         text_rows()
     elif words == ["--sums"]:
         sum_rows()
+    elif words == ["--programs"]:
+        program_rows()
+    elif words == ["--calls"]:
+        call_rows()
     elif len(words) == 2 and all(word.isdigit() for word in words):
         sys.stdout.write(text(int(words[0]), int(words[1])))
     elif len(words) == 3 and words[0] == "--run" and all(word.isdigit() for word in words[1:]):

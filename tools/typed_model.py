@@ -480,6 +480,7 @@ class Unit:
             return self.known(Node(INT, op, [a, b], value=value))
         if op in ('<<', '>>'):
             a, b = self.convert(a, promoted(a.ty)), self.convert(b, promoted(b.ty))
+            both = both and 0 <= b.value < 8 * a.ty[1]
             value = None if not both else fit(a.ty, a.value << b.value if op == '<<' else a.value >> b.value)
             return self.known(Node(a.ty, op, [a, b], value=value))
         pointers = (a.ty[0] == 'ptr') + (b.ty[0] == 'ptr')

@@ -1,13 +1,14 @@
 #!/usr/bin/env python3
-"""Makes rows of typed units: `typed_rows.py typed < FILE` or `typed_rows.py measures < FILE`.
+"""Makes rows of typed units: `typed_rows.py typed < FILE`, `typed_rows.py rewritten < FILE` or `typed_rows.py measures < FILE`.
 
 Each line of the file is a text without faults, with the escapes of `docs/rows.md`, or the line of a row that gives one;
 what was due of it is left out, and lines that are empty or begin with `#` are handed through. What is printed are the
-rows of `crates/front_rows/data`. What a text is comes from `typed_model.py`; its weight, its data size and its text are
-computed here from `docs/formats.md`.
+rows of `crates/front_rows/data`. What a text is comes from `typed_model.py`, and what the rules make of it from
+`rewritten_model.py`; its weight, its data size and its text are computed here from `docs/formats.md`.
 """
 import re
 import sys
+from rewritten_model import rewritten_statement
 from typed_model import Unit, shown
 
 
@@ -48,6 +49,10 @@ class Measured(Unit):
         return 1 + (part(s[1]) if len(s) > 1 else 0)
 
     # ---- what is shown
+
+    def rewrite(self):
+        for name, (ty, held, body) in self.bodies.items():
+            self.bodies[name] = (ty, held, [rewritten_statement(s, held) for s in body])
 
     def finish(self):
         self.objects = [o for o in self.objects if o['defined']]
@@ -164,7 +169,7 @@ def unescape(text):
 
 def main():
     sys.setrecursionlimit(100000)
-    whole = sys.argv[1] == 'typed'
+    whole, is_rewritten = sys.argv[1] != 'measures', sys.argv[1] == 'rewritten'
     for line in sys.stdin:
         line = line.rstrip('\n')
         if line.startswith('  '):
@@ -174,6 +179,8 @@ def main():
             continue
         line = line.removesuffix(' =>')
         unit = Measured(unescape(line))
+        if is_rewritten:
+            unit.rewrite()
         unit.finish()
         print(line + ' =>')
         for row in unit.lines(whole):

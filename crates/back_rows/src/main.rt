@@ -15,7 +15,6 @@ fn main(rt: HostRuntime) -> Result<()> {
         machine_rows::check_rows(&rt)?,
         vm_rows::check_rows(&rt)?,
         temp_rows::check_rows(&rt)?,
-        live_rows::check_rows(&rt)?,
         frame_rows::check_rows(&rt)?,
         move_rows::check_rows(&rt)?,
         outcome_rows::check_rows(&rt)?,

@@ -20,7 +20,7 @@ use Rattle.binpack_scan.specs.declared.held.Held.{Held}
 use Rattle.binpack_scan.specs.declared.held.SlotCopy.TheVariants.{Lent}
 use Rattle.binpack_scan.specs.declared.block.Lists.{Lists}
 use Rattle.binpack_scan.specs.declared.blocks.Maps.{Maps}
-use Rattle.binpack_scan.specs.Replays.{ReplaysBlock}
+use Rattle.binpack_scan.specs.model.Replays.{ReplaysBlock}
 use Rattle.binpack_scan.specs.model.Bins.{Bins, held_in, has_temp, IsNowhere, IsOnce, AreInside, lent}
 use Rattle.binpack_scan.specs.model.Tops.{is_listed, places_from}
 use Rattle.binpack_scan.specs.model.Whole.{AddsBlock, ScansBlocks}
@@ -86,7 +86,7 @@ count_next (b ∷ bs) (suc done) insns e =
 
 -- ---- what is lent
 
-same_temps : (before begun : Bins) → length before ≡ 26 → length begun ≡ 26 → ((r : ℕ) → r < 26 → held_in begun r ≡ lent (held_in before r)) → (r t : ℕ) → has_temp (held_in begun r) t ≡ has_temp (held_in before r) t
+pub same_temps : (before begun : Bins) → length before ≡ 26 → length begun ≡ 26 → ((r : ℕ) → r < 26 → held_in begun r ≡ lent (held_in before r)) → (r t : ℕ) → has_temp (held_in begun r) t ≡ has_temp (held_in before r) t
 same_temps before begun many size lends r t = by (nat_lt r 26) refl
   where
     by : (c : Bool) → nat_lt r 26 ≡ c → has_temp (held_in begun r) t ≡ has_temp (held_in before r) t
@@ -232,6 +232,8 @@ module _ (a : Plan) (l : Lifetimes) (tops : List (List Bool)) (says : SaysLive a
             (λ (same : b ≡ done).
             let ys : insns ≡ xs = one (sym is ∙ ap (slice_get a.function.blocks) (sym same) ∙ there) in
             subst (λ j. ReplaysBlock a j xs) (sym same) (subst (ReplaysBlock a done) ys (record {
+              stated = λ at x e. (lead.asks at x (slice_get_within insns at x e) e).stated;
+              few = λ at x e. (lead.asks at x (slice_get_within insns at x e) e).few;
               moves = λ at x e. (lead.asks at x (slice_get_within insns at x e) e).moves;
               temps_read = λ at x e. (lead.asks at x (slice_get_within insns at x e) e).temps_read;
               fixed_read = λ at x e. (lead.asks at x (slice_get_within insns at x e) e).fixed_read;

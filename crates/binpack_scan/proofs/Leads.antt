@@ -1,5 +1,5 @@
 -- What is held where behind the visits of a block.
-use Rattle.std.proofs.Common.{◌≡◌, ◌≢◌, ◌⊎◌, ℕ, zero, suc, ◌+◌, ◌*◌, ◌<◌, ◌==◌, ◌&&◌, ◌||◌, List, [], ◌∷◌, ◌++◌, Bool, true, false, Some, refl, sym, ap, ◌∙◌, inl, inr, subst, ⊎_elim, length, drop, filter, arith}
+use Rattle.std.proofs.Common.{◌≡◌, ◌≢◌, ◌⊎◌, ℕ, zero, suc, ◌+◌, ◌*◌, ◌<◌, ◌≤◌, ◌==◌, ◌&&◌, ◌||◌, List, [], ◌∷◌, ◌++◌, Bool, true, false, Some, refl, sym, ap, ◌∙◌, inl, inr, subst, ⊎_elim, length, drop, filter, arith}
 use Rattle.std.specs.Prelude.{Contains, not, slice_get, slice_index_or}
 use Rattle.std.specs.List.{list_all}
 use Rattle.std.proofs.lemmas.Bool.{eqb-true, eq-eqb}
@@ -13,16 +13,19 @@ use Rattle.alloc_model.specs.declared.allocation.Transfer.{Transfer}
 use Rattle.alloc_model.specs.Places.{Plan, linear_number, transfers_at, registers_at}
 use Rattle.alloc_model.specs.Needs.{is_live_at, IsNeeded}
 use Rattle.alloc_model.specs.Faithful.{move_all, MovesAsk, ReadsAsk, FixedAsk, behind_insn, held_before}
+use Rattle.alloc_rules.specs.Lean.{most_before}
 use Rattle.alloc_rules.specs.declared.scan.Lifetimes.{Lifetimes}
 use Rattle.alloc_rules.specs.Visits.{takes_away, holds_fixed_value}
 use Rattle.binpack_scan.specs.model.Bins.{Bins}
-use Rattle.binpack_scan.specs.model.Steps.{Site, State}
+use Rattle.binpack_scan.specs.model.Steps.{Site, State, Writes}
+use Rattle.binpack_scan.specs.model.Steps.Writes.{Nothing, Keeps, Gets}
 use Rattle.binpack_scan.specs.model.Rows.{Rows, is_wanted, site_of, unmade}
 use Rattle.binpack_scan.specs.model.Rows.Rows.{NoRow, OneMore}
-use Rattle.binpack_scan.specs.model.Visits.{Visits}
+use Rattle.binpack_scan.specs.model.Visits.{Visits, AreHeld}
 use Rattle.binpack_scan.proofs.Holders.{same_or_not, test_or_not, not_both}
 use Rattle.binpack_scan.proofs.Claims.{Has, Sound, Handed, IsSite}
 use Rattle.binpack_scan.proofs.Visited.{visited}
+use Rattle.binpack_scan.proofs.Counts.{few_enough}
 
 -- ---- tests
 
@@ -42,11 +45,11 @@ and_false : (b c : Bool) → c ≡ false → (not b && c) ≡ false
 and_false true c e = refl
 and_false false c e = e
 
-and_first : (b c : Bool) → (b && c) ≡ true → b ≡ true
+pub and_first : (b c : Bool) → (b && c) ≡ true → b ≡ true
 and_first true c e = refl
 and_first false c e = absurd (cc)
 
-and_second : (b c : Bool) → (b && c) ≡ true → c ≡ true
+pub and_second : (b c : Bool) → (b && c) ≡ true → c ≡ true
 and_second true c e = e
 and_second false c e = absurd (cc)
 
@@ -143,6 +146,31 @@ drop_get (y ∷ insns) zero x e = ap (λ z. z ∷ insns) (one e)
     one e = cc
 drop_get (y ∷ insns) (suc at) x e = drop_get insns at x e
 
+-- ---- as many registers as temporaries
+
+held_many : (ts rs : List ℕ) (bins : Bins) → AreHeld ts rs bins → length rs ≡ length ts
+held_many [] [] bins held = refl
+held_many [] (r ∷ rs) bins held = absurd held
+held_many (t ∷ ts) [] bins held = absurd held
+held_many (t ∷ ts) (r ∷ rs) bins held = ap suc (held_many ts rs bins held.1)
+
+writes_many : (s : Site) (v w : State) (ts rs : List ℕ) → Writes s v w ts rs → length rs ≡ length ts
+writes_many s v w ts rs (Nothing bins relied) = refl
+writes_many s v w ts rs (Keeps t r is bins relied) = refl
+writes_many s v w ts rs (Gets t r none low may leaves bins) = refl
+
+many_behind : (xs ys : List ℕ) → length (xs ++ ys) ≡ length xs + length ys
+many_behind [] ys = omega arith
+many_behind (x ∷ xs) ys = let rest = many_behind xs ys in omega (arith, rest)
+
+registers_many : (s : Site) (u w : State) (xs : List Transfer) (rs : List ℕ) → Visits s u w xs rs → length rs ≡ length (reads_of s.insn) + length (writes_of s.insn)
+registers_many s u w xs rs visits =
+    let both = many_behind visits.read visits.written in
+    let read = held_many (reads_of s.insn) visits.read visits.ready.bins visits.held in
+    let written = writes_many s visits.left w (writes_of s.insn) visits.written visits.writes in
+    let sum : length (visits.read ++ visits.written) ≡ length (reads_of s.insn) + length (writes_of s.insn) = omega (arith, both, read, written) in
+    ap (λ z. length z) visits.registers_are ∙ sum
+
 -- ---- a block
 
 -- tests by lifetimes say where temporaries are live round the instructions of an allocation
@@ -167,6 +195,8 @@ module _ (a : Plan) (l : Lifetimes) (b number : ℕ) (insns : List TempInsn) (sa
     pub handed : Handed a b at (transfers_at a b at) bins
 
   pub record Asks (at : ℕ) (x : TempInsn) : Type 0 where
+    pub few : length (transfers_at a b at) ≤ most_before x
+    pub stated : length (registers_at a b at) ≡ length (reads_of x) + length (writes_of x)
     pub moves : MovesAsk (transfers_at a b at) (held_before a b at)
     pub temps_read : ReadsAsk (reads_of x) (registers_at a b at) (move_all (transfers_at a b at) (held_before a b at))
     pub fixed_read : FixedAsk (fixed_reads_of x) (move_all (transfers_at a b at) (held_before a b at))
@@ -234,6 +264,8 @@ module _ (a : Plan) (l : Lifetimes) (b number : ℕ) (insns : List TempInsn) (sa
       ∙ ap (λ qs. behind_insn (transfers_at a b at) qs (Some x) (held_before a b at)) (sym er)
       ∙ ap (λ o. behind_insn (transfers_at a b at) (registers_at a b at) o (held_before a b at)) (sym (there at ∙ is)) in (
         record {
+          few = subst (λ ys. length ys ≤ most_before x) (sym et) (let a = visits.few in let b = few_enough x in omega (arith, a, b));
+          stated = ap (λ z. length z) er ∙ registers_many (site_of a.temps l (number + at) x (drop (suc at) insns)) (unmade v) w xs rs visits;
           moves = subst (λ ys. MovesAsk ys (held_before a b at)) (sym et) so.moves;
           temps_read = subst (λ ys. ReadsAsk (reads_of x) (registers_at a b at) (move_all ys (held_before a b at))) (sym et) (subst (λ qs. ReadsAsk (reads_of x) qs (move_all xs (held_before a b at))) (sym er) so.temps_read);
           fixed_read = subst (λ ys. FixedAsk (fixed_reads_of x) (move_all ys (held_before a b at))) (sym et) so.fixed_read;

@@ -14,3 +14,13 @@ mod Tops
 mod Functions
 mod Wants
 mod Said
+mod Crossings
+mod Counts
+mod EdgeMoves
+mod EdgeSteps
+mod Lists
+mod MapsOf
+mod EdgeCodes
+mod KeptEdges
+mod EdgeNames
+mod Faithfulness

@@ -22,7 +22,7 @@ use Rattle.alloc_rules.specs.Visits.{Wants, AreWants}
 use Rattle.bitvector_flow.specs.Lives.{AreLive}
 use Rattle.alloc_lifetime_ends.specs.Wanted.{wants_of}
 use Rattle.alloc_lifetime_ends.proofs.Wants.{wants_exact}
-use Rattle.binpack_scan.specs.Replays.{ReplaysBlock, IsPlanOf}
+use Rattle.binpack_scan.specs.model.Replays.{ReplaysBlock, IsPlanOf}
 use Rattle.binpack_scan.specs.declared.block.Lists.{Lists}
 use Rattle.binpack_scan.specs.declared.blocks.Maps.{Maps}
 use Rattle.binpack_scan.specs.model.Bins.{Bins}

@@ -9,3 +9,6 @@ pub mod Tops
 pub mod Scanning
 pub mod Lists
 pub mod Whole
+pub mod Edges
+pub mod Made
+pub mod Replays

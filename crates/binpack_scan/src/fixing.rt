@@ -1,6 +1,6 @@
 //! What stands in registers that an instruction takes away is moved or stored first.
 
-ghost use Rattle.std.specs.Prelude.{◌≡◌, ◌≢◌, ◌+◌, ◌*◌, ◌++◌, ◌<◌, ◌^◌, [], ◌∷◌, ℕ, true, false, Some, None, List, Bool, length, slice_set, IfSome, OnOk};
+ghost use Rattle.std.specs.Prelude.{◌≡◌, ◌≢◌, ◌+◌, ◌*◌, ◌++◌, ◌<◌, ◌≤◌, ◌^◌, [], ◌∷◌, ℕ, true, false, Some, None, List, Bool, length, slice_set, IfSome, OnOk};
 ghost use Rattle.alloc_rules.specs.Visits.{fixes};
 ghost use Rattle.alloc_rules.specs.Visits as visits;
 ghost use Rattle.alloc_model.specs.declared.allocation.Transfer.TheVariants as transfer;
@@ -9,7 +9,7 @@ ghost use Rattle.binpack_scan.specs.model.Bins as model;
 ghost use Rattle.binpack_scan.specs.model.Choices as choices;
 ghost use Rattle.binpack_scan.specs.model.Rows as rows;
 ghost use Rattle.binpack_scan.specs.model.Rows.{is_wanted};
-ghost use Rattle.binpack_scan.specs.model.Steps.{Site, State, Steps, MayGet};
+ghost use Rattle.binpack_scan.specs.model.Steps.{Site, State, Steps, MayGet, taken, taken_below};
 ghost use Rattle.binpack_scan.specs.model.Scanning.{state_of, local_site};
 ghost use Rattle.binpack_scan.specs.model.Wanted.{LifetimesRise};
 
@@ -34,6 +34,7 @@ impl Scan {
             → Steps s u (state_of self.old) → Steps s u (state_of self.new)) }
         ensures bins { OnOk result (self.new.bins.items
             ≡ slice_set (slice_set self.old.bins.items r None) to (Some held)) }
+        ensures count { OnOk result (length self.new.made.items ≤ length self.old.made.items + 1) }
         ensures temps { OnOk result (self.new.temps ≡ self.old.temps) }
     {
         self.made.push(Transfer::Shift {
@@ -102,6 +103,7 @@ impl Scan {
             (held_in self.new.bins.items r)) (held_in self.new.bins.items r) ≡ false) }
         ensures fixed { OnOk result ((q : ℕ) → visits.takes_away insn.now q ≡ true → q ≢ r
             → held_in self.new.bins.items q ≡ held_in self.old.bins.items q) }
+        ensures count { OnOk result (length self.new.made.items ≤ length self.old.made.items + 1) }
         ensures temps { OnOk result (self.new.temps ≡ self.old.temps) }
     {
         let behind = self.lives_in(r, lives, 2 * number + 1);
@@ -135,6 +137,7 @@ impl Scan {
             (held_in self.new.bins.items r)) (held_in self.new.bins.items r) ≡ false) }
         ensures fixed { OnOk result ((q : ℕ) → visits.takes_away insn.now q ≡ true → q ≢ r
             → held_in self.new.bins.items q ≡ held_in self.old.bins.items q) }
+        ensures count { OnOk result (length self.new.made.items ≤ length self.old.made.items + 1) }
         ensures temps { OnOk result (self.new.temps ≡ self.old.temps) }
     {
         match self.refuge(held.temp, insn, lives, 2 * number, standing) {
@@ -171,6 +174,7 @@ impl Scan {
             (held_in self.new.bins.items r)) (held_in self.new.bins.items r) ≡ false) }
         ensures fixed { OnOk result ((q : ℕ) → visits.takes_away insn.now q ≡ true → q ≢ r
             → held_in self.new.bins.items q ≡ held_in self.old.bins.items q) }
+        ensures count { OnOk result (length self.new.made.items ≤ length self.old.made.items + 1) }
         ensures temps { OnOk result (self.new.temps ≡ self.old.temps) }
     {
         match self.holder(r) {
@@ -209,6 +213,7 @@ impl Scan {
             (held_in self.new.bins.items r)) (held_in self.new.bins.items r) ≡ false) }
         ensures fixed { OnOk result ((q : ℕ) → visits.takes_away insn.now q ≡ true → q ≢ r
             → held_in self.new.bins.items q ≡ held_in self.old.bins.items q) }
+        ensures count { OnOk result (length self.new.made.items ≤ length self.old.made.items + taken insn.now r) }
         ensures temps { OnOk result (self.new.temps ≡ self.old.temps) }
     {
         if takes_away(insn, r) {
@@ -237,6 +242,7 @@ impl Scan {
         ensures saved { OnOk result ((r : ℕ) → r < 26 → visits.takes_away insn.now r ≡ true
             → must_store (model.lives (is_wanted lives.now (2 * number + 1))
             (held_in self.new.bins.items r)) (held_in self.new.bins.items r) ≡ false) }
+        ensures count { OnOk result (length self.new.made.items ≤ length self.old.made.items + taken_below insn.now 26) }
         ensures temps { OnOk result (self.new.temps ≡ self.old.temps) }
     {
         for r in 0..GIVEN {

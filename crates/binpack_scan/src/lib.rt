@@ -1,10 +1,13 @@
 //! One scan over a function that gives its temporaries registers, with second chances.
 #![tactic(auto)]
 
+mod allocation;
 mod bins;
 mod block;
 mod blocks;
 mod choice;
+mod crossing;
+mod edges;
 mod fixing;
 mod handover;
 mod held;
@@ -16,4 +19,4 @@ mod standing;
 mod visit;
 mod wanted;
 
-pub use scan::{Placement, place_temporaries};
+pub use allocation::binpack;

@@ -1,6 +1,6 @@
 //! What is moved between registers and slots before an instruction.
 
-ghost use Rattle.std.specs.Prelude.{◌≡◌, ◌≢◌, ◌+◌, ◌*◌, ◌++◌, ◌<◌, ◌^◌, [], ◌∷◌, ℕ, true, false, Some, None, length, slice_set, IfSome, IfOk, OnOk};
+ghost use Rattle.std.specs.Prelude.{◌≡◌, ◌≢◌, ◌+◌, ◌*◌, ◌++◌, ◌<◌, ◌≤◌, ◌^◌, [], ◌∷◌, ℕ, true, false, Some, None, length, slice_set, IfSome, IfOk, OnOk};
 ghost use Rattle.pass_core.specs.Functions.{UsesRegisters};
 ghost use Rattle.temp_ir.specs.Insns.{reads_of, writes_of};
 ghost use Rattle.temp_ir.specs.Fixed.{has_number};
@@ -37,6 +37,7 @@ impl Scan {
             → live ≡ model.lives s.before (held_in self.old.bins.items r)
             → Steps s u (state_of self.old) → Steps s u (state_of self.new)) }
         ensures bins { OnOk result (self.new.bins.items ≡ slice_set self.old.bins.items r (Some (held temp copy.Twice))) }
+        ensures count { OnOk result (length self.new.made.items ≤ length self.old.made.items + 1) }
         ensures temps { OnOk result (self.new.temps ≡ self.old.temps) }
     {
         self.rely(r, live);
@@ -71,6 +72,7 @@ impl Scan {
             → Steps (local_site self.old.temps lives.now number insn.now standing.now) u (state_of self.old)
             → Steps (local_site self.old.temps lives.now number insn.now standing.now) u (state_of self.new)) }
         ensures held { IfOk result (λ r. has_temp (held_in self.new.bins.items r) temp ≡ true) }
+        ensures count { OnOk result (length self.new.made.items ≤ length self.old.made.items + 2) }
         ensures kept { OnOk result ((q m : ℕ) → names_temp insn.now m ≡ true → is_wanted lives.now (2 * number) m ≡ true
             → has_temp (held_in self.old.bins.items q) m ≡ true → has_temp (held_in self.new.bins.items q) m ≡ true) }
         ensures fixed { OnOk result ((q : ℕ) → fixes insn.now q ≡ true
@@ -110,6 +112,7 @@ impl Scan {
             → Steps (local_site self.old.temps lives.now number insn.now standing.now) u (state_of self.old)
             → Steps (local_site self.old.temps lives.now number insn.now standing.now) u (state_of self.new)) }
         ensures held { IfOk result (λ regs. AreHeld (reads_of insn.now) regs.items self.new.bins.items) }
+        ensures count { OnOk result (length self.new.made.items ≤ length self.old.made.items + 4) }
         ensures fixed { OnOk result ((q : ℕ) → fixes insn.now q ≡ true
             → held_in self.new.bins.items q ≡ held_in self.old.bins.items q) }
         ensures temps { OnOk result (self.new.temps ≡ self.old.temps) }

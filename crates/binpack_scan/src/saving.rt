@@ -1,6 +1,6 @@
 //! What leaves a register is stored first, where its slot does not hold it.
 
-ghost use Rattle.std.specs.Prelude.{◌≡◌, ◌≢◌, ◌+◌, ◌++◌, ◌<◌, [], ◌∷◌, ℕ, true, false, Some, slice_set, OnOk};
+ghost use Rattle.std.specs.Prelude.{◌≡◌, ◌≢◌, ◌+◌, ◌++◌, ◌<◌, ◌≤◌, [], ◌∷◌, ℕ, true, false, Some, length, slice_set, OnOk};
 ghost use Rattle.alloc_model.specs.declared.allocation.Transfer.TheVariants as transfer;
 ghost use Rattle.binpack_scan.specs.declared.held.Held.{Held};
 ghost use Rattle.binpack_scan.specs.declared.held.SlotCopy.TheVariants as copy;
@@ -49,6 +49,7 @@ impl Scan {
     }
 
     /// Stores what stands in a register, where it is live and its slot does not hold it.
+    #[tactic(auto, using(crate::proofs::Counts::one_behind))]
     pub(crate) fn save(&mut self, r: u8, live: bool) -> Result<(), AllocError>
         requires { r < 26 }
         ensures steps { OnOk result ((s : Site) (u : State)
@@ -58,6 +59,7 @@ impl Scan {
         ensures same { OnOk result ((q t : ℕ)
             → has_temp (held_in self.new.bins.items q) t ≡ has_temp (held_in self.old.bins.items q) t) }
         ensures others { OnOk result ((q : ℕ) → q ≢ r → held_in self.new.bins.items q ≡ held_in self.old.bins.items q) }
+        ensures count { OnOk result (length self.new.made.items ≤ length self.old.made.items + 1) }
         ensures temps { OnOk result (self.new.temps ≡ self.old.temps) }
     {
         match self.holder(r) {

@@ -4,12 +4,9 @@ ghost use Rattle.std.specs.Prelude.{◌≡◌, ◌<◌, ◌^◌, ℕ, List, None
 ghost use Rattle.pass_core.specs.Functions.{count_of};
 ghost use Rattle.temp_ir.specs.declared.insn.TempInsn.{TempInsn};
 ghost use Rattle.temp_ir.specs.Insns.{reads_of, writes_of, targets_of, flows_on_of};
-ghost use Rattle.temp_ir.specs.Fixed.{is_settled};
-ghost use Rattle.alloc_model.specs.Places.{Plan};
 ghost use Rattle.alloc_rules.specs.Scan.{AreLifetimes};
 ghost use Rattle.bitvector_flow.specs.Flows.{AreBounded};
 ghost use Rattle.bitvector_flow.specs.Lives.{AreLive};
-ghost use Rattle.binpack_scan.specs.Replays.{ReplaysBlock, IsPlanOf};
 ghost use Rattle.binpack_scan.specs.model.Bins.{Bins, held_in};
 ghost use Rattle.binpack_scan.specs.model.Lists.{ReadsWanted};
 ghost use Rattle.binpack_scan.specs.model.Wanted.{LifetimesRise};
@@ -18,7 +15,6 @@ ghost use Rattle.binpack_scan.specs.model.Whole.{ScansBlocks};
 use crate::bins::{GIVEN, Scan};
 use crate::block::Lists;
 use crate::blocks::Maps;
-use alloc_model::allocation::{TempPlace, Transfer};
 use alloc_rules::scan::Lifetimes;
 use bitvector_flow::Flow;
 use bk_bits::BitSet;
@@ -107,44 +103,19 @@ pub(crate) fn scan_blocks(
     Ok(Placed { maps, lists })
 }
 
-/// Where the temporaries of a function stand, and what moves them within blocks.
-#[derive(Drop)]
-pub struct Placement {
-    /// For each block, the places at its top of temporaries that are live there. One that is not named has its slot.
-    pub top: Seq<Seq<TempPlace>>,
-    /// For each block, the registers in which temporaries stand at its end.
-    pub bottom: Seq<Seq<TempPlace>>,
-    /// For each instruction in linear order, what is done before it.
-    pub at: Seq<Seq<Transfer>>,
-    /// For each instruction, the registers of the temporaries that it reads, in order, then of those that it writes.
-    pub regs: Seq<Seq<u8>>,
-}
-
-/// Gives the temporaries of a function registers in one scan, where these are its lifetimes and what is live in it. In
-/// each allocation with these maps and lists, whatever is done on its edges, all that is asked for within blocks is
-/// there. It fails only where memory is short.
-pub fn place_temporaries(
+/// Gives the temporaries of a function registers in one scan, where these are its lifetimes and what is live in it. It
+/// fails only where memory is short.
+pub(crate) fn place_temporaries(
     alloc: Global,
     f: &Func<TempInsn>,
     lives: &Lifetimes,
     live: &Flow,
-) -> Result<Placement, AllocError>
+) -> Result<Placed, AllocError>
     requires lives { AreLifetimes f.now lives.now }
     requires live { AreLive reads_of writes_of targets_of flows_on_of f.now.blocks f.now.temps live.now.top live.now.bottom }
-    requires settled { IsTrue (is_settled f.now.params f.now.blocks) }
-    ensures { IfOk result (λ p. (a : Plan) → IsPlanOf f.now p.top p.bottom p.at p.regs a
-        → (b : ℕ) (insns : List TempInsn) → slice_get f.now.blocks b ≡ Some insns → ReplaysBlock a b insns) }
+    ensures { IfOk result (λ p. (bins : Bins)
+        × ScansBlocks f.now.temps lives.now f.now.blocks live.now.top (length f.now.blocks) p.maps p.lists bins) }
 {
-    let Placed { maps, lists } = scan_blocks(alloc, f, lives, live.top.as_slice())?;
-    let Maps { top, bottom } = maps;
-    let Lists {
-        transfers,
-        registers,
-    } = lists;
-    Ok(Placement {
-        top,
-        bottom,
-        at: transfers,
-        regs: registers,
-    })
+    let placed = scan_blocks(alloc, f, lives, live.top.as_slice())?;
+    Ok(placed)
 }

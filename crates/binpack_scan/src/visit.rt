@@ -107,6 +107,7 @@ impl Scan {
         requires written { has_number (writes_of insn.now) temp ≡ true }
         ensures gives { IfOk result (λ r. Gives
             (local_site self.old.temps lives.now number insn.now standing.now) (state_of self.old) (state_of self.new) temp r) }
+        ensures count { OnOk result (length self.new.made.items ≤ length self.old.made.items + 1) }
         ensures temps { OnOk result (self.new.temps ≡ self.old.temps) }
     {
         let own = Held {
@@ -150,6 +151,7 @@ impl Scan {
             (held_in self.old.bins.items r) ≡ false }
         ensures acts { OnOk result (Acts (local_site self.old.temps lives.now number insn.now standing.now)
             (state_of self.old) (state_of self.new) registers.old.items registers.new.items) }
+        ensures count { OnOk result (length self.new.made.items ≤ length self.old.made.items + 1) }
         ensures temps { OnOk result (self.new.temps ≡ self.old.temps) }
     {
         match insn.write_at(0) {

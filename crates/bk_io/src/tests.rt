@@ -1,15 +1,15 @@
 //! What no clause can say: what the system gives and takes, and that calls succeed where memory is left.
 //!
-//! What a test asks of an adapter stands in a function that has it by reference: each test is proved, and every exit of a
-//! function that holds an adapter lets it go.
+//! Each test is proved, and costs by its assertions and exits: so a test is a table of steps, and asserts once that each
+//! comes out as it should.
 
+use crate::empty::EmptySource;
 use crate::host::{HostFiles, HostSink, HostSource};
 use crate::memory::{MemFiles, MemSink, MemSource};
 use crate::outside::{Failed, FileFault, Files, ReadExtent, Sink, Source, ask};
 use std::alloc::{AllocError, AllocGlobal, Global};
 use std::fs::File;
 use std::io::{self, ErrorKind, IsTerminal, Read, Write};
-use std::process::Abort;
 use std::test::Fail;
 use std::{fs, rt};
 
@@ -85,323 +85,326 @@ impl IsTerminal for Once {
     }
 }
 
-/// A source gives these bytes, ends and faults, in order.
-fn gives<S: Source>(
-    rt: &impl Abort,
-    source: &mut S,
-    wanted: &[Result<Option<u8>, Failed>],
-) -> Result<(), Fail> {
-    for want in wanted {
-        assert_eq!(rt; source.next(), *want);
+/// A step of a test, with what is wanted of it.
+#[derive(Clone, Copy)]
+enum Step {
+    /// A byte is put, and taken or not.
+    Put(u8, bool),
+    /// These bytes are put at once, and taken.
+    PutSlice(&'static [u8]),
+    /// So many bytes are put, of which each tells its place, and all are taken.
+    PutPlaces(u32),
+    Flush,
+    /// The output is finished, without a fault or with one.
+    Finish(bool),
+    /// The input gives this, asked in the way that lets the output go.
+    Ask(Option<u8>),
+    /// The file of the output has so many bytes.
+    HasLen(usize),
+    /// The file of the output has these bytes.
+    Has(&'static [u8]),
+    /// Each byte of the output's file tells its place.
+    HasPlaces,
+    /// The file of the output is removed.
+    Remove,
+}
+
+/// Puts so many bytes, of which each tells its place. Whether each was taken.
+fn puts_places<O: Sink>(out: &mut O, count: u32) -> bool {
+    for at in 0..count {
+        if out.put((at % 251) as u8).is_err() {
+            return false;
+        }
     }
-    Ok(())
+    true
 }
 
-/// A sink answers each of these bytes so.
-fn answers<S: Sink>(
-    rt: &impl Abort,
-    sink: &mut S,
-    byte: u8,
-    wanted: &[Result<(), Failed>],
-) -> Result<(), Fail> {
-    for want in wanted {
-        assert_eq!(rt; sink.put(byte), *want);
+/// Whether each of these bytes tells its place.
+fn are_places(bytes: &[u8]) -> bool {
+    for (at, byte) in bytes.iter().enumerate() {
+        if *byte != (at % 251) as u8 {
+            return false;
+        }
     }
-    Ok(())
+    true
 }
 
-/// A file has so many bytes.
-fn has_len<R: rt::Files + AllocGlobal + Abort>(rt: &R, name: &str, len: usize) -> Result<(), Fail> {
-    assert_eq!(rt; fs::read(rt, name)?.len(), len);
-    Ok(())
+/// Whether what a file holds is as a step wants it.
+fn holds<R: rt::Files + AllocGlobal>(rt: &R, name: &str, step: Step) -> bool {
+    match fs::read(rt, name) {
+        Ok(bytes) => match step {
+            Step::HasLen(len) => bytes.len() == len,
+            Step::Has(wanted) => bytes.as_slice() == wanted,
+            _ => are_places(bytes.as_slice()),
+        },
+        Err(_) => false,
+    }
 }
 
-/// A file has these bytes.
-fn has<R: rt::Files + AllocGlobal + Abort>(rt: &R, name: &str, bytes: &[u8]) -> Result<(), Fail> {
-    assert_eq!(rt; fs::read(rt, name)?.as_slice(), bytes);
-    Ok(())
-}
-
-/// A read of a file is answered so, and appends these bytes.
-fn reads<F: Files>(
-    rt: &impl Abort,
-    alloc: Global,
-    files: &mut F,
+/// Whether a step comes out as it should.
+fn goes<R: rt::Files + AllocGlobal, I: Source, O: Sink>(
+    rt: &R,
     name: &str,
-    limit: u64,
-    want: Result<ReadExtent, FileFault>,
-    bytes: &[u8],
-) -> Result<(), Fail> {
+    input: &mut I,
+    out: &mut O,
+    step: Step,
+) -> bool {
+    match step {
+        Step::Put(byte, is_taken) => out.put(byte).is_ok() == is_taken,
+        Step::PutSlice(bytes) => out.put_slice(bytes).is_ok(),
+        Step::PutPlaces(count) => puts_places(out, count),
+        Step::Flush => {
+            out.flush();
+            true
+        }
+        Step::Finish(is_whole) => out.finish().is_ok() == is_whole,
+        Step::Ask(wanted) => ask(input, out) == Ok(wanted),
+        Step::HasLen(_) | Step::Has(_) | Step::HasPlaces => holds(rt, name, step),
+        Step::Remove => fs::remove_file(rt, name).is_ok(),
+    }
+}
+
+/// Whether each of these steps comes out as it should, over an output whose file has a name.
+fn all_go<R: rt::Files + AllocGlobal, I: Source, O: Sink>(
+    rt: &R,
+    name: &str,
+    input: &mut I,
+    out: &mut O,
+    steps: &[Step],
+) -> bool {
+    for step in steps {
+        if !goes(rt, name, input, out, *step) {
+            return false;
+        }
+    }
+    true
+}
+
+/// Whether a source gives these bytes, ends and faults, in order.
+fn gives<I: Source>(input: &mut I, wanted: &[Result<Option<u8>, Failed>]) -> bool {
+    for want in wanted {
+        if input.next() != *want {
+            return false;
+        }
+    }
+    true
+}
+
+/// A read of a file, with its limit, what is answered and the bytes that are appended.
+type Reading = (
+    &'static str,
+    u64,
+    Result<ReadExtent, FileFault>,
+    &'static [u8],
+);
+
+/// Whether a read comes out as it should.
+fn reads<F: Files>(alloc: Global, files: &mut F, reading: Reading) -> bool {
+    let (name, limit, wanted, bytes) = reading;
     let mut into = Vec::new(alloc);
-    let got = files.read(name, &mut into, limit);
-    assert_eq!(rt; into.as_slice(), bytes, "{name} up to {limit}");
-    assert_eq!(rt; got, want, "{name} up to {limit}");
-    Ok(())
+    files.read(name, &mut into, limit) == wanted && into.as_slice() == bytes
+}
+
+/// Whether each of these reads comes out as it should.
+fn all_read<F: Files>(alloc: Global, files: &mut F, readings: &[Reading]) -> bool {
+    for reading in readings {
+        if !reads(alloc, files, *reading) {
+            return false;
+        }
+    }
+    true
+}
+
+/// A file of these bytes as a source. Its name is removed.
+fn file_source(rt: &HostRuntime, name: &str, bytes: &[u8]) -> Result<HostSource<File>, Fail> {
+    fs::write(rt, name, bytes)?;
+    let file = File::open(rt, name)?;
+    fs::remove_file(rt, name)?;
+    Ok(HostSource::new(rt.alloc(), file)?)
+}
+
+/// A new file as a sink.
+fn file_sink(rt: &HostRuntime, name: &str) -> Result<HostSink<File>, Fail> {
+    let file = File::create(rt, name)?;
+    Ok(HostSink::new(rt.alloc(), file)?)
 }
 
 #[test]
 fn a_read_error_is_no_end(rt: HostRuntime) -> Result<(), Fail> {
     let mut source = HostSource::new(rt.alloc(), BrokenReader)?;
-    gives(&rt, &mut source, &[Err(Failed), Err(Failed)])
+    assert!(rt; gives(&mut source, &[Err(Failed), Err(Failed)]));
+    Ok(())
 }
 
 #[test]
 fn a_write_of_nothing_fails(rt: HostRuntime) -> Result<(), Fail> {
     let mut sink = HostSink::with_capacity(rt.alloc(), 0, Full)?;
-    let one = sink.put(1);
-    let two = sink.put_slice(b"ab");
-    assert_eq!(rt; [one, two], [Err(Failed), Err(Failed)]);
-    Ok(())
-}
-
-/// What 65,536 bytes and then one more come to, where one write is taken.
-fn takes_one_write<S: Sink>(rt: &impl Abort, sink: &mut S) -> Result<(), Fail> {
-    for _byte in 0..65536 {
-        assert_eq!(rt; sink.put(10), Ok(()));
-    }
-    sink.flush();
-    assert_eq!(rt; sink.finish(), Ok(()), "one write");
-    assert_eq!(rt; sink.put(1), Ok(()), "held");
-    assert_eq!(rt; sink.finish(), Err(Failed), "the writer was called");
+    assert!(rt; sink.put(1).is_err() && sink.put_slice(b"ab").is_err());
     Ok(())
 }
 
 #[test]
 fn what_is_held_takes_one_write(rt: HostRuntime) -> Result<(), Fail> {
     let mut sink = HostSink::new(rt.alloc(), Once { is_written: false })?;
-    takes_one_write(&rt, &mut sink)
-}
-
-/// What bytes come to, where no write is taken.
-fn reports_later<S: Sink>(rt: &impl Abort, sink: &mut S) -> Result<(), Fail> {
-    assert_eq!(rt; sink.put(1), Ok(()));
-    sink.flush();
-    assert_eq!(rt; sink.put(2), Err(Failed));
-    assert_eq!(rt; sink.put(3), Ok(()), "it was reported");
-    assert_eq!(rt; sink.finish(), Err(Failed));
+    let steps = [
+        Step::PutPlaces(65_536),
+        Step::Flush,
+        Step::Finish(true),
+        Step::Put(1, true),
+        Step::Finish(false),
+    ];
+    assert!(rt; all_go(&rt, "", &mut EmptySource, &mut sink, &steps));
     Ok(())
 }
 
 #[test]
 fn a_failed_write_is_reported_later(rt: HostRuntime) -> Result<(), Fail> {
     let mut sink = HostSink::new(rt.alloc(), Once { is_written: true })?;
-    reports_later(&rt, &mut sink)
-}
-
-/// Puts so many bytes, of which each tells its place.
-fn puts_places<S: Sink>(rt: &impl Abort, sink: &mut S, count: u32) -> Result<(), Fail> {
-    for at in 0..count {
-        assert_eq!(rt; sink.put((at % 251) as u8), Ok(()));
-    }
+    let steps = [
+        Step::Put(1, true),
+        Step::Flush,
+        Step::Put(2, false),
+        Step::Put(3, true),
+        Step::Finish(false),
+    ];
+    assert!(rt; all_go(&rt, "", &mut EmptySource, &mut sink, &steps));
     Ok(())
-}
-
-/// Each of these bytes tells its place.
-fn has_places(rt: &impl Abort, written: &[u8]) -> Result<(), Fail> {
-    for (at, byte) in written.iter().enumerate() {
-        assert_eq!(rt; *byte, (at % 251) as u8, "{at}");
-    }
-    Ok(())
-}
-
-/// Lets go the rest of what was put.
-fn finishes<S: Sink>(rt: &impl Abort, sink: &mut S) -> Result<(), Fail> {
-    assert_eq!(rt; sink.finish(), Ok(()));
-    Ok(())
-}
-
-/// What so many bytes come to in a file.
-fn goes_in_pieces<R: rt::Files + AllocGlobal + Abort, S: Sink>(
-    rt: &R,
-    sink: &mut S,
-    name: &str,
-) -> Result<(), Fail> {
-    puts_places(rt, sink, 200_000)?;
-    has_len(rt, name, 196_608)?;
-    finishes(rt, sink)?;
-    has_len(rt, name, 200_000)?;
-    has_places(rt, fs::read(rt, name)?.as_slice())?;
-    Ok(fs::remove_file(rt, name)?)
 }
 
 #[test]
 fn bytes_go_when_there_are_more_and_at_the_end(rt: HostRuntime) -> Result<(), Fail> {
-    let file = File::create(&rt, "held.bytes")?;
-    let mut sink = HostSink::new(rt.alloc(), file)?;
-    goes_in_pieces(&rt, &mut sink, "held.bytes")
-}
-
-/// What bytes come to in a file that says that it is a terminal.
-fn goes_by_lines<R: rt::Files + AllocGlobal + Abort, S: Sink>(
-    rt: &R,
-    sink: &mut S,
-    name: &str,
-) -> Result<(), Fail> {
-    assert_eq!(rt; sink.put_slice(b"ab"), Ok(()));
-    has(rt, name, b"")?;
-    assert_eq!(rt; sink.put(10), Ok(()));
-    has(rt, name, b"ab\n")?;
-    assert_eq!(rt; sink.put(99), Ok(()));
-    sink.flush();
-    has(rt, name, b"ab\nc")?;
-    Ok(fs::remove_file(rt, name)?)
+    let name = "held.bytes";
+    let mut sink = file_sink(&rt, name)?;
+    let steps = [
+        Step::PutPlaces(200_000),
+        Step::HasLen(196_608),
+        Step::Finish(true),
+        Step::HasLen(200_000),
+        Step::HasPlaces,
+        Step::Remove,
+    ];
+    assert!(rt; all_go(&rt, name, &mut EmptySource, &mut sink, &steps));
+    Ok(())
 }
 
 #[test]
 fn a_line_feed_lets_go_on_a_terminal(rt: HostRuntime) -> Result<(), Fail> {
-    let file = File::create(&rt, "screen.bytes")?;
+    let name = "screen.bytes";
+    let file = File::create(&rt, name)?;
     let mut sink = HostSink::new(rt.alloc(), Screen { file })?;
-    goes_by_lines(&rt, &mut sink, "screen.bytes")
-}
-
-/// What is asked of an input with two bytes, and what of the output stands in its file by then.
-fn lets_go_first<R: rt::Files + AllocGlobal + Abort, I: Source, O: Sink>(
-    rt: &R,
-    input: &mut I,
-    out: &mut O,
-    name: &str,
-) -> Result<(), Fail> {
-    assert_eq!(rt; out.put(1), Ok(()));
-    has_len(rt, name, 0)?;
-    assert_eq!(rt; ask(input, out), Ok(Some(b'x')));
-    has_len(rt, name, 1)?;
-    assert_eq!(rt; out.put(2), Ok(()));
-    assert_eq!(rt; ask(input, out), Ok(Some(b'y')));
-    has_len(rt, name, 1)?;
-    assert_eq!(rt; ask(input, out), Ok(None));
-    has_len(rt, name, 2)?;
-    fs::remove_file(rt, "asked.bytes")?;
-    Ok(fs::remove_file(rt, name)?)
+    let steps = [
+        Step::PutSlice(b"ab"),
+        Step::HasLen(0),
+        Step::Put(10, true),
+        Step::Has(b"ab\n"),
+        Step::Put(99, true),
+        Step::Flush,
+        Step::Has(b"ab\nc"),
+        Step::Remove,
+    ];
+    assert!(rt; all_go(&rt, name, &mut EmptySource, &mut sink, &steps));
+    Ok(())
 }
 
 #[test]
 fn an_output_goes_before_its_input_waits(rt: HostRuntime) -> Result<(), Fail> {
-    fs::write(&rt, "asked.bytes", b"xy")?;
-    let mut input = HostSource::new(rt.alloc(), File::open(&rt, "asked.bytes")?)?;
-    let mut out = HostSink::new(rt.alloc(), File::create(&rt, "answered.bytes")?)?;
-    lets_go_first(&rt, &mut input, &mut out, "answered.bytes")
-}
-
-#[test]
-fn a_folder_is_no_file(rt: HostRuntime) -> Result<(), Fail> {
-    let mut files = HostFiles::new(rt.alloc(), rt.clone()?)?;
-    reads(
-        &rt,
-        rt.alloc(),
-        &mut files,
-        "/",
-        6,
-        Err(FileFault::Failed),
-        b"",
-    )
+    let name = "answered.bytes";
+    let mut input = file_source(&rt, "asked.bytes", b"xy")?;
+    let mut out = file_sink(&rt, name)?;
+    let steps = [
+        Step::Put(1, true),
+        Step::HasLen(0),
+        Step::Ask(Some(b'x')),
+        Step::HasLen(1),
+        Step::Put(2, true),
+        Step::Ask(Some(b'y')),
+        Step::HasLen(1),
+        Step::Ask(None),
+        Step::HasLen(2),
+        Step::Remove,
+    ];
+    assert!(rt; all_go(&rt, name, &mut input, &mut out, &steps));
+    Ok(())
 }
 
 #[test]
 fn host_source_gives_the_bytes_of_a_reader(rt: HostRuntime) -> Result<(), Fail> {
-    fs::write(&rt, "source.bytes", b"\x00\xff")?;
-    let mut source = HostSource::new(rt.alloc(), File::open(&rt, "source.bytes")?)?;
-    gives(
-        &rt,
-        &mut source,
-        &[Ok(Some(0)), Ok(Some(255)), Ok(None), Ok(None)],
-    )
-}
-
-/// What three bytes come to in a file.
-fn goes_at_once<R: rt::Files + AllocGlobal + Abort, S: Sink>(
-    rt: &R,
-    sink: &mut S,
-    name: &str,
-) -> Result<(), Fail> {
-    for byte in [0, 10, 255] {
-        assert_eq!(rt; sink.put(byte), Ok(()));
-    }
-    has(rt, name, &[0, 10, 255])?;
-    Ok(fs::remove_file(rt, name)?)
+    let mut source = file_source(&rt, "source.bytes", b"\x00\xff")?;
+    assert!(rt;
+        gives(
+            &mut source,
+            &[Ok(Some(0)), Ok(Some(255)), Ok(None), Ok(None)]
+        )
+    );
+    Ok(())
 }
 
 #[test]
 fn host_sink_that_holds_none_writes_each_byte(rt: HostRuntime) -> Result<(), Fail> {
-    let file = File::create(&rt, "sink.bytes")?;
+    let name = "sink.bytes";
+    let file = File::create(&rt, name)?;
     let mut sink = HostSink::with_capacity(rt.alloc(), 0, file)?;
-    goes_at_once(&rt, &mut sink, "sink.bytes")
+    let steps = [
+        Step::Put(0, true),
+        Step::Put(10, true),
+        Step::Put(255, true),
+        Step::Has(&[0, 10, 255]),
+        Step::Remove,
+    ];
+    assert!(rt; all_go(&rt, name, &mut EmptySource, &mut sink, &steps));
+    Ok(())
 }
 
 #[test]
 fn a_file_that_was_opened_for_reading_takes_no_byte(rt: HostRuntime) -> Result<(), Fail> {
     let file = File::open(&rt, "/dev/null")?;
     let mut closed = HostSink::with_capacity(rt.alloc(), 0, file)?;
-    answers(&rt, &mut closed, 1, &[Err(Failed)])
+    assert!(rt; closed.put(1).is_err());
+    Ok(())
 }
 
-/// What reads of a file with five bytes come to.
-fn reads_to_limits<F: Files>(rt: &impl Abort, alloc: Global, files: &mut F) -> Result<(), Fail> {
-    reads(
-        rt,
-        alloc,
-        files,
-        "five.bytes",
-        6,
-        Ok(ReadExtent::Whole),
-        b"abcde",
-    )?;
-    reads(
-        rt,
-        alloc,
-        files,
-        "five.bytes",
-        5,
-        Ok(ReadExtent::Cut),
-        b"abcde",
-    )?;
-    reads(
-        rt,
-        alloc,
-        files,
-        "five.bytes",
-        2,
-        Ok(ReadExtent::Cut),
-        b"ab",
-    )?;
-    reads(
-        rt,
-        alloc,
-        files,
-        "missing.bytes",
-        6,
-        Err(FileFault::Failed),
-        b"",
-    )
-}
+/// Reads of a file with five bytes, of one that is not there, and of a folder.
+static HOST_READINGS: [Reading; 5] = [
+    ("five.bytes", 6, Ok(ReadExtent::Whole), b"abcde"),
+    ("five.bytes", 5, Ok(ReadExtent::Cut), b"abcde"),
+    ("five.bytes", 2, Ok(ReadExtent::Cut), b"ab"),
+    ("missing.bytes", 6, Err(FileFault::Failed), b""),
+    ("/", 6, Err(FileFault::Failed), b""),
+];
 
 #[test]
 fn host_files_reads_up_to_the_limit(rt: HostRuntime) -> Result<(), Fail> {
     fs::write(&rt, "five.bytes", b"abcde")?;
     let mut files = HostFiles::new(rt.alloc(), rt.clone()?)?;
-    reads_to_limits(&rt, rt.alloc(), &mut files)
+    let are_read = all_read(rt.alloc(), &mut files, &HOST_READINGS);
+    assert!(rt; are_read && fs::remove_file(&rt, "five.bytes").is_ok());
+    Ok(())
 }
 
 #[test]
 fn a_source_in_memory_fails_at_the_listed_calls(rt: HostRuntime) -> Result<(), Fail> {
     let bytes = [7, 8].to_vec(rt.alloc())?;
     let mut source = MemSource::new(bytes, [1].to_vec(rt.alloc())?);
-    gives(
-        &rt,
-        &mut source,
-        &[Ok(Some(7)), Err(Failed), Ok(Some(8)), Ok(None)],
-    )
+    assert!(rt;
+        gives(
+            &mut source,
+            &[Ok(Some(7)), Err(Failed), Ok(Some(8)), Ok(None)]
+        )
+    );
+    Ok(())
 }
 
 #[test]
 fn a_sink_in_memory_fails_at_the_listed_calls(rt: HostRuntime) -> Result<(), Fail> {
     let mut sink = MemSink::new(rt.alloc(), 2, [0].to_vec(rt.alloc())?)?;
-    answers(
-        &rt,
-        &mut sink,
-        5,
-        &[Err(Failed), Ok(()), Ok(()), Err(Failed)],
-    )?;
-    assert_eq!(rt; sink.taken_bytes(), [5, 5].as_slice());
+    let steps = [
+        Step::Put(5, false),
+        Step::Put(5, true),
+        Step::Put(5, true),
+        Step::Put(5, false),
+    ];
+    assert!(rt; all_go(&rt, "", &mut EmptySource, &mut sink, &steps));
+    assert!(rt; sink.taken_bytes() == [5, 5].as_slice());
     Ok(())
 }
 
@@ -412,16 +415,17 @@ fn files_in_memory(alloc: Global) -> Result<MemFiles, AllocError> {
     Ok(MemFiles::new(name_and_bytes, [1].to_vec(alloc)?))
 }
 
-/// What reads of them come to.
-fn reads_until_due<F: Files>(rt: &impl Abort, alloc: Global, files: &mut F) -> Result<(), Fail> {
-    reads(rt, alloc, files, "a.c", 4, Ok(ReadExtent::Whole), b"int")?;
-    reads(rt, alloc, files, "a.c", 4, Err(FileFault::Failed), b"")?;
-    reads(rt, alloc, files, "b.c", 4, Err(FileFault::Failed), b"")?;
-    reads(rt, alloc, files, "a.c", 4, Ok(ReadExtent::Whole), b"int")
-}
+/// Reads of them, of which the second is due to fail, and the third is of a name that is not there.
+static MEMORY_READINGS: [Reading; 4] = [
+    ("a.c", 4, Ok(ReadExtent::Whole), b"int"),
+    ("a.c", 4, Err(FileFault::Failed), b""),
+    ("b.c", 4, Err(FileFault::Failed), b""),
+    ("a.c", 4, Ok(ReadExtent::Whole), b"int"),
+];
 
 #[test]
 fn files_in_memory_fail_at_the_listed_calls(rt: HostRuntime) -> Result<(), Fail> {
     let mut files = files_in_memory(rt.alloc())?;
-    reads_until_due(&rt, rt.alloc(), &mut files)
+    assert!(rt; all_read(rt.alloc(), &mut files, &MEMORY_READINGS));
+    Ok(())
 }

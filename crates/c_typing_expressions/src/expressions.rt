@@ -1,12 +1,14 @@
 //! The walk over expressions and type names.
 
-ghost use Rattle.std.specs.Prelude.{Some, []};
+ghost use Rattle.std.specs.Prelude.{◌≡◌, Some, []};
+ghost use Rattle.c_tree.specs.declared.expressions.Expr as form;
+ghost use Rattle.c_tree.specs.declared.types.TypeNode as declarator;
 ghost use Rattle.c_typing_state.specs.Checks.{Finds, walk};
 ghost use Rattle.c_typing_expressions.specs.Expressions as spec;
 ghost use Rattle.c_typing_expressions.specs.model.Parts as model;
 
 use bk_containers::{Box, Seq};
-use c_tree::{Expr, Parameter, TypeName, TypeNode};
+use c_tree::{AssignOp, BinaryOp, Expr, Parameter, StepOp, TypeName, TypeNode, UnaryOp};
 use c_typed_tree::CType;
 use c_typing_judgements::calls::call_by_meaning;
 use c_typing_judgements::leaves::leaf;
@@ -25,7 +27,8 @@ use c_typing_rules::c_typing_declared_types::DeclaredType;
 use c_typing_state::{Env, Notes, append_part, enter, keep_apart, leave, meaning_of, rejoin};
 use std::alloc::{AllocError, Global};
 
-/// Judges an expression.
+/// Judges an expression. Each form with parts is a function of its own, so that the frames stay small where expressions
+/// nest.
 #[cycle(expression)]
 #[tactic(auto, using(crate::proofs::Rows::rows), unfolding(crate::specs::model::Opens::opens))]
 pub fn judge<'a>(
@@ -45,83 +48,289 @@ pub fn judge<'a>(
             at,
             name,
             arguments,
-        } => {
-            let found = judges(alloc, arguments.as_slice(), env, notes)?;
-            let meaning = meaning_of(env, name.as_slice());
-            call_by_meaning(alloc, notes, *at, meaning, found)
-        }
-        Expr::Unary { at, op, operand } => {
-            let a = judge(alloc, operand, env, notes)?;
-            in_front(alloc, notes, *at, *op, a)
-        }
+        } => judge_call(
+            alloc,
+            arguments.as_slice(),
+            env,
+            notes,
+            *at,
+            name.as_slice(),
+        ),
+        Expr::Unary { at, op, operand } => judge_unary(alloc, operand, env, notes, *at, *op),
         Expr::Binary {
             at,
             op,
             left,
             right,
-        } => {
-            let a = judge(alloc, left, env, notes)?;
-            let b = judge(alloc, right, env, notes)?;
-            between(alloc, notes, *at, *op, a, b)
-        }
+        } => judge_binary(alloc, e, env, notes, *at, *op, left, right),
         Expr::Assign {
             at,
             op,
             left,
             right,
-        } => {
-            let a = judge(alloc, left, env, notes)?;
-            let b = judge(alloc, right, env, notes)?;
-            assignment(alloc, notes, *at, *op, a, b)
-        }
+        } => judge_assignment(alloc, e, env, notes, *at, *op, left, right),
         Expr::Conditional {
             at,
             condition,
             holds,
             fails,
-        } => {
-            let c = judge(alloc, condition, env, notes)?;
-            let a = judge(alloc, holds, env, notes)?;
-            let b = judge(alloc, fails, env, notes)?;
-            choice(alloc, notes, *at, c, a, b)
-        }
-        Expr::Cast { at, to, operand } => {
-            let to = judge_type_name(alloc, to, env, notes)?;
-            let a = judge(alloc, operand, env, notes)?;
-            cast(alloc, notes, *at, to, a)
-        }
-        Expr::SizeOfValue { at, operand } => {
-            let (addressed, texts) = keep_apart(alloc, notes);
-            let a = judge(alloc, operand, env, notes)?;
-            rejoin(notes, addressed, texts);
-            size_of_value(alloc, notes, *at, a)
-        }
-        Expr::SizeOfType { at, operand } => {
-            let of = judge_type_name(alloc, operand, env, notes)?;
-            size_of_name(alloc, notes, *at, of)
-        }
-        Expr::Index { at, left, right } => {
-            let a = judge(alloc, left, env, notes)?;
-            let b = judge(alloc, right, env, notes)?;
-            element(alloc, notes, *at, a, b)
-        }
+        } => judge_conditional(alloc, e, env, notes, *at, condition, holds, fails),
+        Expr::Cast { at, to, operand } => judge_cast(alloc, e, env, notes, *at, to, operand),
+        Expr::SizeOfValue { at, operand } => judge_size_of_value(alloc, operand, env, notes, *at),
+        Expr::SizeOfType { at, operand } => judge_size_of_type(alloc, operand, env, notes, *at),
+        Expr::Index { at, left, right } => { judge_element(alloc, e, env, notes, *at, left, right) }
         Expr::Field { at, operand, name } => {
-            let a = judge(alloc, operand, env, notes)?;
-            field_of(alloc, notes, *at, name.as_slice(), a)
+            judge_field(alloc, operand, env, notes, *at, name.as_slice())
         }
         Expr::Arrow { at, operand, name } => {
-            let a = judge(alloc, operand, env, notes)?;
-            arrow_of(alloc, notes, *at, name.as_slice(), a)
+            judge_arrow(alloc, operand, env, notes, *at, name.as_slice())
         }
-        Expr::Postfix { at, op, operand } => {
-            let a = judge(alloc, operand, env, notes)?;
-            behind(alloc, notes, *at, *op, a)
-        }
+        Expr::Postfix { at, op, operand } => judge_postfix(alloc, operand, env, notes, *at, *op),
         Expr::Comma { at, operands } => {
-            let found = judges(alloc, operands.as_slice(), env, notes)?;
-            commas(alloc, notes, *at, found)
+            judge_commas(alloc, operands.as_slice(), env, notes, *at)
         }
     }
+}
+
+/// Judges a call.
+#[cycle(expression)]
+#[tactic(auto, using(crate::proofs::Rows::rows), unfolding(crate::specs::model::Opens::opens))]
+fn judge_call<'a>(
+    alloc: Global,
+    arguments: &'a [Expr],
+    env: &mut Env<'a>,
+    notes: &mut Notes<'a>,
+    at: u32,
+    name: &'a [u8],
+) -> Result<Option<TypedExpression>, AllocError>
+    ensures { Finds (spec.judge (form.Call at name.now arguments.now) (env.old, notes.old))
+        result (env.new, notes.new) }
+{
+    let found = judges(alloc, arguments, env, notes)?;
+    let meaning = meaning_of(env, name);
+    call_by_meaning(alloc, notes, at, meaning, found)
+}
+
+/// Judges an operator in front of an operand.
+#[cycle(expression)]
+#[tactic(auto, using(crate::proofs::Rows::rows), unfolding(crate::specs::model::Opens::opens))]
+fn judge_unary<'a>(
+    alloc: Global,
+    operand: &'a Expr,
+    env: &mut Env<'a>,
+    notes: &mut Notes<'a>,
+    at: u32,
+    op: UnaryOp,
+) -> Result<Option<TypedExpression>, AllocError>
+    ensures { Finds (spec.judge (form.Unary at op operand.now) (env.old, notes.old)) result (env.new, notes.new) }
+{
+    let a = judge(alloc, operand, env, notes)?;
+    in_front(alloc, notes, at, op, a)
+}
+
+/// Judges an operator between two operands.
+#[cycle(expression)]
+#[tactic(auto, using(crate::proofs::Rows::rows), unfolding(crate::specs::model::Opens::opens))]
+fn judge_binary<'a>(
+    alloc: Global,
+    e: &'a Expr,
+    env: &mut Env<'a>,
+    notes: &mut Notes<'a>,
+    at: u32,
+    op: BinaryOp,
+    left: &'a Expr,
+    right: &'a Expr,
+) -> Result<Option<TypedExpression>, AllocError>
+    requires { e.now ≡ form.Binary at op left.now right.now }
+    ensures { Finds (spec.judge e.now (env.old, notes.old)) result (env.new, notes.new) }
+{
+    let a = judge(alloc, left, env, notes)?;
+    let b = judge(alloc, right, env, notes)?;
+    between(alloc, notes, at, op, a, b)
+}
+
+/// Judges an assignment.
+#[cycle(expression)]
+#[tactic(auto, using(crate::proofs::Rows::rows), unfolding(crate::specs::model::Opens::opens))]
+fn judge_assignment<'a>(
+    alloc: Global,
+    e: &'a Expr,
+    env: &mut Env<'a>,
+    notes: &mut Notes<'a>,
+    at: u32,
+    op: AssignOp,
+    left: &'a Expr,
+    right: &'a Expr,
+) -> Result<Option<TypedExpression>, AllocError>
+    requires { e.now ≡ form.Assign at op left.now right.now }
+    ensures { Finds (spec.judge e.now (env.old, notes.old)) result (env.new, notes.new) }
+{
+    let a = judge(alloc, left, env, notes)?;
+    let b = judge(alloc, right, env, notes)?;
+    assignment(alloc, notes, at, op, a, b)
+}
+
+/// Judges a choice.
+#[cycle(expression)]
+#[tactic(auto, using(crate::proofs::Rows::rows), unfolding(crate::specs::model::Opens::opens))]
+fn judge_conditional<'a>(
+    alloc: Global,
+    e: &'a Expr,
+    env: &mut Env<'a>,
+    notes: &mut Notes<'a>,
+    at: u32,
+    condition: &'a Expr,
+    holds: &'a Expr,
+    fails: &'a Expr,
+) -> Result<Option<TypedExpression>, AllocError>
+    requires { e.now ≡ form.Conditional at condition.now holds.now fails.now }
+    ensures { Finds (spec.judge e.now (env.old, notes.old)) result (env.new, notes.new) }
+{
+    let c = judge(alloc, condition, env, notes)?;
+    let a = judge(alloc, holds, env, notes)?;
+    let b = judge(alloc, fails, env, notes)?;
+    choice(alloc, notes, at, c, a, b)
+}
+
+/// Judges a cast.
+#[cycle(expression)]
+#[tactic(auto, using(crate::proofs::Rows::rows), unfolding(crate::specs::model::Opens::opens))]
+fn judge_cast<'a>(
+    alloc: Global,
+    e: &'a Expr,
+    env: &mut Env<'a>,
+    notes: &mut Notes<'a>,
+    at: u32,
+    to: &'a TypeName,
+    operand: &'a Expr,
+) -> Result<Option<TypedExpression>, AllocError>
+    requires { e.now ≡ form.Cast at to.now operand.now }
+    ensures { Finds (spec.judge e.now (env.old, notes.old)) result (env.new, notes.new) }
+{
+    let to = judge_type_name(alloc, to, env, notes)?;
+    let a = judge(alloc, operand, env, notes)?;
+    cast(alloc, notes, at, to, a)
+}
+
+/// Judges `sizeof` of an expression.
+#[cycle(expression)]
+#[tactic(auto, using(crate::proofs::Rows::rows), unfolding(crate::specs::model::Opens::opens))]
+fn judge_size_of_value<'a>(
+    alloc: Global,
+    operand: &'a Expr,
+    env: &mut Env<'a>,
+    notes: &mut Notes<'a>,
+    at: u32,
+) -> Result<Option<TypedExpression>, AllocError>
+    ensures { Finds (spec.judge (form.SizeOfValue at operand.now) (env.old, notes.old)) result (env.new, notes.new) }
+{
+    let (addressed, texts) = keep_apart(alloc, notes);
+    let a = judge(alloc, operand, env, notes)?;
+    rejoin(notes, addressed, texts);
+    size_of_value(alloc, notes, at, a)
+}
+
+/// Judges `sizeof` of a type name.
+#[cycle(expression)]
+#[tactic(auto, using(crate::proofs::Rows::rows), unfolding(crate::specs::model::Opens::opens))]
+fn judge_size_of_type<'a>(
+    alloc: Global,
+    operand: &'a TypeName,
+    env: &mut Env<'a>,
+    notes: &mut Notes<'a>,
+    at: u32,
+) -> Result<Option<TypedExpression>, AllocError>
+    ensures { Finds (spec.judge (form.SizeOfType at operand.now) (env.old, notes.old)) result (env.new, notes.new) }
+{
+    let of = judge_type_name(alloc, operand, env, notes)?;
+    size_of_name(alloc, notes, at, of)
+}
+
+/// Judges an element of an array.
+#[cycle(expression)]
+#[tactic(auto, using(crate::proofs::Rows::rows), unfolding(crate::specs::model::Opens::opens))]
+fn judge_element<'a>(
+    alloc: Global,
+    e: &'a Expr,
+    env: &mut Env<'a>,
+    notes: &mut Notes<'a>,
+    at: u32,
+    left: &'a Expr,
+    right: &'a Expr,
+) -> Result<Option<TypedExpression>, AllocError>
+    requires { e.now ≡ form.Index at left.now right.now }
+    ensures { Finds (spec.judge e.now (env.old, notes.old)) result (env.new, notes.new) }
+{
+    let a = judge(alloc, left, env, notes)?;
+    let b = judge(alloc, right, env, notes)?;
+    element(alloc, notes, at, a, b)
+}
+
+/// Judges a member of a struct.
+#[cycle(expression)]
+#[tactic(auto, using(crate::proofs::Rows::rows), unfolding(crate::specs::model::Opens::opens))]
+fn judge_field<'a>(
+    alloc: Global,
+    operand: &'a Expr,
+    env: &mut Env<'a>,
+    notes: &mut Notes<'a>,
+    at: u32,
+    name: &'a [u8],
+) -> Result<Option<TypedExpression>, AllocError>
+    ensures { Finds (spec.judge (form.Field at operand.now name.now) (env.old, notes.old)) result (env.new, notes.new) }
+{
+    let a = judge(alloc, operand, env, notes)?;
+    field_of(alloc, notes, at, name, a)
+}
+
+/// Judges a member of the struct that a pointer points to.
+#[cycle(expression)]
+#[tactic(auto, using(crate::proofs::Rows::rows), unfolding(crate::specs::model::Opens::opens))]
+fn judge_arrow<'a>(
+    alloc: Global,
+    operand: &'a Expr,
+    env: &mut Env<'a>,
+    notes: &mut Notes<'a>,
+    at: u32,
+    name: &'a [u8],
+) -> Result<Option<TypedExpression>, AllocError>
+    ensures { Finds (spec.judge (form.Arrow at operand.now name.now) (env.old, notes.old)) result (env.new, notes.new) }
+{
+    let a = judge(alloc, operand, env, notes)?;
+    arrow_of(alloc, notes, at, name, a)
+}
+
+/// Judges an operator behind an operand.
+#[cycle(expression)]
+#[tactic(auto, using(crate::proofs::Rows::rows), unfolding(crate::specs::model::Opens::opens))]
+fn judge_postfix<'a>(
+    alloc: Global,
+    operand: &'a Expr,
+    env: &mut Env<'a>,
+    notes: &mut Notes<'a>,
+    at: u32,
+    op: StepOp,
+) -> Result<Option<TypedExpression>, AllocError>
+    ensures { Finds (spec.judge (form.Postfix at op operand.now) (env.old, notes.old)) result (env.new, notes.new) }
+{
+    let a = judge(alloc, operand, env, notes)?;
+    behind(alloc, notes, at, op, a)
+}
+
+/// Judges operands of commas.
+#[cycle(expression)]
+#[tactic(auto, using(crate::proofs::Rows::rows), unfolding(crate::specs::model::Opens::opens))]
+fn judge_commas<'a>(
+    alloc: Global,
+    operands: &'a [Expr],
+    env: &mut Env<'a>,
+    notes: &mut Notes<'a>,
+    at: u32,
+) -> Result<Option<TypedExpression>, AllocError>
+    ensures { Finds (spec.judge (form.Comma at operands.now) (env.old, notes.old)) result (env.new, notes.new) }
+{
+    let found = judges(alloc, operands, env, notes)?;
+    commas(alloc, notes, at, found)
 }
 
 /// Judges expressions in their order.
@@ -212,26 +421,77 @@ pub fn derive<'a>(
         TypeNode::Named(_) => Ok(of),
         TypeNode::Enum { .. } => Ok(of),
         TypeNode::Struct { .. } => Ok(of),
-        TypeNode::Pointer(target) => {
-            let ty = derive(alloc, target, env, notes, at, of)?;
-            pointer(alloc, notes, at, ty)
-        }
+        TypeNode::Pointer(target) => derive_pointer(alloc, target, env, notes, at, of),
         TypeNode::Array { element, length } => {
-            let count = optional_length(alloc, length, env, notes)?;
-            let ty = derive(alloc, element, env, notes, at, of)?;
-            array(alloc, notes, at, count, ty)
+            derive_array(alloc, node, env, notes, at, of, element, length)
         }
         TypeNode::Takes {
             result,
             parameters: list,
-        } => {
-            let outside = enter(env);
-            let found = parameters(alloc, list.as_slice(), env, notes)?;
-            leave(env, outside);
-            let ty = derive(alloc, result, env, notes, at, of)?;
-            function(notes, at, found, ty)
-        }
+        } => derive_function(alloc, node, env, notes, at, of, result, list.as_slice()),
     }
+}
+
+/// The type that a declarator makes behind a star.
+#[cycle(expression)]
+#[tactic(auto, using(crate::proofs::Rows::rows), unfolding(crate::specs::model::Opens::opens))]
+fn derive_pointer<'a>(
+    alloc: Global,
+    target: &'a TypeNode,
+    env: &mut Env<'a>,
+    notes: &mut Notes<'a>,
+    at: u32,
+    of: Option<DeclaredType>,
+) -> Result<Option<DeclaredType>, AllocError>
+    ensures { Finds (spec.derive at (declarator.Pointer target.now) of (env.old, notes.old))
+        result (env.new, notes.new) }
+{
+    let ty = derive(alloc, target, env, notes, at, of)?;
+    pointer(alloc, notes, at, ty)
+}
+
+/// The type that a declarator makes in front of a length.
+#[cycle(expression)]
+#[tactic(auto, using(crate::proofs::Rows::rows), unfolding(crate::specs::model::Opens::opens))]
+fn derive_array<'a>(
+    alloc: Global,
+    whole: &'a TypeNode,
+    env: &mut Env<'a>,
+    notes: &mut Notes<'a>,
+    at: u32,
+    of: Option<DeclaredType>,
+    element: &'a TypeNode,
+    length: &'a Option<Box<Expr>>,
+) -> Result<Option<DeclaredType>, AllocError>
+    requires { whole.now ≡ declarator.Array element.now length.now }
+    ensures { Finds (spec.derive at whole.now of (env.old, notes.old)) result (env.new, notes.new) }
+{
+    let count = optional_length(alloc, length, env, notes)?;
+    let ty = derive(alloc, element, env, notes, at, of)?;
+    array(alloc, notes, at, count, ty)
+}
+
+/// The type that a declarator makes in front of a list of parameters.
+#[cycle(expression)]
+#[tactic(auto, using(crate::proofs::Rows::rows), unfolding(crate::specs::model::Opens::opens))]
+fn derive_function<'a>(
+    alloc: Global,
+    whole: &'a TypeNode,
+    env: &mut Env<'a>,
+    notes: &mut Notes<'a>,
+    at: u32,
+    of: Option<DeclaredType>,
+    returned: &'a TypeNode,
+    list: &'a [Parameter],
+) -> Result<Option<DeclaredType>, AllocError>
+    requires { whole.now ≡ declarator.Takes returned.now list.now }
+    ensures { Finds (spec.derive at whole.now of (env.old, notes.old)) result (env.new, notes.new) }
+{
+    let outside = enter(env);
+    let found = parameters(alloc, list, env, notes)?;
+    leave(env, outside);
+    let ty = derive(alloc, returned, env, notes, at, of)?;
+    function(notes, at, found, ty)
 }
 
 /// Judges a type name.

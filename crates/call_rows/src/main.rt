@@ -9,7 +9,7 @@ mod kind;
 
 use crate::kind::KINDS;
 use anyhow::Result;
-use row_example_endings::put_ending;
+use row_calls::endings::put_ending;
 use row_msc_calls::Msc;
 use row_sheets::{check_tables, end_of_checks};
 

@@ -1,5 +1,5 @@
 -- What a run has put that goes on is a front of what is put where it ends.
-use Rattle.std.proofs.Common.{◌≡◌, ℕ, ◌+◌, List, map, refl, sym, ap, ◌∙◌, subst, arith}
+use Rattle.std.proofs.Common.{◌≡◌, ℕ, ◌+◌, List, map, sym, ap, ◌∙◌, subst, arith}
 use Rattle.mem_model.specs.declared.value.Value.{Value}
 use Rattle.mem_model.specs.World.{World, Rooms}
 use Rattle.mem_model.specs.Ending.{Ending, ending_output}

@@ -1,5 +1,5 @@
 -- What `vm` answers for a text that has a unit.
-use Rattle.std.proofs.Common.{◌≡◌, ◌≢◌, ℕ, List, inl, inr, Some, refl, sym, ap, ◌∙◌, subst}
+use Rattle.std.proofs.Common.{◌≡◌, ◌≢◌, ℕ, List, inl, inr, refl, sym, ap, ◌∙◌, subst}
 use Rattle.mem_model.specs.World.{World, Rooms}
 use Rattle.mem_model.specs.Ending.{Ending, Done, Trap, Undefined, More, ending_output}
 use Rattle.suifvm_meaning.specs.Behave.{behave_vm}
@@ -15,7 +15,7 @@ use Rattle.suifvm_ir.specs.declared.program.VmProgram.{VmProgram}
 use Rattle.suifvm_run.specs.declared.ending.VmEnding.{VmEnding}
 use Rattle.suifvm_run.specs.declared.ending.VmEnding.TheVariants as ending
 use Rattle.suifvm_run.specs.Run.{VmBehaves, VmBehavesOn, GoesOn, program_run}
-use Rattle.lowering_theorem.specs.Laws.{CodeRunsAs, BehavesAsUnit, BehavioursAreKept}
+use Rattle.compiler_theorem.specs.RefinedCode.{CodeRefines, BehavesBelow, BehavioursAreRefined}
 use Rattle.call_outcomes.specs.declared.outcome.Outcome.{Outcome}
 use Rattle.call_outcomes.specs.declared.outcome.Outcome.TheVariants.{Ran, Trapped, Budget}
 use Rattle.compile_calls.specs.Built.{IsBuilt}
@@ -65,14 +65,14 @@ on_each text unit turns answer before after same answers =
     subst (λ t. OnInput before.left t.left (AnswersOn text unit turns answer before after)) (sym same)
     (on_nothing before.left (AnswersOn text unit turns answer before after) (λ rest may bytes ne. answers (behave_c unit rest turns)))
 
-module _ (one_tree : OneTree) (not_refused : TextsWithAUnitAreNotRefused) (one_ending : OneVmEnding) (keeps : VmKeepsOutput) (kept : BehavioursAreKept) where
-  by_ending_on : (text : List ℕ) (unit : TypedUnit) (turns : ℕ) (before after : Traffic) (program : VmProgram) (v : VmEnding) → CodeRunsAs unit program
+module _ (one_tree : OneTree) (not_refused : TextsWithAUnitAreNotRefused) (one_ending : OneVmEnding) (keeps : VmKeepsOutput) (refined : BehavioursAreRefined) where
+  by_ending_on : (text : List ℕ) (unit : TypedUnit) (turns : ℕ) (before after : Traffic) (program : VmProgram) (v : VmEnding) → CodeRefines unit program
       → (input rest : List ℕ) → VmBehavesOn program turns v before after input rest → AnswersOn text unit turns (outcome_of_ending turns v) before after input rest
   by_ending_on text unit turns before after program v does input rest behaves bytes ne =
-      let it : BehavesAsUnit unit program input turns = kept unit program does input turns bytes ne in
+      let it : BehavesBelow unit program input turns = refined unit program does input turns bytes ne in
       by_ending text turns before after (behave_c unit input turns) one_ending keeps ne (rooms_of unit) program input it.ending it.ends it.behaviour rest v (behaves (rooms_of unit))
 
-  by_program : (text : List ℕ) (unit : TypedUnit) (turns : ℕ) (answer : Outcome) (before after : Traffic) (program : VmProgram) → CodeRunsAs unit program
+  by_program : (text : List ℕ) (unit : TypedUnit) (turns : ℕ) (answer : Outcome) (before after : Traffic) (program : VmProgram) → CodeRefines unit program
       → RunsProgram turns program answer before after → OnInput before.left after.left (AnswersOn text unit turns answer before after)
   by_program text unit turns answer before after program does runs =
       subst (λ a. OnInput before.left after.left (AnswersOn text unit turns a before after)) (sym runs.1)
@@ -88,5 +88,5 @@ module _ (one_tree : OneTree) (not_refused : TextsWithAUnitAreNotRefused) (one_e
     | inr m ↦
         let is : IsBuilt text allocator m.0 = of_text text allocator m.0 m.1 in
         let same : m.0.typed.unit ≡ unit = same_unit one_tree text unit allocator m.0 has is in
-        by_program text unit turns answer before after m.0.vm (subst (λ u. CodeRunsAs u m.0.vm) same is.made.code_runs) m.2
+        by_program text unit turns answer before after m.0.vm (subst (λ u. CodeRefines u m.0.vm) same is.made.code_runs) m.2
   ]

@@ -3,7 +3,7 @@
 ghost use Rattle.compile_call_laws.specs.Laws.{TextsWithAUnitAreNotRefused, BuildWritesWhatTheTextMeans, RunDoesWhatTheTextMeans, VmAnswersAsTheTextMeans};
 
 use c_parser::laws::{one_tree, read_or_refused};
-use lowering_theorem::laws::behaviours_are_kept;
+use compiler_theorem::refined_code::laws::behaviours_are_refined;
 use suifvm_meaning::laws::{one_ending, runs_go_on};
 
 /// A text that has a unit within the limits is refused by no command that compiles it, unless the file fails or
@@ -45,5 +45,5 @@ pub fn vm_answers_as_the_text_means()
     read_or_refused();
     one_ending();
     runs_go_on();
-    behaviours_are_kept();
+    behaviours_are_refined();
 }

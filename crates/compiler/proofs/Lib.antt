@@ -1,4 +1,5 @@
 pub mod Registers
+pub mod Rewritten
 pub mod Stages
 pub mod Images
 pub mod Parts

@@ -1,10 +1,9 @@
 -- What was made of a text, as far as it was kept.
 use Rattle.std.proofs.Common.{◌≡◌, ℕ, ◌*◌, ◌<◌, ◌≤◌, ◌^◌, List, Option, Some, length, refl, sym, ap, ◌∙◌, subst, arith}
-use Rattle.std.specs.Prelude.{Result, Ok, Err, IfOk, unwrap_or}
+use Rattle.std.specs.Prelude.{Result, IfOk, unwrap_or}
 use Rattle.std.specs.Global.{Global, Vec}
 use denote.RawPtr.{null_ptr}
 use Rattle.alpha_isa.specs.Program.{Program, IsLawful}
-use Rattle.alpha_items.specs.Assembly.{Assembly}
 use Rattle.alpha_items.specs.Words.{Words}
 use Rattle.alpha_items.proofs.Unique.{length-words}
 use Rattle.alpha_asm.specs.Fault.{HasFewWords}
@@ -36,7 +35,7 @@ use Rattle.compiler.specs.declared.built.WantedParts.TheVariants.{Everything, Im
 use Rattle.compiler.specs.Made.{Made, gives}
 use Rattle.compiler.specs.Images.{IsImageOfText}
 use Rattle.compiler.specs.model.Parts.{UnitHasText, IsKept, AreAssemblyPartsOf, parts_of_built, PartsAreWhole, ArePartsOf}
-use Rattle.compiler.specs.model.Stages.{DoesAsUnit, IsLoweredUnit, IsSelectedProgram, ArePassed, IsCodeWithin, ProgramCanBeAssembled, IsAssemblyOfUnit, AssembliesAreMade, ImagesAreCorrect}
+use Rattle.compiler.specs.model.Stages.{DoesAsUnit, IsRewrittenUnit, IsLoweredUnit, IsSelectedProgram, ArePassed, IsCodeWithin, ProgramCanBeAssembled, IsAssemblyOfUnit, AssembliesAreMade, ImagesAreCorrect}
 use Rattle.compiler.proofs.Registers.{lowered_stand, unit_registers}
 use Rattle.compiler.proofs.Stages.{made_of}
 
@@ -52,13 +51,10 @@ lowered_unit keep u vm light functions globals weights size =
     let stand : AllStandFor u.unit.structs u.unit.functions vm.functions = lowered_stand u.unit.structs u.unit.functions vm.functions functions weights in
     record {
       code = record { functions = functions; globals = globals };
-      does = record {
-        functions = stand;
-        globals = globals;
-        runs = keep u.unit vm u.lawful.typed (record { functions = functions; globals = globals });
-        size = size;
-        registers = unit_registers u.unit vm.functions stand light;
-      };
+      functions = stand;
+      runs = keep u.unit vm u.lawful.typed (record { functions = functions; globals = globals });
+      size = size;
+      registers = unit_registers u.unit vm.functions stand light;
     }
 
 -- ---- the assembly
@@ -91,6 +87,7 @@ same_built : (b c : Built) → parts_of_built b ≡ parts_of_built c → b ≡ c
 same_built b c e = ap (λ (p : Parts). record {
   unit = unwrap_or p.unit b.unit;
   typed = unwrap_or p.typed b.typed;
+  rewritten = unwrap_or p.rewritten b.rewritten;
   vm = unwrap_or p.vm b.vm;
   temps = unwrap_or p.temps b.temps;
   allocations = unwrap_or p.allocations b.allocations;
@@ -118,13 +115,13 @@ whole_correct correct text allocator p b m is = subst (IsCorrectImage text) (ap 
 -- ---- what was made of a unit
 
 -- all of them, where each was kept
-pub all_kept : (b : Built) (p : Parts) → p.unit ≡ Some b.unit → p.typed ≡ Some b.typed → p.vm ≡ Some b.vm → p.temps ≡ Some b.temps → p.allocations ≡ Some b.allocations → p.asm ≡ Some b.asm → p.image ≡ b.image → p ≡ parts_of_built b
-all_kept b p unit typed vm temps allocations asm image = λ i. record { unit = unit i; typed = typed i; vm = vm i; temps = temps i; allocations = allocations i; asm = asm i; image = image i }
+pub all_kept : (b : Built) (p : Parts) → p.unit ≡ Some b.unit → p.typed ≡ Some b.typed → p.rewritten ≡ Some b.rewritten → p.vm ≡ Some b.vm → p.temps ≡ Some b.temps → p.allocations ≡ Some b.allocations → p.asm ≡ Some b.asm → p.image ≡ b.image → p ≡ parts_of_built b
+all_kept b p unit typed rewritten vm temps allocations asm image = λ i. record { unit = unit i; typed = typed i; rewritten = rewritten i; vm = vm i; temps = temps i; allocations = allocations i; asm = asm i; image = image i }
 
 pub code_within : (u : TypedUnit) (vm : VmProgram) (selected temps : TempProgram) → DoesAsUnit u vm → IsSelectedProgram vm selected → ArePassed selected temps → IsCodeWithin u vm temps
 code_within u vm selected temps does selection passed = record { does = does; selected = selected; selection = selection; passed = passed }
 
-module _ (made : AssembliesAreMade) (allocator : Allocator) (wanted : WantedParts) (unit : TranslationUnit) (typed : LawfulUnit) (vm : VmProgram) (temps : TempProgram) (code : IsCodeWithin typed.unit vm temps) (q : AssemblyParts)
+module _ (made : AssembliesAreMade) (allocator : Allocator) (wanted : WantedParts) (unit : TranslationUnit) (typed rewritten : LawfulUnit) (vm : VmProgram) (temps : TempProgram) (code : IsCodeWithin typed.unit vm temps) (q : AssemblyParts)
     (of : AreAssemblyPartsOf (gives allocator) temps wanted q) where
   assembly_of_unit : (text : List ℕ) → IsUnitWithin text unit typed.unit → IsAssemblyOfUnit typed.unit vm temps of.allocations.items q.asm
   assembly_of_unit text front = made text unit typed vm temps of.allocations.items q.asm front code of.are of.assembly
@@ -133,12 +130,12 @@ module _ (made : AssembliesAreMade) (allocator : Allocator) (wanted : WantedPart
   few_words h = (assembly_of_unit h.text h.front).few_words
 
   abbrev pub built_of : Program → Built
-  built_of image = record { unit = unit; typed = typed; vm = vm; temps = temps; allocations = of.allocations; asm = q.asm; image = image }
+  built_of image = record { unit = unit; typed = typed; rewritten = rewritten; vm = vm; temps = temps; allocations = of.allocations; asm = q.asm; image = image }
 
-  pub unit_parts : (p : Parts) → Words q.asm p.image → IsLawful p.image → (wanted ≡ Everything → p ≡ parts_of_built (built_of p.image)) → IsCodeOf typed.unit vm → (text : List ℕ) → IsUnitWithin text unit typed.unit → ArePartsOf text allocator wanted p
-  unit_parts p words lawful kept lowered text front = record {
+  pub unit_parts : (p : Parts) → Words q.asm p.image → IsLawful p.image → (wanted ≡ Everything → p ≡ parts_of_built (built_of p.image)) → IsRewrittenUnit typed.unit rewritten.unit → IsCodeOf rewritten.unit vm → (text : List ℕ) → IsUnitWithin text unit typed.unit → ArePartsOf text allocator wanted p
+  unit_parts p words lawful kept is lowered text front = record {
     built = built_of p.image;
-    made = made_of text allocator (built_of p.image) front lowered code of.are of.by of.assembly (assembly_of_unit text front) words lawful;
+    made = made_of text allocator (built_of p.image) front is lowered code of.are of.by of.assembly (assembly_of_unit text front) words lawful;
     image = refl;
     short = subst (λ n. n ≤ 2048 * unit_weight typed.unit) (sym (length-words q.asm p.image words)) ((assembly_of_unit text front).short words.far);
     all = kept;

@@ -42,7 +42,7 @@ use Rattle.call_words.specs.declared.compile_options.Allocator.{Allocator}
 use Rattle.compiler_front_end.specs.Units.{IsUnitWithin}
 use Rattle.compiler.specs.declared.built.Built.{Built}
 use Rattle.compiler.specs.Made.{Made, IsCalledAs, AllocatesBy}
-use Rattle.compiler.specs.model.Stages.{IsCodeWithin, CanBeLaidOut, CodeCanBeAssembled, IsAssemblyOf, IsAssemblyOfUnit, AssembliesAreMade}
+use Rattle.compiler.specs.model.Stages.{IsRewrittenUnit, IsCodeWithin, CanBeLaidOut, CodeCanBeAssembled, IsAssemblyOf, IsAssemblyOfUnit, AssembliesAreMade}
 
 -- the functions of a program are those of its unit
 functions_of : TempFunctionsFit → (u : TypedUnit) (vm : VmProgram) (temps : TempProgram) → IsCodeWithin u vm temps → AreTempFunctionsOf u temps
@@ -151,11 +151,13 @@ assemblies_are_made selections functions_fit have_frames fit_rooms fit near are_
 -- ---- the image
 
 -- what was made of a text
-pub made_of : (text : List ℕ) (allocator : Allocator) (b : Built) → IsUnitWithin text b.unit b.typed.unit → IsCodeOf b.typed.unit b.vm → IsCodeWithin b.typed.unit b.vm b.temps → AreAllocationsOf b.temps.functions b.allocations.items
+pub made_of : (text : List ℕ) (allocator : Allocator) (b : Built) → IsUnitWithin text b.unit b.typed.unit → IsRewrittenUnit b.typed.unit b.rewritten.unit → IsCodeOf b.rewritten.unit b.vm → IsCodeWithin b.typed.unit b.vm b.temps → AreAllocationsOf b.temps.functions b.allocations.items
     → AllocatesBy allocator b.temps.functions b.allocations.items → IsAssemblyOf b.temps b.allocations.items b.asm → IsAssemblyOfUnit b.typed.unit b.vm b.temps b.allocations.items b.asm → Words b.asm b.image → IsLawful b.image
     → Made text allocator b
-made_of text allocator b front lowered code are by assembly made words lawful = record {
+made_of text allocator b front rewritten lowered code are by assembly made words lawful = record {
   front = front;
+  rewritten = rewritten.is;
+  refines = rewritten.refines;
   code = lowered;
   code_runs = code.does.runs;
   selection = made.selection;

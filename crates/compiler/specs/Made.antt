@@ -6,7 +6,10 @@ use Rattle.alpha_items.specs.Assembly.{IsWhole}
 use Rattle.alpha_items.specs.Words.{Words}
 use Rattle.c_semantics.specs.Behaves.{rooms_of}
 use Rattle.suifvm_ir.specs.Programs.{VmFunction}
-use Rattle.lowering_theorem.specs.Laws.{IsCodeOf, CodeRunsAs}
+use Rattle.c_semantics.specs.Refines.{UnitRefines}
+use Rattle.c_rewrite.specs.Rewritten.{IsRewritten}
+use Rattle.lowering_theorem.specs.Laws.{IsCodeOf}
+use Rattle.compiler_theorem.specs.RefinedCode.{CodeRefines}
 use Rattle.temp_ir.specs.Programs.{TempFn}
 use Rattle.selection_laws.specs.Laws.{SelectionKeeps}
 use Rattle.block_passes.specs.Clauses.{IsReached, IsSplit}
@@ -37,16 +40,21 @@ AllocatesBy allocator functions allocations = AllZip (gives allocator) functions
 pub record Made (text : List ℕ) (allocator : Allocator) (b : Built) : Type 0 where
   -- the tree of the text, and its typed unit, which is lawful and within the limits
   pub front : IsUnitWithin text b.unit b.typed.unit
-  -- the code over virtual registers: each function is that of the unit's with its number, and it runs as the unit
-  pub code : IsCodeOf b.typed.unit b.vm
-  pub code_runs : CodeRunsAs b.typed.unit b.vm
+  -- the rewritten unit: each outermost expression is what the three rules make of it, and nothing else changed. It
+  -- refines the typed unit
+  pub rewritten : IsRewritten b.typed.unit b.rewritten.unit
+  pub refines : UnitRefines b.rewritten.unit b.typed.unit
+  -- the code over virtual registers: each function is that of the rewritten unit's with its number, and it runs as the
+  -- typed unit, with a peak that is not above
+  pub code : IsCodeOf b.rewritten.unit b.vm
+  pub code_runs : CodeRefines b.typed.unit b.vm
   -- the code over temporaries: each function is that of the code over virtual registers with its number
   pub called : AllZip IsCalledAs b.vm.functions b.temps.functions
   pub selection : SelectionKeeps b.vm b.temps
   -- what the passes over its blocks are for
   pub reached : All IsReached b.temps.functions
   pub split : All IsSplit b.temps.functions
-  -- a faithful allocation of each function, in a frame that fits the room of the unit's function
+  -- a faithful allocation of each function, in a frame that fits the room of the typed unit's function
   pub allocations : AreAllocationsOf b.temps.functions b.allocations.items
   pub by : AllocatesBy allocator b.temps.functions b.allocations.items
   pub allocated : IsAllocated b.temps b.allocations.items (rooms_of b.typed.unit)

@@ -18,7 +18,9 @@ pub struct Built {
     pub unit: TranslationUnit,
     /// Its typed unit, which is lawful.
     pub typed: LawfulUnit,
-    /// The code of the unit over virtual registers.
+    /// That unit as the three rules rewrite it.
+    pub rewritten: LawfulUnit,
+    /// The code of the rewritten unit over virtual registers.
     pub vm: VmProgram,
     /// The Alpha code over temporaries, whose functions have no block to which no path leads and no critical edge.
     pub temps: TempProgram,
@@ -71,6 +73,7 @@ pub(crate) struct AssemblyParts {
 pub(crate) struct Parts {
     pub(crate) unit: Option<TranslationUnit>,
     pub(crate) typed: Option<LawfulUnit>,
+    pub(crate) rewritten: Option<LawfulUnit>,
     pub(crate) vm: Option<VmProgram>,
     pub(crate) temps: Option<TempProgram>,
     pub(crate) allocations: Option<Vec<Allocation>>,
@@ -87,6 +90,7 @@ impl Parts {
         let Parts {
             unit,
             typed,
+            rewritten,
             vm,
             temps,
             allocations,
@@ -96,6 +100,7 @@ impl Parts {
         Built {
             unit: unit.unwrap(),
             typed: typed.unwrap(),
+            rewritten: rewritten.unwrap(),
             vm: vm.unwrap(),
             temps: temps.unwrap(),
             allocations: allocations.unwrap(),

@@ -5,16 +5,52 @@ ghost use Rattle.c_typed_tree.specs.Weight.{unit_weight};
 ghost use Rattle.c_typing_weight.specs.Limits.{most_weight};
 ghost use Rattle.suifvm_ir.specs.Programs.{VmFunction, program_size};
 ghost use Rattle.compiler.specs.model.Parts.{IsKept};
-ghost use Rattle.compiler.specs.model.Stages.{IsLoweredUnit, IsSelectedProgram};
+ghost use Rattle.compiler.specs.model.Stages.{IsRewrittenUnit, IsLoweredUnit, IsSelectedProgram};
 
 use crate::built::{PassParts, WantedParts};
 use alpha_select::{select, select_in_turn};
+use c_rewrite::rewrite_unit;
 use c_typed_tree::c_lawful_unit::LawfulUnit;
+use c_typed_tree::copy_unit;
 use lowering::{lower, lower_in_turn};
 use lowering_theorem::laws::programs_keep_meaning;
 use std::alloc::{AllocError, Global};
 use suifvm_ir::program::VmProgram;
 use temp_ir::program::TempProgram;
+
+/// A unit as the three rules rewrite it. Where everything is wanted, it is a copy of the unit that is rewritten.
+pub(crate) fn rewrite(
+    alloc: Global,
+    typed: LawfulUnit,
+    wanted: WantedParts,
+) -> Result<PassParts<LawfulUnit, LawfulUnit>, AllocError>
+    ensures kept { IfOk result (λ p. IsKept wanted typed p.given) }
+    ensures made { IfOk result (λ p. IsRewrittenUnit typed.unit p.made.unit) }
+{
+    match wanted {
+        WantedParts::Everything => {
+            let unit = copy_unit(alloc, &typed.unit)?;
+            let made = rewrite_lawful(alloc, LawfulUnit { unit })?;
+            Ok(PassParts {
+                given: Some(typed),
+                made,
+            })
+        }
+        WantedParts::Image => {
+            let made = rewrite_lawful(alloc, typed)?;
+            Ok(PassParts { given: None, made })
+        }
+    }
+}
+
+/// A unit that is rewritten in its place.
+fn rewrite_lawful(alloc: Global, typed: LawfulUnit) -> Result<LawfulUnit, AllocError>
+    ensures { IfOk result (λ made. IsRewrittenUnit typed.unit made.unit) }
+{
+    let LawfulUnit { unit } = typed;
+    let unit = rewrite_unit(alloc, unit)?;
+    Ok(LawfulUnit { unit })
+}
 
 /// The code of a unit over virtual registers. Where the image alone is wanted, each function of the unit is let go as
 /// soon as it is lowered.

@@ -15,8 +15,10 @@ ghost use Rattle.compiler.specs.model.Parts.{UnitHasText, ArePartsOf};
 
 use crate::assembly::assemble_by_choice;
 use crate::built::{AssemblyParts, Built, Parts, PassParts, WantedParts};
-use crate::code::{lower_unit, select_code};
-use crate::laws::{assemblies_are_made, code_can_be_assembled, images_are_correct};
+use crate::code::{lower_unit, rewrite, select_code};
+use crate::laws::{
+    assemblies_are_made, code_can_be_assembled, images_are_correct, rewritten_code_does_as_unit,
+};
 use alpha_asm::assemble::{AsmFault, assemble};
 use alpha_isa::image::Image;
 use alpha_items::asm::Asm;
@@ -82,8 +84,13 @@ fn make(
     let unit = wanted.keep(unit);
     let PassParts {
         given: typed,
+        made: rewritten,
+    } = rewrite(alloc, typed, wanted)?;
+    let PassParts {
+        given: rewritten,
         made: vm,
-    } = lower_unit(alloc, typed, wanted)?;
+    } = lower_unit(alloc, rewritten, wanted)?;
+    rewritten_code_does_as_unit();
     let PassParts {
         given: vm,
         made: selected,
@@ -101,6 +108,7 @@ fn make(
     Ok(Parts {
         unit,
         typed,
+        rewritten,
         vm,
         temps,
         allocations,

@@ -1,2 +1,3 @@
+pub mod RefinedCode
 pub mod UnitImages
 pub mod SameBehaviour

@@ -2,5 +2,6 @@
 //! behaves as the unit does.
 #![tactic(auto)]
 
+pub mod refined_code;
 pub mod same_behaviour;
 pub mod unit_images;

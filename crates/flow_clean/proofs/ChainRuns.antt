@@ -95,7 +95,7 @@ module _ (rooms : Rooms) (fs gs : List FunctionCode) (all : FunctionsAreChained 
       function = refl;
       does = λ own o. refl;
       turn = refl;
-      put = λ _ vs. record { points = AtOne refl; store = refl };
+      put = λ vs _. record { points = AtOne refl; store = refl };
       edge = λ k block e. record { other = block; there = e; related = record { points = AtOne refl; store = refl } };
     }
 
@@ -107,7 +107,7 @@ module _ (rooms : Rooms) (fs gs : List FunctionCode) (all : FunctionsAreChained 
       function = refl;
       does = λ own o. sym (ap (λ rs. does (retargeted chained.ends i) own (map r rs) o) (reads_same chained.ends i) ∙ does_same chained.ends own (map r (reads_of i)) o i);
       turn = sym (turn_same chained.ends i);
-      put = λ _ vs. record { points = AtOne refl; store = ap (λ ws. set_registers ws vs r) (writes_same chained.ends i) };
+      put = λ vs _. record { points = AtOne refl; store = ap (λ ws. set_registers ws vs r) (writes_same chained.ends i) };
       edge = λ k block e. record {
         other = slice_index_or chained.ends block 0;
         there = ap (λ ts. slice_get ts k) (targets_are chained.ends i) ∙ mapped_target (targets_of i) k block e;

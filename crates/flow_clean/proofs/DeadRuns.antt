@@ -123,7 +123,7 @@ module _ (only : OnlyTheseVmInstructionsTrap) (rooms : Rooms) (fs gs : List Func
           function = refl;
           does = λ own o. refl;
           turn = refl;
-          put = λ _ vs. Where (suc j) refl (record {
+          put = λ vs _. Where (suc j) refl (record {
             f = a.f;
             g = a.g;
             f_is = a.f_is;
@@ -191,7 +191,7 @@ module _ (only : OnlyTheseVmInstructionsTrap) (rooms : Rooms) (fs gs : List Func
         function = refl;
         does = λ own o. ap (λ vs. does i own vs o) (sym (read_same (reads_of i) r s (λ k read. wants k (either (has_register (reads_of i) k) (not (has_register (writes_of i) k) && is_wanted bottom (cleaned bottom ys) k) (inl read)))));
         turn = refl;
-        put = λ goes vs. Where (suc j) refl (record {
+        put = λ vs goes. Where (suc j) refl (record {
           f = a.f;
           g = a.g;
           f_is = a.f_is;
@@ -203,7 +203,7 @@ module _ (only : OnlyTheseVmInstructionsTrap) (rooms : Rooms) (fs gs : List Func
           block_is = a.block_is;
           rest = d.1;
           behind = after.1;
-          onward = λ none. next_follows a.insns i p.block (last_is a.insns p.at i (a.rest ∙ xs_is ∙ ap (λ l. i ∷ l) none)) (flows goes);
+          onward = λ none. next_follows a.insns i p.block (last_is a.insns p.at i (a.rest ∙ xs_is ∙ ap (λ l. i ∷ l) none)) (flows vs goes);
           agree = λ k wanted. same_behind (writes_of i) vs r s k (λ unwrit. wants k (behind_too k unwrit wanted));
         });
         edge = λ k block e. lands k block e;
@@ -223,9 +223,9 @@ module _ (only : OnlyTheseVmInstructionsTrap) (rooms : Rooms) (fs gs : List Func
               either (has_register (reads_of i) k) (not (has_register (writes_of i) k) && is_wanted bottom (cleaned bottom ys) k)
               (inr (and_made (has_register (writes_of i) k) (is_wanted bottom (cleaned bottom ys) k) unwrit wanted))
 
-          flows : GoesOn Value Registers Registers rooms (vm_code fs) (vm_code gs) R (insn_site i) r → flows_on_of i ≡ true
-          flows (ByWriting own o v us e) = writing_flows i own (map r (reads_of i)) us o v e
-          flows (ByCalling own o v g us e) = calling_flows i own (map r (reads_of i)) us g o v e
+          flows : (vs : List Value) → GoesOn Value Registers Registers rooms (vm_code fs) (vm_code gs) R (insn_site i) r vs → flows_on_of i ≡ true
+          flows vs (ByWriting own o v e) = writing_flows i own (map r (reads_of i)) vs o v e
+          flows vs (ByCalling own o v g us e) = calling_flows i own (map r (reads_of i)) us g o v e
 
           lands : (k block : ℕ) → slice_get (targets_of i) k ≡ Some block → LandsAlike Value Registers Registers rooms (vm_code fs) (vm_code gs) R p (place p j) (insn_site i) (insn_site i) r s k block
           lands k block e =

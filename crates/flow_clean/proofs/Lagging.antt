@@ -19,17 +19,17 @@ module _ (V S T : Type 0) (rooms : Rooms) (c : Code V S) (d : Code V T) (R : Poi
     pub there : slice_get t.targets k ≡ Some other
     pub related : R (block_point p block) (block_point q other) (c.edge p block (s.put [] x)) (d.edge q other (t.put [] y))
 
-  -- the instruction writes or calls, and so the next one of its block may follow
-  pub data GoesOn (s : Site V S) (x : S) : Type 0 where
-    ByWriting : (own : ℕ) (o after : Outer) (vs : List V) → s.does own (s.fetch x) o ≡ Writes vs after → GoesOn s x
-    ByCalling : (own : ℕ) (o after : Outer) (g : ℕ) (vs : List V) → s.does own (s.fetch x) o ≡ Calls g vs after → GoesOn s x
+  -- the instruction writes these values, or it calls and is given them, and so the next one of its block may follow
+  pub data GoesOn (s : Site V S) (x : S) (vs : List V) : Type 0 where
+    ByWriting : (own : ℕ) (o after : Outer) → s.does own (s.fetch x) o ≡ Writes vs after → GoesOn s x vs
+    ByCalling : (own : ℕ) (o after : Outer) (g : ℕ) (us : List V) → s.does own (s.fetch x) o ≡ Calls g us after → GoesOn s x vs
 
   -- both take the same step
   pub record BothStep (p q : Point) (s : Site V S) (t : Site V T) (x : S) (y : T) : Type 0 where
     pub function : p.function ≡ q.function
     pub does : (own : ℕ) (o : Outer) → s.does own (s.fetch x) o ≡ t.does own (t.fetch y) o
     pub turn : s.turn ≡ t.turn
-    pub put : GoesOn s x → (vs : List V) → R (next_point p) (next_point q) (s.put vs x) (t.put vs y)
+    pub put : (vs : List V) → GoesOn s x vs → R (next_point p) (next_point q) (s.put vs x) (t.put vs y)
     pub edge : (k block : ℕ) → slice_get s.targets k ≡ Some block → LandsAlike p q s t x y k block
 
   -- the first one writes or jumps alone, or has no meaning
@@ -57,7 +57,7 @@ module _ (V S T : Type 0) (rooms : Rooms) (c : Code V S) (d : Code V T) (R : Poi
     pub there : c.site a.point ≡ Some s
     pub there' : d.site b.point ≡ Some t
     pub both : BothStep a.point b.point s t a.store b.store
-    pub goes : GoesOn s a.store
+    pub goes : (vs : List V) → GoesOn s a.store vs
 
   abbrev pub AllWait : List (Frame S) → List (Frame T) → Type 0
   AllWait [] [] = Unit {0}
@@ -78,7 +78,7 @@ module _ (V S T : Type 0) (rooms : Rooms) (c : Code V S) (d : Code V T) (R : Poi
           BothGo (next_point a.point) (next_point b.point) a.own (h.s.put vs a.store) (h.t.put vs b.store) fs hs u
           (ap (resume V S rooms c a fs u vs) h.there)
           (ap (resume V T rooms d b hs u vs) h.there' ∙ ap (λ j. Goes (config (next_point b.point) j (h.t.put vs b.store) hs u)) (sym h.own))
-          (h.both.put h.goes vs) all
+          (h.both.put vs (h.goes vs)) all
 
       statuses : (at at' : ℕ) (u : World) (o : Option ℕ) → Stepped q own y gs w (Over (status_ending V S rooms c at u o)) (Over (status_ending V T rooms d at' u o))
       statuses at at' u None = NoMeaning u at refl
@@ -111,13 +111,13 @@ module _ (V S T : Type 0) (rooms : Rooms) (c : Code V S) (d : Code V T) (R : Poi
         stops HasNoMeaning u = NoMeaning u (c.number p) refl
 
         acts : (m : Meter) (a : Act V) → s.does own (s.fetch x) w.outer ≡ a → Stepped q own y gs w (act_on V S rooms c K m s a) (act_on V T rooms d L m t a)
-        acts m (Writes vs o) e = BothGo (next_point p) (next_point q) own (s.put vs x) (t.put vs y) fs gs (whole_world o m) refl refl (both.put (ByWriting own w.outer o vs e) vs) all
+        acts m (Writes vs o) e = BothGo (next_point p) (next_point q) own (s.put vs x) (t.put vs y) fs gs (whole_world o m) refl refl (both.put vs (ByWriting own w.outer o e)) all
         acts m (Jumps n o) e = jumps (whole_world o m) n (slice_get s.targets n) refl
         acts m (Calls g vs o) e =
             BothGo (entry_point g) (entry_point g) (length o.memory) (c.entry g vs) (d.entry g vs) (record { point = p; own = own; store = x } ∷ fs) (record { point = q; own = own; store = y } ∷ gs)
             (whole_world (begin_locals o (c.locals g)) (enter_call rooms g m)) refl
             (ap (λ sizes. Goes (config (entry_point g) (length o.memory) (d.entry g vs) (record { point = q; own = own; store = y } ∷ gs) (whole_world (begin_locals o sizes) (enter_call rooms g m)))) (sym (lags.locals g)))
-            (lags.entry g vs) (record { own = refl; s = s; t = t; there = there; there' = there'; both = both; goes = ByCalling own w.outer o g vs e }, all)
+            (lags.entry g vs) (record { own = refl; s = s; t = t; there = there; there' = there'; both = both; goes = λ us. ByCalling own w.outer o g vs e }, all)
         acts m (Returns vs o) e =
             subst (λ u. Stepped q own y gs w (return_to V S rooms c (c.number p) vs (whole_world (end_locals o own (length (c.locals p.function))) (leave_call rooms p.function m)) fs) (return_to V T rooms d (d.number q) vs u gs))
             (ap (λ (sizes : List ℕ). whole_world (end_locals o own (length sizes)) (leave_call rooms p.function m)) (lags.locals p.function) ∙ ap (λ f. whole_world (end_locals o own (length (d.locals f))) (leave_call rooms f m)) both.function)

@@ -6,3 +6,14 @@ pub mod ChainFunctions
 pub mod DroppedActs
 pub mod WantedRegisters
 pub mod DeadRuns
+pub mod WantedSets
+pub mod CleanedLists
+pub mod Thinned
+pub mod CleanedFunctions
+pub mod OtherReads
+pub mod LastWrites
+pub mod CopyReads
+pub mod Renamed
+pub mod CopyRuns
+pub mod Fronts
+pub mod CopiedBlocks

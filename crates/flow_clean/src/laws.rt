@@ -1,11 +1,17 @@
 //! Laws, each the contract of a function that does nothing.
 
 ghost use Rattle.flow_clean.specs.ChainRuns.{ChainsKeepRuns};
+ghost use Rattle.flow_clean.specs.Copies.{ReadingOriginsKeepsRuns};
 ghost use Rattle.flow_clean.specs.Dead.{CleaningKeepsRuns, NoneIsLeftDead, NoSumRises};
 
 /// A run that ends with a meaning ends so too where jumps go on past those that are only instructions.
 pub fn chains_keep_runs()
     ensures { ChainsKeepRuns }
+{}
+
+/// A run that ends with a meaning ends so too where instructions read origins in place of copies.
+pub fn origins_keep_runs()
+    ensures { ReadingOriginsKeepsRuns }
 {}
 
 /// A run that ends with a meaning ends so too without the instructions whose writes nothing reads.

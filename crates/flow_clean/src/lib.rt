@@ -1,11 +1,20 @@
-//! Cleaning of code over virtual registers: jumps to blocks whose only instruction is a jump go on past them.
+//! Cleaning of code over virtual registers: instructions read a register in place of a copy of it, those whose writes
+//! nothing reads are left out, and jumps to blocks whose only instruction is a jump go on past them.
 //!
-//! `specs/Chains.antt` says what becomes of the targets, and `specs/ChainRuns.antt` that runs stay. `specs/Dead.antt`
-//! says which instructions may be left out because nothing reads what they write; by a law runs stay without them.
+//! `specs/Copies.antt` says of which register another one is a copy, `specs/Dead.antt` which instructions may be left out
+//! because nothing reads what they write, and `specs/Chains.antt` what becomes of targets. By a law each runs stay
+//! (`laws`).
 #![tactic(auto)]
 
 mod chains;
+mod copies;
+mod dead;
 mod ends;
 pub mod laws;
+mod lists;
+mod origins;
+mod wanted;
 
 pub use chains::jump_chains;
+pub use copies::local_copies;
+pub use dead::dead_writes;

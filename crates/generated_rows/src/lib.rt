@@ -10,6 +10,7 @@ mod rows;
 use crate::kind::KINDS;
 use anyhow::Result;
 use row_sheets::check_tables;
+pub use rows::text;
 
 /// Checks the files that the words of the command line name, or all of them in the folder where the program runs where
 /// there are no words, and answers how many differ.

@@ -13,7 +13,7 @@ fn seed_and_size(given: &str) -> Result<(u32, u32)> {
     Ok((seed, size))
 }
 
-/// The text.
+/// The text that is generated for a seed and a size.
 pub fn text(alloc: Global, given: &str) -> Result<Vec<u8>> {
     let (seed, size) = seed_and_size(given)?;
     Ok(generate(alloc, seed, size)?)

@@ -109,6 +109,9 @@ fn destination_of(scope: &LoweringScope<'_>, depth: u32, ty: &CType) -> Option<u
 }
 
 /// The registers of arguments, from a depth on. It fails only where memory is short.
+///
+/// They are gathered in a vector, since where the list of a call grows beyond the places that it has without one, the
+/// toolchain's own compiler takes 4 KiB of the stack, which the walk over expressions would hold at each level.
 #[tactic(auto, using(crate::proofs::Depths::registers_more))]
 fn argument_registers(
     alloc: Global,
@@ -119,13 +122,13 @@ fn argument_registers(
     requires { HasLevels scope.now depth (levels_above (exprs_view arguments.now)) }
     ensures { IfOk result (λ o. o ≡ call_registers scope.now depth (exprs_view arguments.now)) }
 {
-    let mut registers = ArgumentRegisters::new(alloc);
+    let mut registers = Vec::new(alloc);
     let mut at = depth;
     for argument in arguments {
         registers.push(scope.registers.value(at, argument.ty()))?;
         at += 1;
     }
-    Ok(registers)
+    ArgumentRegisters::from_slice(alloc, registers.as_slice())
 }
 
 /// The call itself, behind its arguments.

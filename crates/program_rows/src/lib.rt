@@ -1,4 +1,4 @@
-//! The table of C programs, with how the programs that they are lowered to run.
+//! The tables of C programs, with how the programs that they are lowered to run, as they are typed and not rewritten.
 //!
 //! The files stand in `front_rows/data`. Their form is described in `docs/rows.md`, and that of each kind of row at the
 //! head of its file.
@@ -14,6 +14,6 @@ use row_sheets::check_tables;
 /// Checks the files that the words of the command line name, or all of them in the folder where the program runs where
 /// there are no words, and answers how many differ.
 pub fn check_rows(rt: &HostRuntime) -> Result<u32> {
-    let mut kinds = [Kind::Programs];
+    let mut kinds = [Kind::Programs, Kind::Generated];
     check_tables(rt, &mut kinds)
 }

@@ -14,6 +14,9 @@ use suifvm_run::{VmEnding, run_vm};
 /// The most bytes that a run may write.
 const ROOM: u64 = 65_536;
 
+/// The turns of a generated text: more than its loop and its calls take.
+const GENERATED_TURNS: u64 = 10_000;
+
 /// What a row says.
 #[derive(Drop)]
 struct Row {
@@ -63,7 +66,22 @@ fn ending(alloc: Global, ending: VmEnding) -> Result<Vec<u8>> {
 
 /// How the program of a row runs.
 pub fn answer(alloc: Global, given: &str) -> Result<Vec<u8>> {
-    let Row { text, input, turns } = parts_of(alloc, given)?;
+    run(alloc, parts_of(alloc, given)?)
+}
+
+/// How the program of the text runs that is generated for a seed and a size.
+pub fn answer_for_generated(alloc: Global, given: &str) -> Result<Vec<u8>> {
+    let row = Row {
+        text: generated_rows::text(alloc, given)?,
+        input: Vec::new(alloc),
+        turns: GENERATED_TURNS,
+    };
+    run(alloc, row)
+}
+
+/// How the program of a text runs on its input within its turns.
+fn run(alloc: Global, row: Row) -> Result<Vec<u8>> {
+    let Row { text, input, turns } = row;
     let program = lowered_program(alloc, text.as_slice())?;
     let mut input = MemSource::new(input, Vec::new(alloc));
     let mut out = MemSink::new(alloc, ROOM, Vec::new(alloc))?;

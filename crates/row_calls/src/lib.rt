@@ -5,6 +5,7 @@
 
 pub mod call;
 pub mod compiler;
+pub mod endings;
 pub mod part;
 
 pub use compiler::{Compiler, Ending, Outside, output_of, words_of};

@@ -1,6 +1,6 @@
 //! The kinds of rows, each with its file.
 
-use crate::{journals, needs, placements, runs};
+use crate::{coalescings, journals, lives, needs, placements, runs};
 use anyhow::Result;
 use row_sheets::Table;
 use std::alloc::Global;
@@ -12,10 +12,21 @@ pub enum Kind {
     Placements,
     Journals,
     Needs,
+    Coalescings,
+    CoalescedRuns,
+    Lifetimes,
 }
 
 /// The kinds in the order in which they are checked.
-pub const KINDS: [Kind; 4] = [Kind::Runs, Kind::Placements, Kind::Journals, Kind::Needs];
+pub const KINDS: [Kind; 7] = [
+    Kind::Runs,
+    Kind::Placements,
+    Kind::Journals,
+    Kind::Needs,
+    Kind::Coalescings,
+    Kind::CoalescedRuns,
+    Kind::Lifetimes,
+];
 
 impl Table for Kind {
     fn file(&self) -> &'static str {
@@ -24,6 +35,9 @@ impl Table for Kind {
             Kind::Placements => "plain.rows",
             Kind::Journals => "journals.rows",
             Kind::Needs => "needs.rows",
+            Kind::Coalescings => "coalescings.rows",
+            Kind::CoalescedRuns => "coalesced_runs.rows",
+            Kind::Lifetimes => "live.rows",
         }
     }
 
@@ -33,6 +47,9 @@ impl Table for Kind {
             Kind::Placements => placements::answer(alloc, given),
             Kind::Journals => journals::answer(alloc, given),
             Kind::Needs => needs::answer(alloc, given),
+            Kind::Coalescings => coalescings::answer(alloc, given, true),
+            Kind::CoalescedRuns => coalescings::answer(alloc, given, false),
+            Kind::Lifetimes => lives::answer(alloc, given),
         }
     }
 }

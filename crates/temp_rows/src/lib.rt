@@ -1,12 +1,14 @@
-//! The tables of programs over temporaries: how they run, where `plain` puts them, and what it does at each
-//! instruction.
+//! The tables of programs over temporaries: how they run, where `plain` puts them, what it does at each
+//! instruction, which copies and dead instructions go, what is live, and the lifetimes.
 //!
 //! The files stand in `back_rows/data`. Their form is described in `docs/rows.md`, and that of each kind of row at the
 //! head of its file.
 #![tactic(auto)]
 
+mod coalescings;
 mod journals;
 mod kind;
+mod lives;
 mod needs;
 mod placements;
 mod runs;

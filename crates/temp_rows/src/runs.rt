@@ -33,7 +33,7 @@ fn outside_of(alloc: Global, given: &str) -> Result<Outside> {
 }
 
 /// The line of a run.
-fn put_run(
+pub fn put_run(
     shown: &mut Vec<u8>,
     alloc: Global,
     name: &str,

@@ -9,6 +9,7 @@ use std::alloc::Global;
 #[derive(Drop)]
 pub enum Kind {
     Typed,
+    Rewritten,
     Measures,
 }
 
@@ -16,6 +17,7 @@ impl Table for Kind {
     fn file(&self) -> &'static str {
         match self {
             Kind::Typed => "typed.rows",
+            Kind::Rewritten => "rewritten.rows",
             Kind::Measures => "measures.rows",
         }
     }
@@ -23,6 +25,7 @@ impl Table for Kind {
     fn answer(&mut self, alloc: Global, given: &str) -> Result<Vec<u8>> {
         match self {
             Kind::Typed => units::typed_unit_text(alloc, given),
+            Kind::Rewritten => units::rewritten_unit_text(alloc, given),
             Kind::Measures => units::measures(alloc, given),
         }
     }

@@ -14,6 +14,6 @@ use row_sheets::check_tables;
 /// Checks the files that the words of the command line name, or all of them in the folder where the program runs where
 /// there are no words, and answers how many differ.
 pub fn check_rows(rt: &HostRuntime) -> Result<u32> {
-    let mut kinds = [Kind::Typed, Kind::Measures];
+    let mut kinds = [Kind::Typed, Kind::Rewritten, Kind::Measures];
     check_tables(rt, &mut kinds)
 }

@@ -4,6 +4,7 @@ use anyhow::{Result, bail, ensure};
 use bk_containers::Name;
 use c_lexer::TEXT_LIMIT;
 use c_parser::parse;
+use c_rewrite::rewrite_unit;
 use c_typed_tree::{Member, StructDef, TypedFn, TypedUnit, copy_unit};
 use c_types::check;
 use c_typing_weight::{data_size, function_weight, locals_bytes, weight};
@@ -176,6 +177,14 @@ pub fn typed_unit_text(alloc: Global, given: &str) -> Result<Vec<u8>> {
     let copy = copy_unit(alloc, &unit)?;
     let mut out = Vec::new(alloc);
     put_unit(alloc, &mut out, &copy)?;
+    Ok(out)
+}
+
+/// The weight, the data size and the typed tree of a unit as the three rules rewrite it.
+pub fn rewritten_unit_text(alloc: Global, given: &str) -> Result<Vec<u8>> {
+    let unit = rewrite_unit(alloc, unit_of(alloc, given)?)?;
+    let mut out = Vec::new(alloc);
+    put_unit(alloc, &mut out, &unit)?;
     Ok(out)
 }
 

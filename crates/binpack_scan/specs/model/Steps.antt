@@ -1,5 +1,5 @@
 -- What is done before an instruction and by it, one step after the other.
-use Rattle.std.specs.Prelude.{◌≡◌, ℕ, ◌<◌, ◌⊎◌, Bool, true, false, List, [], ◌∷◌, ◌++◌, slice_set, Some, None}
+use Rattle.std.specs.Prelude.{◌≡◌, ℕ, zero, suc, ◌+◌, ◌<◌, ◌⊎◌, Bool, true, false, List, [], ◌∷◌, ◌++◌, slice_set, Some, None, if◌then◌else◌}
 use Rattle.temp_ir.specs.declared.insn.TempInsn.{TempInsn}
 use Rattle.temp_ir.specs.Insns.{writes_of}
 use Rattle.temp_ir.specs.Fixed.{has_number}
@@ -74,3 +74,12 @@ pub data Writes (s : Site) (v w : State) : (temps registers : List ℕ) → Type
   Gets : (t r : ℕ) → IsNowhere v.bins t → t < s.temps → MayGet s r →
       Leaves s.behind (held_in v.bins r) v.relied w.relied → w.bins ≡ slice_set v.bins r (Some (held t Own)) →
       Writes s v w (t ∷ []) (r ∷ [])
+
+-- ---- how many registers an instruction takes away
+
+abbrev pub taken : TempInsn → (r : ℕ) → ℕ
+taken x r = if takes_away x r then 1 else 0
+
+abbrev pub taken_below : TempInsn → (count : ℕ) → ℕ
+taken_below x zero = 0
+taken_below x (suc n) = taken_below x n + taken x n

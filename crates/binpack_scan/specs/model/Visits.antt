@@ -1,9 +1,9 @@
 -- The visit of an instruction.
-use Rattle.std.specs.Prelude.{◌≡◌, ℕ, true, List, [], ◌∷◌, ◌++◌}
+use Rattle.std.specs.Prelude.{◌≡◌, ℕ, ◌+◌, ◌≤◌, true, List, length, [], ◌∷◌, ◌++◌}
 use Rattle.temp_ir.specs.Insns.{reads_of, writes_of}
 use Rattle.alloc_model.specs.declared.allocation.Transfer.{Transfer}
 use Rattle.binpack_scan.specs.model.Bins.{Bins, held_in, has_temp}
-use Rattle.binpack_scan.specs.model.Steps.{Site, State, Steps, Ends, Writes}
+use Rattle.binpack_scan.specs.model.Steps.{Site, State, Steps, Ends, Writes, taken_below}
 
 -- temporaries stand in registers, in order
 abbrev pub AreHeld : (temps registers : List ℕ) → Bins → Type 0
@@ -21,6 +21,7 @@ pub record Visits (s : Site) (u w : State) (transfers : List Transfer) (register
   pub none_made : u.made ≡ []
   pub steps : Steps s u ready
   pub is_made : transfers ≡ ready.made
+  pub few : length transfers ≤ taken_below s.insn 26 + 5
   pub registers_are : registers ≡ read ++ written
   pub held : AreHeld (reads_of s.insn) read ready.bins
   pub ends : Ends s ready left

@@ -48,6 +48,7 @@ abbrev pub parts_of_built : Built → Parts
 parts_of_built b = record {
   unit = Some b.unit;
   typed = Some b.typed;
+  rewritten = Some b.rewritten;
   vm = Some b.vm;
   temps = Some b.temps;
   allocations = Some b.allocations;

@@ -14,6 +14,8 @@ use Rattle.c_typed_tree.specs.declared.units.TypedUnit.{TypedUnit}
 use Rattle.c_typed_tree.specs.declared.c_lawful_unit.LawfulUnit.{LawfulUnit}
 use Rattle.c_typed_tree.specs.Weight.{unit_weight}
 use Rattle.c_semantics.specs.Behaves.{rooms_of}
+use Rattle.c_semantics.specs.Refines.{UnitRefines}
+use Rattle.c_rewrite.specs.Rewritten.{IsRewritten}
 use Rattle.suifvm_ir.specs.declared.program.VmProgram.{VmProgram}
 use Rattle.pass_core.specs.Functions.{count_of}
 use Rattle.suifvm_ir.specs.Programs.{VmFunction, program_size}
@@ -34,6 +36,7 @@ use Rattle.image_assembly.specs.Programs.{IsAllocated}
 use Rattle.image_assembly_laws.specs.ProgramAssembly.{program_assembly}
 use Rattle.call_words.specs.declared.compile_options.Allocator.{Allocator}
 use Rattle.compiler_theorem.specs.Correct.{IsCorrectImage}
+use Rattle.compiler_theorem.specs.RefinedCode.{CodeRefines}
 use Rattle.compiler_front_end.specs.Units.{IsUnitWithin}
 use Rattle.compiler.specs.declared.built.Built.{Built}
 use Rattle.compiler.specs.Made.{Made, IsCalledAs}
@@ -45,14 +48,28 @@ use Rattle.compiler.specs.Made.{Made, IsCalledAs}
 pub record DoesAsUnit (u : TypedUnit) (vm : VmProgram) : Type 0 where
   pub functions : AllStandFor u.structs u.functions vm.functions
   pub globals : vm.globals ≡ u.globals
-  pub runs : CodeRunsAs u vm
+  pub runs : CodeRefines u vm
   pub size : program_size vm.functions ≤ 2 ^ 24
   pub registers : All (λ (f : VmFunction). f.temps ≤ 2 ^ 24) vm.functions
+
+-- what rewriting gives of a unit
+pub record IsRewrittenUnit (u rewritten : TypedUnit) : Type 0 where
+  pub is : IsRewritten u rewritten
+  pub refines : UnitRefines rewritten u
 
 -- what lowering gives of a unit
 pub record IsLoweredUnit (u : TypedUnit) (vm : VmProgram) : Type 0 where
   pub code : IsCodeOf u vm
-  pub does : DoesAsUnit u vm
+  pub functions : AllStandFor u.structs u.functions vm.functions
+  pub runs : CodeRunsAs u vm
+  pub size : program_size vm.functions ≤ 2 ^ 24
+  pub registers : All (λ (f : VmFunction). f.temps ≤ 2 ^ 24) vm.functions
+
+-- the code of a rewritten unit does what the unit does
+abbrev pub RewrittenCodeDoesAsUnit : Type 0
+RewrittenCodeDoesAsUnit =
+    (u rewritten : TypedUnit) (vm : VmProgram) → IsRewrittenUnit u rewritten → IsLoweredUnit rewritten vm →
+    DoesAsUnit u vm
 
 -- what selection gives of code over virtual registers
 pub record IsSelectedProgram (vm : VmProgram) (selected : TempProgram) : Type 0 where

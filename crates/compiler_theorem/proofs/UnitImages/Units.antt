@@ -1,11 +1,11 @@
 -- From the endings of a unit to those of the code, and from those to the image.
-use Rattle.std.proofs.Common.{◌≡◌, ℕ, ◌<◌, ◌≤◌, List, [], ◌∷◌, All, refl, sym, ap, ◌∙◌, subst}
+use Rattle.std.proofs.Common.{◌≡◌, ℕ, ◌<◌, ◌≤◌, List, [], ◌∷◌, All, refl, sym, ap, ◌∙◌, subst, arith}
 use Rattle.std.proofs.lemmas.List.Elements.{All-nil, All-cons}
 use Rattle.alpha_isa.specs.Program.{Program}
 use Rattle.alpha_isa.specs.Behave as image
 use Rattle.alpha_isa.specs.Behave.{behave_a, output_of, IsStack}
 use Rattle.mem_model.specs.World.{World, Rooms}
-use Rattle.mem_model.specs.Ending.{Ending, Done, Trap, Undefined, More, EndsAs, ending_output, ending_peak, IsDefined}
+use Rattle.mem_model.specs.Ending.{Ending, Done, Trap, Undefined, More, ending_output, ending_peak, IsDefined}
 use Rattle.machine_model.specs.Laws.{IsPrefix}
 use Rattle.mem_model.specs.Bytes.{AreBytes}
 use Rattle.selection_laws.specs.Laws as selection
@@ -14,12 +14,12 @@ use Rattle.image_theorem.specs.same_runs.Same.{IsSame, RunsAreSame}
 use Rattle.c_typed_tree.specs.declared.units.TypedUnit.{TypedUnit}
 use Rattle.c_typed_tree.specs.Lawful.{IsTypedUnit}
 use Rattle.c_semantics.specs.Behaves.{run_main}
-use Rattle.lowering_theorem.specs.Laws.{VmRunsTo}
+use Rattle.compiler_theorem.specs.RefinedCode.{EndsBelow, VmRunsBelow}
 use Rattle.compiler_theorem.specs.unit_images.Laws.{IsMadeOf, InputIsGood, UnitsAreSame}
 
 -- ---- endings that are alike
 
-defined_too : (e o : Ending) → IsDefined o → EndsAs e o → IsDefined e
+defined_too : (e o : Ending) → IsDefined o → EndsBelow e o → IsDefined e
 defined_too e (Undefined w n) defined h = absurd defined
 defined_too (Done v m) o defined h = tt
 defined_too (Trap v m) o defined h = tt
@@ -28,7 +28,7 @@ defined_too (Undefined v m) (Done w n) defined h = absurd h
 defined_too (Undefined v m) (Trap w n) defined h = absurd h
 defined_too (Undefined v m) (More w) defined h = absurd h
 
-alike : (e o : Ending) → IsDefined o → EndsAs e o → (ending_output e ≡ ending_output o) × (ending_peak e ≡ ending_peak o)
+alike : (e o : Ending) → IsDefined o → EndsBelow e o → (ending_output e ≡ ending_output o) × (ending_peak e ≤ ending_peak o)
 alike e (Undefined w n) defined h = absurd defined
 alike (Done v m) (Done w n) defined h = (h.1.output, h.1.peak)
 alike (Done v m) (Trap w n) defined h = absurd h
@@ -54,49 +54,49 @@ record TrapIs (e : Ending) (output : List ℕ) (code : ℕ) : Type 0 where
   is : e ≡ Trap world code
   same : world.outer.output ≡ output
 
-done_before : (e : Ending) (w : World) (status : ℕ) → EndsAs e (Done w status) → DoneIs e w.outer.output status
+done_before : (e : Ending) (w : World) (status : ℕ) → EndsBelow e (Done w status) → DoneIs e w.outer.output status
 done_before (Done v m) w status h = record { world = v; is = ap (Done v) h.0; same = h.1.output }
 done_before (Trap v m) w status h = absurd h
 done_before (Undefined v m) w status h = absurd h
 done_before (More v) w status h = absurd h
 
-done_after : (o : Ending) (v : World) (status : ℕ) → IsDefined o → EndsAs (Done v status) o → DoneIs o v.outer.output status
+done_after : (o : Ending) (v : World) (status : ℕ) → IsDefined o → EndsBelow (Done v status) o → DoneIs o v.outer.output status
 done_after (Done w n) v status defined h = record { world = w; is = ap (Done w) (sym h.0); same = sym h.1.output }
 done_after (Trap w n) v status defined h = absurd h
 done_after (Undefined w n) v status defined h = absurd defined
 done_after (More w) v status defined h = absurd h
 
-trap_before : (e : Ending) (w : World) (code : ℕ) → EndsAs e (Trap w code) → TrapIs e w.outer.output code
+trap_before : (e : Ending) (w : World) (code : ℕ) → EndsBelow e (Trap w code) → TrapIs e w.outer.output code
 trap_before (Done v m) w code h = absurd h
 trap_before (Trap v m) w code h = record { world = v; is = ap (Trap v) h.0; same = h.1.output }
 trap_before (Undefined v m) w code h = absurd h
 trap_before (More v) w code h = absurd h
 
-trap_after : (o : Ending) (v : World) (code : ℕ) → IsDefined o → EndsAs (Trap v code) o → TrapIs o v.outer.output code
+trap_after : (o : Ending) (v : World) (code : ℕ) → IsDefined o → EndsBelow (Trap v code) o → TrapIs o v.outer.output code
 trap_after (Done w n) v code defined h = absurd h
 trap_after (Trap w n) v code defined h = record { world = w; is = ap (Trap w) (sym h.0); same = sym h.1.output }
 trap_after (Undefined w n) v code defined h = absurd defined
 trap_after (More w) v code defined h = absurd h
 
 -- what is the same as endings is the same as others that are alike
-module _ (p : Program) (stack : ℕ) (input : List ℕ) (at bt : (turns : ℕ) → Ending) (ends : (n : ℕ) → EndsAs (at n) (bt n)) (defined : (n : ℕ) → IsDefined (bt n)) (same : IsSame p stack input at) where
+module _ (p : Program) (stack : ℕ) (input : List ℕ) (at bt : (turns : ℕ) → Ending) (ends : (n : ℕ) → EndsBelow (at n) (bt n)) (defined : (n : ℕ) → IsDefined (bt n)) (same : IsSame p stack input at) where
   through : IsSame p stack input bt
   through = record {
     done = λ n w status e.
-        let d = done_before (at n) w status (subst (λ z. EndsAs (at n) z) e (ends n)) in
+        let d = done_before (at n) w status (subst (λ z. EndsBelow (at n) z) e (ends n)) in
         let x = same.done n d.world status d.is in
         (x.0, x.1 ∙ ap (λ z. image.Done z status) d.same, x.2);
     traps = λ n w code e.
-        let d = trap_before (at n) w code (subst (λ z. EndsAs (at n) z) e (ends n)) in
+        let d = trap_before (at n) w code (subst (λ z. EndsBelow (at n) z) e (ends n)) in
         let x = same.traps n d.world code d.is in
         (x.0, x.1 ∙ ap (λ z. image.Trap z code) d.same, x.2);
     only_done = λ m output status e.
         let x = same.only_done m output status e in
-        let d = done_after (bt x.turns) x.world status (defined x.turns) (subst (λ z. EndsAs z (bt x.turns)) x.is (ends x.turns)) in
+        let d = done_after (bt x.turns) x.world status (defined x.turns) (subst (λ z. EndsBelow z (bt x.turns)) x.is (ends x.turns)) in
         record { turns = x.turns; world = d.world; is = d.is; same = d.same ∙ x.same };
     only_traps = λ m output code e.
         let x = same.only_traps m output code e in
-        let d = trap_after (bt x.turns) x.world code (defined x.turns) (subst (λ z. EndsAs z (bt x.turns)) x.is (ends x.turns)) in
+        let d = trap_after (bt x.turns) x.world code (defined x.turns) (subst (λ z. EndsBelow z (bt x.turns)) x.is (ends x.turns)) in
         record { turns = x.turns; world = d.world; is = d.is; same = d.same ∙ x.same };
     never_stuck = same.never_stuck;
     outputs = λ n.
@@ -114,18 +114,21 @@ bytes_all [] h = All-nil (λ byte. byte < 256)
 bytes_all (b ∷ bs) h = All-cons (λ byte. byte < 256) b bs h.0 (bytes_all bs h.1)
 
 module _ (behave : ProgramsBehave) (are_same : RunsAreSame) (u : TypedUnit) (rooms : Rooms) (p : Program) (typed : IsTypedUnit u) (made : IsMadeOf u rooms p) (stack : ℕ) (is_stack : IsStack stack) (input : List ℕ) (bytes : AreBytes input) (good : InputIsGood u rooms stack input) where
-  at : (turns : ℕ) → VmRunsTo rooms made.code input turns (run_main u rooms input turns)
+  at : (turns : ℕ) → VmRunsBelow rooms made.code input turns (run_main u rooms input turns)
   at n = made.runs rooms input n (bytes_all input bytes) (good.defined n)
 
   defined : (n : ℕ) → IsDefined (at n).ending
-  defined n = defined_too (at n).ending (run_main u rooms input n) (good.defined n) (at n).same
+  defined n = defined_too (at n).ending (run_main u rooms input n) (good.defined n) (at n).below
 
   room : (n : ℕ) → ending_peak (at n).ending ≤ stack
-  room n = subst (λ z. z ≤ stack) (sym (alike (at n).ending (run_main u rooms input n) (good.defined n) (at n).same).1) (good.room n)
+  room n =
+      let low = (alike (at n).ending (run_main u rooms input n) (good.defined n) (at n).below).1 in
+      let high = good.room n in
+      omega (arith, low, high)
 
   unit_is_same : IsSame p stack input (λ turns. run_main u rooms input turns)
   unit_is_same =
-      through p stack input (λ n. (at n).ending) (λ n. run_main u rooms input n) (λ n. (at n).same) good.defined
+      through p stack input (λ n. (at n).ending) (λ n. run_main u rooms input n) (λ n. (at n).below) good.defined
       (are_same p (plans_of made.allocations) stack input (λ n. (at n).ending)
       (λ n.
       behave made.assembly p made.lawful made.whole made.words made.selected made.allocations rooms made.placing made.allocated made.items stack is_stack input bytes n (at n).ending

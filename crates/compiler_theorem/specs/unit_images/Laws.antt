@@ -16,14 +16,14 @@ use Rattle.image_theorem.specs.same_runs.Same.{IsSame}
 use Rattle.c_typed_tree.specs.declared.units.TypedUnit.{TypedUnit}
 use Rattle.c_typed_tree.specs.Lawful.{IsTypedUnit}
 use Rattle.c_semantics.specs.Behaves.{run_main}
-use Rattle.lowering_theorem.specs.Laws.{CodeRunsAs}
+use Rattle.compiler_theorem.specs.RefinedCode.{CodeRefines}
 
--- what stands between a unit and an image: a program over virtual registers that runs as the unit, the one over
+-- what stands between a unit and an image: a program over virtual registers that refines the unit, the one over
 -- temporaries that does as that does, right allocations of its functions in these rooms, and the assembly with their
 -- items
 pub record IsMadeOf (u : TypedUnit) (rooms : Rooms) (image : Program) : Type 0 where
   pub code : VmProgram
-  pub runs : CodeRunsAs u code
+  pub runs : CodeRefines u code
   pub selected : TempProgram
   pub keeps : SelectionKeeps code selected
   pub allocations : List Allocation

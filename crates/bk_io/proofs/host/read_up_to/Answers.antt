@@ -34,11 +34,15 @@ after_none : (e : FileFault) (old mid new : Option (List ℕ)) (xs : List ℕ) �
 after_none Failed old mid new xs first none = kept_after old mid new xs first none
 after_none NoMemory old mid new xs first none = (none.0, none.1, consumes_both old mid new xs none.0 first none.2)
 
+-- nothing more was appended
+appended : (new mid whole : List ℕ) → new ≡ mid → mid ≡ whole → new ≡ whole
+appended new mid whole same is = same ∙ is
+
 pub returns-in-Err-clause-appends : goal.returns-in-Err-clause-appends
 returns-in-Err-clause-appends g c =
     let part = c.loop-turn.invariant.part in (
       part.0,
-      c.in-Err.ensures.err ∙ part.1,
+      appended _ _ _ c.in-Err.ensures.err part.1,
       omega (arith, part.2),
       after_none c.in-Err.fault _ _ _ part.0 part.3 c.in-Err.ensures.cause,
     )

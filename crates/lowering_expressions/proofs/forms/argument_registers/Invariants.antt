@@ -6,5 +6,5 @@ use Rattle.lowering_expressions.proofs.forms.argument_registers.Given as goal
 
 abbrev pub invariant-loop-argument : goal.invariant-loop-argument
 invariant-loop-argument l =
-    (l.registers ≡ call_registers l.scope l.depth (exprs_view (take l.argument-index l.arguments)))
+    (l.registers.items ≡ call_registers l.scope l.depth (exprs_view (take l.argument-index l.arguments)))
     × (l.at ≡ l.depth + l.argument-index)

@@ -4,6 +4,7 @@ use Rattle.binpack_scan.specs.model.Bins.{held_in, lives, must_store}
 use Rattle.binpack_scan.specs.model.Rows.{is_wanted}
 use Rattle.binpack_scan.specs.model.Steps.{Steps}
 use Rattle.binpack_scan.specs.model.Scanning.{state_of, local_site}
+use Rattle.binpack_scan.proofs.Counts.{count_next}
 use Rattle.binpack_scan.proofs.Holders.{same_or_not}
 use Rattle.binpack_scan.proofs.bins.Scan.fix_all.Goals as goal
 
@@ -15,5 +16,6 @@ loop-r-preserved c = record {
       (λ (e : r ≡ c.loop-r.r). subst (λ q. must_store (lives (is_wanted c.args.lives.now (2 * c.args.number + 1)) (held_in c.fix_any.new.self.bins.items q)) (held_in c.fix_any.new.self.bins.items q) ≡ false) (sym e) (c.in_ok-fix_any.ensures.saved (subst (λ q. takes_away c.args.insn.now q ≡ true) e takes)))
       (λ (ne : r ≢ c.loop-r.r). ap (λ o. must_store (lives (is_wanted c.args.lives.now (2 * c.args.number + 1)) o) o) (c.in_ok-fix_any.ensures.fixed r takes ne) ∙ c.loop-r.invariant.saved r (omega (arith, w, ne)) takes)
       (same_or_not r c.loop-r.r);
+  count = count_next c.args.insn.now c.loop-r.r _ _ _ c.loop-r.invariant.count c.in_ok-fix_any.ensures.count;
   temps = c.in_ok-fix_any.ensures.temps ∙ c.loop-r.invariant.temps;
 }

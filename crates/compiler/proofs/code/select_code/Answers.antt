@@ -1,1 +1,0 @@
-use Rattle.compiler.proofs.code.select_code.Goals as goal
