@@ -81,7 +81,7 @@ class Program:
 class Run:
     def __init__(self, program):
         self.program, self.memory, self.out = program, [list(cells) for cells in program.globals], []
-        self.left, self.reads, self.puts, self.turns = list(program.input), 0, 0, program.turns
+        self.left, self.reads, self.puts, self.turns, self.steps = list(program.input), 0, 0, program.turns, 0
 
     def take_turn(self):
         if self.turns == 0:
@@ -180,6 +180,7 @@ class Run:
                 continue
             number, text = function["blocks"][block][at]
             at += 1
+            self.steps += 1
             head, _, rest = text.partition(" ")
             op, *types = head.split(".")
             names = rest.split(", ") if rest else []

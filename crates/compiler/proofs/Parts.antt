@@ -13,7 +13,7 @@ use Rattle.c_typed_tree.specs.declared.c_lawful_unit.LawfulUnit.{LawfulUnit}
 use Rattle.c_typed_tree.specs.Weight.{unit_weight}
 use Rattle.c_typing_weight.specs.Limits.{most_weight}
 use Rattle.lowering.specs.Lowered.{AreLowered, AreWithinWeight, AllStandFor}
-use Rattle.lowering_theorem.specs.Laws.{IsCodeOf, ProgramsKeepMeaning}
+use Rattle.lowering_theorem.specs.Laws.{ProgramsKeepMeaning}
 use Rattle.suifvm_ir.specs.declared.program.VmProgram.{VmProgram}
 use Rattle.suifvm_ir.specs.Programs.{program_size}
 use Rattle.temp_ir.specs.declared.program.TempProgram.{TempProgram}
@@ -29,13 +29,14 @@ use Rattle.compiler_front_end.specs.Units.{IsUnitWithin}
 use Rattle.compiler_theorem.specs.Correct.{IsCorrectImage}
 use Rattle.compiler.specs.declared.built.AssemblyParts.{AssemblyParts}
 use Rattle.compiler.specs.declared.built.Built.{Built}
+use Rattle.compiler.specs.declared.built.CodeParts.{CodeParts}
 use Rattle.compiler.specs.declared.built.Parts.{Parts}
 use Rattle.compiler.specs.declared.built.WantedParts.{WantedParts}
 use Rattle.compiler.specs.declared.built.WantedParts.TheVariants.{Everything, Image}
 use Rattle.compiler.specs.Made.{Made, gives}
 use Rattle.compiler.specs.Images.{IsImageOfText}
-use Rattle.compiler.specs.model.Parts.{UnitHasText, IsKept, AreAssemblyPartsOf, parts_of_built, PartsAreWhole, ArePartsOf}
-use Rattle.compiler.specs.model.Stages.{DoesAsUnit, IsRewrittenUnit, IsLoweredUnit, IsSelectedProgram, ArePassed, IsCodeWithin, ProgramCanBeAssembled, IsAssemblyOfUnit, AssembliesAreMade, ImagesAreCorrect}
+use Rattle.compiler.specs.model.Parts.{UnitHasText, IsKept, AreCodePartsOf, AreAssemblyPartsOf, parts_of_built, PartsAreWhole, ArePartsOf}
+use Rattle.compiler.specs.model.Stages.{DoesAsUnit, IsLoweredUnit, IsSelectedProgram, ArePassed, IsCodeWithin, ProgramCanBeAssembled, IsAssemblyOfUnit, AssembliesAreMade, ImagesAreCorrect}
 use Rattle.compiler.proofs.Registers.{lowered_stand, unit_registers}
 use Rattle.compiler.proofs.Stages.{made_of}
 
@@ -88,6 +89,7 @@ same_built b c e = ap (λ (p : Parts). record {
   unit = unwrap_or p.unit b.unit;
   typed = unwrap_or p.typed b.typed;
   rewritten = unwrap_or p.rewritten b.rewritten;
+  copied = unwrap_or p.copied b.copied;
   vm = unwrap_or p.vm b.vm;
   temps = unwrap_or p.temps b.temps;
   allocations = unwrap_or p.allocations b.allocations;
@@ -115,27 +117,27 @@ whole_correct correct text allocator p b m is = subst (IsCorrectImage text) (ap 
 -- ---- what was made of a unit
 
 -- all of them, where each was kept
-pub all_kept : (b : Built) (p : Parts) → p.unit ≡ Some b.unit → p.typed ≡ Some b.typed → p.rewritten ≡ Some b.rewritten → p.vm ≡ Some b.vm → p.temps ≡ Some b.temps → p.allocations ≡ Some b.allocations → p.asm ≡ Some b.asm → p.image ≡ b.image → p ≡ parts_of_built b
-all_kept b p unit typed rewritten vm temps allocations asm image = λ i. record { unit = unit i; typed = typed i; rewritten = rewritten i; vm = vm i; temps = temps i; allocations = allocations i; asm = asm i; image = image i }
+pub all_kept : (b : Built) (p : Parts) → p.unit ≡ Some b.unit → p.typed ≡ Some b.typed → p.rewritten ≡ Some b.rewritten → p.copied ≡ Some b.copied → p.vm ≡ Some b.vm → p.temps ≡ Some b.temps → p.allocations ≡ Some b.allocations → p.asm ≡ Some b.asm → p.image ≡ b.image → p ≡ parts_of_built b
+all_kept b p unit typed rewritten copied vm temps allocations asm image = λ i. record { unit = unit i; typed = typed i; rewritten = rewritten i; copied = copied i; vm = vm i; temps = temps i; allocations = allocations i; asm = asm i; image = image i }
 
 pub code_within : (u : TypedUnit) (vm : VmProgram) (selected temps : TempProgram) → DoesAsUnit u vm → IsSelectedProgram vm selected → ArePassed selected temps → IsCodeWithin u vm temps
 code_within u vm selected temps does selection passed = record { does = does; selected = selected; selection = selection; passed = passed }
 
-module _ (made : AssembliesAreMade) (allocator : Allocator) (wanted : WantedParts) (unit : TranslationUnit) (typed rewritten : LawfulUnit) (vm : VmProgram) (temps : TempProgram) (code : IsCodeWithin typed.unit vm temps) (q : AssemblyParts)
-    (of : AreAssemblyPartsOf (gives allocator) temps wanted q) where
-  assembly_of_unit : (text : List ℕ) → IsUnitWithin text unit typed.unit → IsAssemblyOfUnit typed.unit vm temps of.allocations.items q.asm
-  assembly_of_unit text front = made text unit typed vm temps of.allocations.items q.asm front code of.are of.assembly
+module _ (made : AssembliesAreMade) (allocator : Allocator) (wanted : WantedParts) (unit : TranslationUnit) (typed : LawfulUnit) (c : CodeParts) (code : AreCodePartsOf typed wanted c) (q : AssemblyParts)
+    (of : AreAssemblyPartsOf (gives allocator) c.temps wanted q) where
+  assembly_of_unit : (text : List ℕ) → IsUnitWithin text unit typed.unit → IsAssemblyOfUnit typed.unit code.vm c.temps of.allocations.items q.asm
+  assembly_of_unit text front = made text unit typed code.vm c.temps of.allocations.items q.asm front code.within of.are of.assembly
 
   pub few_words : UnitHasText unit typed.unit → HasFewWords q.asm
   few_words h = (assembly_of_unit h.text h.front).few_words
 
   abbrev pub built_of : Program → Built
-  built_of image = record { unit = unit; typed = typed; rewritten = rewritten; vm = vm; temps = temps; allocations = of.allocations; asm = q.asm; image = image }
+  built_of image = record { unit = unit; typed = typed; rewritten = code.rewritten; copied = code.copied; vm = code.vm; temps = c.temps; allocations = of.allocations; asm = q.asm; image = image }
 
-  pub unit_parts : (p : Parts) → Words q.asm p.image → IsLawful p.image → (wanted ≡ Everything → p ≡ parts_of_built (built_of p.image)) → IsRewrittenUnit typed.unit rewritten.unit → IsCodeOf rewritten.unit vm → (text : List ℕ) → IsUnitWithin text unit typed.unit → ArePartsOf text allocator wanted p
-  unit_parts p words lawful kept is lowered text front = record {
+  pub unit_parts : (p : Parts) → Words q.asm p.image → IsLawful p.image → (wanted ≡ Everything → p ≡ parts_of_built (built_of p.image)) → (text : List ℕ) → IsUnitWithin text unit typed.unit → ArePartsOf text allocator wanted p
+  unit_parts p words lawful kept text front = record {
     built = built_of p.image;
-    made = made_of text allocator (built_of p.image) front is lowered code of.are of.by of.assembly (assembly_of_unit text front) words lawful;
+    made = made_of text allocator (built_of p.image) code.lowered front code.is_rewritten code.is_code code.without_copies code.clean code.within of.are of.by of.assembly (assembly_of_unit text front) words lawful;
     image = refl;
     short = subst (λ n. n ≤ 2048 * unit_weight typed.unit) (sym (length-words q.asm p.image words)) ((assembly_of_unit text front).short words.far);
     all = kept;

@@ -21,6 +21,7 @@ use Rattle.c_semantics.specs.Behaves.{rooms_of}
 use Rattle.pass_core.specs.Functions.{AllInsns}
 use Rattle.suifvm_ir.specs.declared.program.VmProgram.{VmProgram}
 use Rattle.suifvm_ir.specs.Programs.{VmFunction}
+use Rattle.flow_clean.specs.Programs.{IsProgramWithoutCopiesOf, IsCleanProgramOf}
 use Rattle.alpha_select.specs.Selection.{AreSelected}
 use Rattle.lowering_theorem.specs.Laws.{IsCodeOf}
 use Rattle.temp_ir.specs.declared.program.TempProgram.{TempProgram}
@@ -151,14 +152,17 @@ assemblies_are_made selections functions_fit have_frames fit_rooms fit near are_
 -- ---- the image
 
 -- what was made of a text
-pub made_of : (text : List ℕ) (allocator : Allocator) (b : Built) → IsUnitWithin text b.unit b.typed.unit → IsRewrittenUnit b.typed.unit b.rewritten.unit → IsCodeOf b.rewritten.unit b.vm → IsCodeWithin b.typed.unit b.vm b.temps → AreAllocationsOf b.temps.functions b.allocations.items
+pub made_of : (text : List ℕ) (allocator : Allocator) (b : Built) (lowered : VmProgram) → IsUnitWithin text b.unit b.typed.unit → IsRewrittenUnit b.typed.unit b.rewritten.unit → IsCodeOf b.rewritten.unit lowered → IsProgramWithoutCopiesOf lowered b.copied → IsCleanProgramOf b.copied b.vm → IsCodeWithin b.typed.unit b.vm b.temps → AreAllocationsOf b.temps.functions b.allocations.items
     → AllocatesBy allocator b.temps.functions b.allocations.items → IsAssemblyOf b.temps b.allocations.items b.asm → IsAssemblyOfUnit b.typed.unit b.vm b.temps b.allocations.items b.asm → Words b.asm b.image → IsLawful b.image
     → Made text allocator b
-made_of text allocator b front rewritten lowered code are by assembly made words lawful = record {
+made_of text allocator b lowered front rewritten is_code copied clean code are by assembly made words lawful = record {
   front = front;
   rewritten = rewritten.is;
   refines = rewritten.refines;
-  code = lowered;
+  lowered = lowered;
+  code = is_code;
+  copied = copied;
+  clean = clean;
   code_runs = code.does.runs;
   selection = made.selection;
   called = made.called;

@@ -5,10 +5,12 @@ use Rattle.alpha_isa.specs.Program.{IsLawful}
 use Rattle.alpha_items.specs.Assembly.{IsWhole}
 use Rattle.alpha_items.specs.Words.{Words}
 use Rattle.c_semantics.specs.Behaves.{rooms_of}
+use Rattle.suifvm_ir.specs.declared.program.VmProgram.{VmProgram}
 use Rattle.suifvm_ir.specs.Programs.{VmFunction}
 use Rattle.c_semantics.specs.Refines.{UnitRefines}
 use Rattle.c_rewrite.specs.Rewritten.{IsRewritten}
 use Rattle.lowering_theorem.specs.Laws.{IsCodeOf}
+use Rattle.flow_clean.specs.Programs.{IsProgramWithoutCopiesOf, IsCleanProgramOf}
 use Rattle.compiler_theorem.specs.RefinedCode.{CodeRefines}
 use Rattle.temp_ir.specs.Programs.{TempFn}
 use Rattle.selection_laws.specs.Laws.{SelectionKeeps}
@@ -44,9 +46,13 @@ pub record Made (text : List ℕ) (allocator : Allocator) (b : Built) : Type 0 w
   -- refines the typed unit
   pub rewritten : IsRewritten b.typed.unit b.rewritten.unit
   pub refines : UnitRefines b.rewritten.unit b.typed.unit
-  -- the code over virtual registers: each function is that of the rewritten unit's with its number, and it runs as the
-  -- typed unit, with a peak that is not above
-  pub code : IsCodeOf b.rewritten.unit b.vm
+  -- the code over virtual registers: each function of what lowering gives is that of the rewritten unit's with its
+  -- number; then instructions read origins in place of copies, and then the code is clean. It runs as the typed unit,
+  -- with a peak that is not above
+  pub lowered : VmProgram
+  pub code : IsCodeOf b.rewritten.unit lowered
+  pub copied : IsProgramWithoutCopiesOf lowered b.copied
+  pub clean : IsCleanProgramOf b.copied b.vm
   pub code_runs : CodeRefines b.typed.unit b.vm
   -- the code over temporaries: each function is that of the code over virtual registers with its number
   pub called : AllZip IsCalledAs b.vm.functions b.temps.functions

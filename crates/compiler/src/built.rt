@@ -20,7 +20,9 @@ pub struct Built {
     pub typed: LawfulUnit,
     /// That unit as the three rules rewrite it.
     pub rewritten: LawfulUnit,
-    /// The code of the rewritten unit over virtual registers.
+    /// The code of the rewritten unit over virtual registers, whose instructions read origins in place of copies.
+    pub copied: VmProgram,
+    /// That code without dead instructions, whose jumps go on past those that are only instructions.
     pub vm: VmProgram,
     /// The Alpha code over temporaries, whose functions have no block to which no path leads and no critical edge.
     pub temps: TempProgram,
@@ -60,6 +62,16 @@ pub(crate) struct PassParts<A, B> {
     pub(crate) made: B,
 }
 
+/// The code of a unit over temporaries, with what was made on the way to it, as far as that was kept.
+#[derive(Drop)]
+pub(crate) struct CodeParts {
+    pub(crate) typed: Option<LawfulUnit>,
+    pub(crate) rewritten: Option<LawfulUnit>,
+    pub(crate) copied: Option<VmProgram>,
+    pub(crate) vm: Option<VmProgram>,
+    pub(crate) temps: TempProgram,
+}
+
 /// The assembly of a program, with the program and the allocations of its functions, as far as they were kept.
 #[derive(Drop)]
 pub(crate) struct AssemblyParts {
@@ -74,6 +86,7 @@ pub(crate) struct Parts {
     pub(crate) unit: Option<TranslationUnit>,
     pub(crate) typed: Option<LawfulUnit>,
     pub(crate) rewritten: Option<LawfulUnit>,
+    pub(crate) copied: Option<VmProgram>,
     pub(crate) vm: Option<VmProgram>,
     pub(crate) temps: Option<TempProgram>,
     pub(crate) allocations: Option<Vec<Allocation>>,
@@ -91,6 +104,7 @@ impl Parts {
             unit,
             typed,
             rewritten,
+            copied,
             vm,
             temps,
             allocations,
@@ -101,6 +115,7 @@ impl Parts {
             unit: unit.unwrap(),
             typed: typed.unwrap(),
             rewritten: rewritten.unwrap(),
+            copied: copied.unwrap(),
             vm: vm.unwrap(),
             temps: temps.unwrap(),
             allocations: allocations.unwrap(),

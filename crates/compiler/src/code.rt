@@ -4,14 +4,17 @@ ghost use Rattle.std.specs.Prelude.{◌^◌, ◌≤◌, All, IfOk};
 ghost use Rattle.c_typed_tree.specs.Weight.{unit_weight};
 ghost use Rattle.c_typing_weight.specs.Limits.{most_weight};
 ghost use Rattle.suifvm_ir.specs.Programs.{VmFunction, program_size};
-ghost use Rattle.compiler.specs.model.Parts.{IsKept};
+ghost use Rattle.compiler.specs.model.Parts.{IsKept, IsCleanCode, AreCodePartsOf};
 ghost use Rattle.compiler.specs.model.Stages.{IsRewrittenUnit, IsLoweredUnit, IsSelectedProgram};
 
-use crate::built::{PassParts, WantedParts};
+use crate::built::{CodeParts, PassParts, WantedParts};
+use crate::laws::{clean_code_does_as_unit, rewritten_code_does_as_unit};
 use alpha_select::{select, select_in_turn};
+use block_passes::clean_and_split;
 use c_rewrite::rewrite_unit;
 use c_typed_tree::c_lawful_unit::LawfulUnit;
 use c_typed_tree::copy_unit;
+use flow_clean::{clean, clean_in_turn, without_copies};
 use lowering::{lower, lower_in_turn};
 use lowering_theorem::laws::programs_keep_meaning;
 use std::alloc::{AllocError, Global};
@@ -19,7 +22,7 @@ use suifvm_ir::program::VmProgram;
 use temp_ir::program::TempProgram;
 
 /// A unit as the three rules rewrite it. Where everything is wanted, it is a copy of the unit that is rewritten.
-pub(crate) fn rewrite(
+fn rewrite(
     alloc: Global,
     typed: LawfulUnit,
     wanted: WantedParts,
@@ -54,7 +57,7 @@ fn rewrite_lawful(alloc: Global, typed: LawfulUnit) -> Result<LawfulUnit, AllocE
 
 /// The code of a unit over virtual registers. Where the image alone is wanted, each function of the unit is let go as
 /// soon as it is lowered.
-pub(crate) fn lower_unit(
+fn lower_unit(
     alloc: Global,
     typed: LawfulUnit,
     wanted: WantedParts,
@@ -82,9 +85,38 @@ pub(crate) fn lower_unit(
     }
 }
 
+/// The clean program of one over virtual registers, beside the one whose instructions read no copies. Where the image
+/// alone is wanted, each function of that one is let go as soon as it is clean.
+fn clean_code(
+    alloc: Global,
+    lowered: VmProgram,
+    wanted: WantedParts,
+) -> Result<PassParts<VmProgram, VmProgram>, AllocError>
+    requires { program_size lowered.functions ≤ 2 ^ 24 }
+    ensures { IfOk result (λ p. IsCleanCode lowered wanted p.given p.made) }
+{
+    let copied = without_copies(alloc, lowered)?;
+    match wanted {
+        WantedParts::Everything => {
+            let vm = clean(alloc, &copied)?;
+            Ok(PassParts {
+                given: Some(copied),
+                made: vm,
+            })
+        }
+        WantedParts::Image => {
+            let vm = clean_in_turn(alloc, copied)?;
+            Ok(PassParts {
+                given: None,
+                made: vm,
+            })
+        }
+    }
+}
+
 /// The code over temporaries that is selected for code over virtual registers. Where the image alone is wanted, each
 /// function is let go as soon as instructions are selected for it.
-pub(crate) fn select_code(
+fn select_code(
     alloc: Global,
     vm: VmProgram,
     wanted: WantedParts,
@@ -110,4 +142,41 @@ pub(crate) fn select_code(
             })
         }
     }
+}
+
+/// The code of a unit over temporaries, whose functions have no block to which no path leads and no critical edge.
+pub(crate) fn code_of(
+    alloc: Global,
+    typed: LawfulUnit,
+    wanted: WantedParts,
+) -> Result<CodeParts, AllocError>
+    requires { unit_weight typed.unit ≤ most_weight }
+    ensures { IfOk result (AreCodePartsOf typed wanted) }
+{
+    let PassParts {
+        given: typed,
+        made: rewritten,
+    } = rewrite(alloc, typed, wanted)?;
+    let PassParts {
+        given: rewritten,
+        made: lowered,
+    } = lower_unit(alloc, rewritten, wanted)?;
+    rewritten_code_does_as_unit();
+    let PassParts {
+        given: copied,
+        made: vm,
+    } = clean_code(alloc, lowered, wanted)?;
+    clean_code_does_as_unit();
+    let PassParts {
+        given: vm,
+        made: selected,
+    } = select_code(alloc, vm, wanted)?;
+    let temps = clean_and_split(alloc, selected)?;
+    Ok(CodeParts {
+        typed,
+        rewritten,
+        copied,
+        vm,
+        temps,
+    })
 }

@@ -14,15 +14,12 @@ ghost use Rattle.compiler.specs.Images.{IsImageOfText};
 ghost use Rattle.compiler.specs.model.Parts.{UnitHasText, ArePartsOf};
 
 use crate::assembly::assemble_by_choice;
-use crate::built::{AssemblyParts, Built, Parts, PassParts, WantedParts};
-use crate::code::{lower_unit, rewrite, select_code};
-use crate::laws::{
-    assemblies_are_made, code_can_be_assembled, images_are_correct, rewritten_code_does_as_unit,
-};
+use crate::built::{AssemblyParts, Built, CodeParts, Parts, WantedParts};
+use crate::code::code_of;
+use crate::laws::{assemblies_are_made, code_can_be_assembled, images_are_correct};
 use alpha_asm::assemble::{AsmFault, assemble};
 use alpha_isa::image::Image;
 use alpha_items::asm::Asm;
-use block_passes::clean_and_split;
 use call_words::compile_options::{Allocator, Options};
 use compiler_front_end::{CompileFault, FrontEnd, read_unit};
 use image_code_bounds::program_words::laws::light_texts_fit_images;
@@ -82,26 +79,19 @@ fn make(
 {
     let FrontEnd { unit, typed } = front;
     let unit = wanted.keep(unit);
-    let PassParts {
-        given: typed,
-        made: rewritten,
-    } = rewrite(alloc, typed, wanted)?;
-    let PassParts {
-        given: rewritten,
-        made: vm,
-    } = lower_unit(alloc, rewritten, wanted)?;
-    rewritten_code_does_as_unit();
-    let PassParts {
-        given: vm,
-        made: selected,
-    } = select_code(alloc, vm, wanted)?;
-    let cleaned = clean_and_split(alloc, selected)?;
+    let CodeParts {
+        typed,
+        rewritten,
+        copied,
+        vm,
+        temps,
+    } = code_of(alloc, typed, wanted)?;
     code_can_be_assembled();
     let AssemblyParts {
         temps,
         allocations,
         asm,
-    } = assemble_by_choice(alloc, cleaned, allocator, wanted)?;
+    } = assemble_by_choice(alloc, temps, allocator, wanted)?;
     assemblies_are_made();
     let image = image_of(alloc, &asm)?;
     let asm = wanted.keep(asm);
@@ -109,6 +99,7 @@ fn make(
         unit,
         typed,
         rewritten,
+        copied,
         vm,
         temps,
         allocations,

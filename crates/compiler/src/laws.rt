@@ -1,12 +1,13 @@
 //! What follows of what the passes give, by the laws of the layers below: each the contract of a function that does
 //! nothing.
 
-ghost use Rattle.compiler.specs.model.Stages.{RewrittenCodeDoesAsUnit, CodeCanBeAssembled, AssembliesAreMade, ImagesAreCorrect};
+ghost use Rattle.compiler.specs.model.Stages.{RewrittenCodeDoesAsUnit, CleanCodeDoesAsUnit, CodeCanBeAssembled, AssembliesAreMade, ImagesAreCorrect};
 
 use block_preparation_laws::laws::{
     passes_keep_selections, temp_functions_fit, temp_functions_have_names,
 };
 use compiler_theorem::refined_code::laws::refined_units_have_code;
+use flow_clean::laws::{clean_programs_do_all, copies_go_in_programs, counts_stay_bounded};
 use image_assembly_laws::allocation_laws::laws::{
     allocations_are_near, allocations_fit, labels_are_few,
 };
@@ -15,12 +16,23 @@ use image_assembly_laws::laws::{
 };
 use image_code_bounds::program_rooms::laws::{frames_fit_their_rooms, functions_have_frames};
 use image_code_bounds::unit_words::laws::unit_texts_fit_images;
+use suifvm_meaning::laws::one_ending;
 
 /// The code of a rewritten unit does what the unit does.
 pub(crate) fn rewritten_code_does_as_unit()
     ensures { RewrittenCodeDoesAsUnit }
 {
     refined_units_have_code();
+}
+
+/// Clean code does what the unit does.
+pub(crate) fn clean_code_does_as_unit()
+    ensures { CleanCodeDoesAsUnit }
+{
+    copies_go_in_programs();
+    clean_programs_do_all();
+    counts_stay_bounded();
+    one_ending();
 }
 
 /// The code of a unit within the limits can be laid out and gathered, by any allocations of its functions.

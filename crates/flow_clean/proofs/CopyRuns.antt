@@ -48,7 +48,7 @@ same_values vs us o p e = cc
 same_given : (u w : Value) → Gives u ≡ Gives w → u ≡ w
 same_given u w e = cc
 
-gives_value : (a : Answer) (o after : Outer) (vs : List Value) (w : Value) → (a ≡ Gives w) ⊎ (a ≡ Fails) → writes a o ≡ Writes vs after → vs ≡ w ∷ []
+pub gives_value : (a : Answer) (o after : Outer) (vs : List Value) (w : Value) → (a ≡ Gives w) ⊎ (a ≡ Fails) → writes a o ≡ Writes vs after → vs ≡ w ∷ []
 gives_value (Gives u) o after vs w (inl e) is = same_values (u ∷ []) vs o after is ∙ ap (λ z. z ∷ []) (same_given u w e)
 gives_value (Gives u) o after vs w (inr e) is = let never : ⊥ = cc in absurd never
 gives_value (TrapsWith code) o after vs w choice is = let never : ⊥ = cc in absurd never
@@ -63,7 +63,7 @@ on_word : (b : Bool) (w : Value) → ((if b then Gives w else Fails) ≡ Gives w
 on_word true w = inl refl
 on_word false w = inr refl
 
-move_answer : (ty : VmType) (w : Value) → (unary_answer unary.Move ty w ≡ Gives w) ⊎ (unary_answer unary.Move ty w ≡ Fails)
+pub move_answer : (ty : VmType) (w : Value) → (unary_answer unary.Move ty w ≡ Gives w) ⊎ (unary_answer unary.Move ty w ≡ Fails)
 move_answer types.S32 (values.Word n) = on_word _ (values.Word n)
 move_answer types.U32 (values.Word n) = on_word _ (values.Word n)
 move_answer types.S64 (values.Word n) = on_word _ (values.Word n)

@@ -24,7 +24,7 @@ use Rattle.flow_clean.proofs.Lagging.AloneAct.{WritesAlone, MeansNothing}
 use Rattle.flow_clean.proofs.Lagging.Stands.{Both, Alone, Nowhere}
 use Rattle.flow_clean.proofs.DroppedActs.{Drops, drops, dropped_turn, dropped_straight, writing_flows, calling_flows}
 use Rattle.flow_clean.proofs.DroppedActs.Drops.{DropsValue, DropsNothing}
-use Rattle.flow_clean.proofs.WantedRegisters.{stays, same_behind, read_same, is_cleaned, unwritten, droppable, wanted_live, last_is, stands_last, target_follows, next_follows}
+use Rattle.flow_clean.proofs.WantedRegisters.{same_behind, read_same, is_cleaned, unchanged, droppable, wanted_live, last_is, stands_last, target_follows, next_follows}
 
 data Pair : (o q : Option FunctionCode) → Type 0 where
   NoPair : {o q : Option FunctionCode} → o ≡ None → q ≡ None → Pair o q
@@ -182,7 +182,7 @@ module _ (only : OnlyTheseVmInstructionsTrap) (rooms : Rooms) (fs gs : List Func
             rest = d.1;
             behind = a.behind ∙ shorter;
             onward = λ none. next_follows a.insns i p.block (last_is a.insns p.at i (a.rest ∙ xs_is ∙ ap (λ l. i ∷ l) none)) (dropped_straight i (droppable bottom i ys dead)).1;
-            agree = λ k wanted. a.agree k (ap (λ l. is_wanted bottom l k) shorter ∙ wanted) ∙ sym (stays (writes_of i) (v ∷ []) r k (unwritten bottom i ys dead k wanted));
+            agree = λ k wanted. a.agree k (ap (λ l. is_wanted bottom l k) shorter ∙ wanted) ∙ sym (unchanged bottom i ys dead own r o o (v ∷ []) e k wanted);
           }))
 
       -- it stays

@@ -7,6 +7,7 @@ pub mod DroppedActs
 pub mod WantedRegisters
 pub mod DeadRuns
 pub mod WantedSets
+pub mod SelfMoves
 pub mod CleanedLists
 pub mod Thinned
 pub mod CleanedFunctions
@@ -17,3 +18,10 @@ pub mod Renamed
 pub mod CopyRuns
 pub mod Fronts
 pub mod CopiedBlocks
+pub mod Turns
+pub mod Alike
+pub mod EachInsn
+pub mod FewRegisters
+pub mod BothPasses
+pub mod CleanRuns
+pub mod CleanPrograms

@@ -1,11 +1,13 @@
 -- A run without instructions whose writes nothing reads lags behind the run with them.
-use Rattle.std.proofs.Common.{◌≡◌, ℕ, zero, suc, ◌-◌, ◌<◌, ◌≤◌, ◌==◌, ◌&&◌, not, Bool, true, false, List, [], ◌∷◌, length, take, drop, map, Some, refl, sym, ap, ◌∙◌, subst, inl, inr, ⊎_elim, arith}
+use Rattle.std.proofs.Common.{◌≡◌, ◌⊎◌, ℕ, zero, suc, ◌-◌, ◌<◌, ◌≤◌, ◌==◌, ◌&&◌, not, Bool, true, false, List, [], ◌∷◌, length, take, drop, map, Some, refl, sym, ap, ◌∙◌, subst, inl, inr, ⊎_elim, arith}
 use Rattle.std.specs.Prelude.{slice_get, Contains, if◌then◌else◌}
 use Rattle.std.specs.List.{list_any}
 use Rattle.std.proofs.lemmas.Bool.{eq-eqb, eqb-true, and_parts}
 use Rattle.std.proofs.lemmas.List.Elements.{Contains-append_left, Contains-append_right}
 use Rattle.std.proofs.lemmas.Option.{slice_get_within, get_or_from_slice_get}
 use Rattle.mem_model.specs.declared.value.Value.{Value}
+use Rattle.mem_model.specs.World.{Outer}
+use Rattle.machine_model.specs.Code.{Writes}
 use Rattle.pass_core.specs.Functions.{insn_in, insn_at, EndsLate, IsStraight, front_of, last_of, successors_of, successors_after}
 use Rattle.pass_core.specs.Live.{Live}
 use Rattle.pass_core.specs.Live.Live.{IsRead, Passes}
@@ -14,8 +16,10 @@ use Rattle.bitvector_flow.specs.Lives.{has_register, AreLive}
 use Rattle.bitvector_flow.proofs.Lives.{either, or_cases, and_left, and_right, or_neither, neither_made, of_names, none_of, drop_first, drop_none}
 use Rattle.suifvm_ir.specs.declared.insn.VmInsn.{VmInsn}
 use Rattle.suifvm_ir.specs.Insns.{reads_of, writes_of, targets_of, flows_on_of}
+use Rattle.suifvm_meaning.specs.Effect.{does}
 use Rattle.suifvm_meaning.specs.Behave.{Registers, set_register, set_registers, first_or_unset}
-use Rattle.flow_clean.specs.Dead.{may_drop, is_wanted, is_dead_write, cleaned}
+use Rattle.flow_clean.specs.Dead.{may_drop, is_self_move, is_wanted, is_dead_write, cleaned}
+use Rattle.flow_clean.proofs.SelfMoves.{self_drops, self_reads, self_stays}
 
 -- ---- registers
 
@@ -67,8 +71,15 @@ module _ (bottom : ℕ → Bool) (i : VmInsn) (xs : List VmInsn) where
   pub is_cleaned : (d : Bool) → is_dead_write bottom i (cleaned bottom xs) ≡ d → cleaned bottom (i ∷ xs) ≡ (if d then cleaned bottom xs else i ∷ cleaned bottom xs)
   is_cleaned d e = ap (λ b. if b then cleaned bottom xs else i ∷ cleaned bottom xs) e
 
-  -- what is wanted is not written by one that is dead
-  pub unwritten : is_dead_write bottom i (cleaned bottom xs) ≡ true → (k : ℕ) → is_wanted bottom (cleaned bottom xs) k ≡ true → has_register (writes_of i) k ≡ false
+  -- nothing wants what it writes
+  abbrev Unread : Type 0
+  Unread = (may_drop i && not (list_any (is_wanted bottom (cleaned bottom xs)) (writes_of i))) ≡ true
+
+  -- what is dead is a move of a register to itself, or nothing wants what it writes
+  self_or_unread : is_dead_write bottom i (cleaned bottom xs) ≡ true → (is_self_move i ≡ true) ⊎ Unread
+  self_or_unread dead = or_cases (is_self_move i) (may_drop i && not (list_any (is_wanted bottom (cleaned bottom xs)) (writes_of i))) dead
+
+  unwritten : Unread → (k : ℕ) → is_wanted bottom (cleaned bottom xs) k ≡ true → has_register (writes_of i) k ≡ false
   unwritten dead k wanted = by_value (has_register (writes_of i) k) refl
     where
       by_value : (b : Bool) → has_register (writes_of i) k ≡ b → b ≡ false
@@ -79,7 +90,26 @@ module _ (bottom : ℕ → Bool) (i : VmInsn) (xs : List VmInsn) where
           absurd (let clash : true ≡ false = sym wanted ∙ none in cc)
 
   pub droppable : is_dead_write bottom i (cleaned bottom xs) ≡ true → may_drop i ≡ true
-  droppable dead = (and_parts (may_drop i) (not (list_any (is_wanted bottom (cleaned bottom xs)) (writes_of i))) dead).0
+  droppable dead = ⊎_elim
+      (λ self. self_drops i self)
+      (λ unread. (and_parts (may_drop i) (not (list_any (is_wanted bottom (cleaned bottom xs)) (writes_of i))) unread).0)
+      (self_or_unread dead)
+
+  -- what is wanted is not written by one that is dead, or read by it
+  pub unwritten_or_read : is_dead_write bottom i (cleaned bottom xs) ≡ true → (k : ℕ) → is_wanted bottom (cleaned bottom xs) k ≡ true → (has_register (writes_of i) k ≡ false) ⊎ (has_register (reads_of i) k ≡ true)
+  unwritten_or_read dead k wanted = ⊎_elim (λ self. by_value self (has_register (writes_of i) k) refl) (λ unread. inl (unwritten unread k wanted)) (self_or_unread dead)
+    where
+      by_value : is_self_move i ≡ true → (b : Bool) → has_register (writes_of i) k ≡ b → (has_register (writes_of i) k ≡ false) ⊎ (has_register (reads_of i) k ≡ true)
+      by_value self false e = inl e
+      by_value self true e = inr (ap (λ ks. has_register ks k) (self_reads i self) ∙ e)
+
+  -- and holds behind it what it held before it
+  pub unchanged : is_dead_write bottom i (cleaned bottom xs) ≡ true → (own : ℕ) (r : Registers) (o after : Outer) (vs : List Value) → does i own (map r (reads_of i)) o ≡ Writes vs after →
+      (k : ℕ) → is_wanted bottom (cleaned bottom xs) k ≡ true → set_registers (writes_of i) vs r k ≡ r k
+  unchanged dead own r o after vs e k wanted = ⊎_elim
+      (λ self. self_stays i self own r o after vs e k)
+      (λ unread. stays (writes_of i) vs r k (unwritten unread k wanted))
+      (self_or_unread dead)
 
 -- ---- what is wanted is live
 
@@ -106,7 +136,9 @@ module _ (blocks : List (List VmInsn)) (temps : ℕ) (tops bottoms : List (List 
       by_dead later true dead =
           let wanted : is_wanted (has_at bottoms block) (cleaned (has_at bottoms block) xs) k ≡ true =
           sym (ap (λ l. is_wanted (has_at bottoms block) l k) (is_cleaned (has_at bottoms block) i xs true dead)) ∙ h in
-          Passes i there (none_of (writes_of i) k (unwritten (has_at bottoms block) i xs dead k wanted)) (later wanted)
+          ⊎_elim (λ none. Passes i there (none_of (writes_of i) k none) (later wanted))
+          (λ read. IsRead i there (of_names (reads_of i) k read))
+          (unwritten_or_read (has_at bottoms block) i xs dead k wanted)
       by_dead later false kept =
           let wanted : is_wanted (has_at bottoms block) (i ∷ cleaned (has_at bottoms block) xs) k ≡ true =
           sym (ap (λ l. is_wanted (has_at bottoms block) l k) (is_cleaned (has_at bottoms block) i xs false kept)) ∙ h in

@@ -9,7 +9,7 @@ use Rattle.bitvector_flow.specs.Lives.{has_register}
 use Rattle.suifvm_ir.specs.declared.insn.VmInsn.{VmInsn}
 use Rattle.suifvm_ir.specs.declared.insn.VmInsn.TheVariants as x
 use Rattle.suifvm_ir.specs.Insns.{reads_of, writes_of, named_register}
-use Rattle.flow_clean.specs.Dead.{may_drop, is_unwanted}
+use Rattle.flow_clean.specs.Dead.{may_drop, is_self_move, is_unwanted}
 use Rattle.flow_clean.specs.declared.origins.LastWrite.{LastWrite}
 use Rattle.flow_clean.specs.Copies.{with_reads}
 use Rattle.flow_clean.specs.model.Origins.{origin}
@@ -64,13 +64,21 @@ first_inside P i o all is = subst (λ z. IfSome z P) (sym is) (of_list (writes_o
 
 -- ---- whether it may be left out
 
-pub not_dropped : (w : ℕ → Bool) (i : VmInsn) (d : Bool) → d ≡ may_drop i → d ≡ false → false ≡ is_unwanted w i
-not_dropped w i d is none = sym (ap (λ b. b && not (list_any w (writes_of i))) (sym is ∙ none))
+pub self_unwanted : (w : ℕ → Bool) (i : VmInsn) (s : Bool) → s ≡ is_self_move i → s ≡ true → true ≡ is_unwanted w i
+self_unwanted w i s self moves = sym (ap (λ b. b || (may_drop i && not (list_any w (writes_of i)))) (sym self ∙ moves))
 
-pub unwanted_by : (w : ℕ → Bool) (i : VmInsn) (d m : Bool) (o : Option ℕ) → d ≡ may_drop i → d ≡ true → o ≡ slice_get (writes_of i) 0 → m ≡ is_member_in w o → not m ≡ is_unwanted w i
-unwanted_by w i d m o is some first member =
+-- where it is no move of a register to itself
+unless_self : (w : ℕ → Bool) (i : VmInsn) (s : Bool) → s ≡ is_self_move i → s ≡ false → (may_drop i && not (list_any w (writes_of i))) ≡ is_unwanted w i
+unless_self w i s self other = sym (ap (λ b. b || (may_drop i && not (list_any w (writes_of i)))) (sym self ∙ other))
+
+pub not_dropped : (w : ℕ → Bool) (i : VmInsn) (s d : Bool) → s ≡ is_self_move i → s ≡ false → d ≡ may_drop i → d ≡ false → false ≡ is_unwanted w i
+not_dropped w i s d self other is none =
+    sym (ap (λ b. b && not (list_any w (writes_of i))) (sym is ∙ none)) ∙ unless_self w i s self other
+
+pub unwanted_by : (w : ℕ → Bool) (i : VmInsn) (s d m : Bool) (o : Option ℕ) → s ≡ is_self_move i → s ≡ false → d ≡ may_drop i → d ≡ true → o ≡ slice_get (writes_of i) 0 → m ≡ is_member_in w o → not m ≡ is_unwanted w i
+unwanted_by w i s d m o self other is some first member =
     ap not (member ∙ ap (is_member_in w) first ∙ sym (any_first w (writes_of i) (one_write i)))
-    ∙ sym (ap (λ b. b && not (list_any w (writes_of i))) (sym is ∙ some))
+    ∙ sym (ap (λ b. b && not (list_any w (writes_of i))) (sym is ∙ some)) ∙ unless_self w i s self other
 
 -- ---- registers that are taken out and put in
 

@@ -1,5 +1,5 @@
 -- Instructions that are left out because nothing reads what they write.
-use Rattle.std.specs.Prelude.{◌≡◌, ◌≤◌, sum_by, ℕ, ◌&&◌, ◌||◌, not, Bool, true, false, List, [], ◌∷◌, length, slice_get, All, Some, if◌then◌else◌}
+use Rattle.std.specs.Prelude.{◌≡◌, ◌≤◌, sum_by, ℕ, ◌==◌, ◌&&◌, ◌||◌, not, Bool, true, false, List, [], ◌∷◌, length, slice_get, All, Some, if◌then◌else◌}
 use Rattle.std.specs.List.{list_any}
 use Rattle.mem_model.specs.World.{World, Rooms}
 use Rattle.mem_model.specs.Ending.{Ending, IsDefined}
@@ -7,6 +7,7 @@ use Rattle.machine_model.specs.Machine.{Over}
 use Rattle.pass_core.specs.Functions.{EndsLate, count_of, edge_count}
 use Rattle.bitvector_flow.specs.Flows.{has_at}
 use Rattle.bitvector_flow.specs.Lives.{has_register, AreLive}
+use Rattle.suifvm_ir.specs.declared.insn.VmUnaryOp.TheVariants.{Move}
 use Rattle.suifvm_ir.specs.declared.insn.VmInsn.{VmInsn}
 use Rattle.suifvm_ir.specs.declared.insn.VmInsn.TheVariants.{LoadConstant, LoadAddress, Load, Unary, Binary, Shift, Convert, Compare}
 use Rattle.suifvm_ir.specs.Insns.{reads_of, writes_of, targets_of, flows_on_of, unary_may_trap, binary_may_trap}
@@ -33,9 +34,14 @@ is_wanted bottom [] register = bottom register
 is_wanted bottom (i ∷ insns) register =
     has_register (reads_of i) register || (not (has_register (writes_of i) register) && is_wanted bottom insns register)
 
+-- a move of a register to itself
+abbrev pub is_self_move : VmInsn → Bool
+is_self_move (Unary Move ty destination source) = destination == source
+is_self_move _ = false
+
 -- it may be left out where these registers are wanted behind it
 abbrev pub is_unwanted : (wanted : ℕ → Bool) → VmInsn → Bool
-is_unwanted wanted i = may_drop i && not (list_any wanted (writes_of i))
+is_unwanted wanted i = is_self_move i || (may_drop i && not (list_any wanted (writes_of i)))
 
 -- it may be left out before these instructions
 abbrev pub is_dead_write : (bottom : ℕ → Bool) → VmInsn → (behind : List VmInsn) → Bool

@@ -1,3 +1,4 @@
 pub mod Ends
 pub mod Origins
 pub mod Walks
+pub mod Passes

@@ -5,12 +5,12 @@ ghost use Rattle.pass_core.specs.Functions.{UsesRegisters};
 ghost use Rattle.suifvm_ir.specs.Insns.{reads_of, writes_of};
 ghost use Rattle.bk_bits.specs.Sets.{has};
 ghost use Rattle.bitvector_flow.specs.Lives.{has_register};
-ghost use Rattle.flow_clean.specs.Dead.{may_drop, is_unwanted};
+ghost use Rattle.flow_clean.specs.Dead.{may_drop, is_self_move, is_unwanted};
 ghost use Rattle.flow_clean.specs.model.Walks.{is_named, is_member_in, IsWantedBefore};
 
 use bk_bits::BitSet;
 use pass_core::Insn;
-use suifvm_ir::insn::VmInsn;
+use suifvm_ir::insn::{VmInsn, VmUnaryOp};
 
 /// Whether an instruction does nothing but write a register, and may not trap.
 fn may_drop(insn: &VmInsn) -> bool
@@ -36,6 +36,21 @@ fn may_drop(insn: &VmInsn) -> bool
     }
 }
 
+/// Whether an instruction moves a register to itself.
+fn is_self_move(insn: &VmInsn) -> bool
+    ensures { result ≡ is_self_move insn.now }
+{
+    match insn {
+        VmInsn::Unary {
+            op: VmUnaryOp::Move,
+            destination,
+            source,
+            ..
+        } => *destination == *source,
+        _ => false,
+    }
+}
+
 /// Whether a register is a member, if there is one.
 fn is_member(wanted: &BitSet, register: Option<u32>) -> bool
     requires { IfSome register (λ k. k < length wanted.now) }
@@ -48,11 +63,14 @@ fn is_member(wanted: &BitSet, register: Option<u32>) -> bool
 }
 
 /// Whether an instruction may be left out where these registers are wanted behind it.
-#[tactic(auto, using(crate::proofs::WantedSets::not_dropped, crate::proofs::WantedSets::unwanted_by, crate::proofs::WantedSets::first_inside))]
+#[tactic(auto, using(crate::proofs::WantedSets::self_unwanted, crate::proofs::WantedSets::not_dropped, crate::proofs::WantedSets::unwanted_by, crate::proofs::WantedSets::first_inside))]
 pub(crate) fn is_unwanted(wanted: &BitSet, insn: &VmInsn) -> bool
     requires { All (λ register. register < length wanted.now) (writes_of insn.now) }
     ensures { result ≡ is_unwanted (has wanted.now) insn.now }
 {
+    if is_self_move(insn) {
+        return true;
+    }
     if !may_drop(insn) {
         return false;
     }

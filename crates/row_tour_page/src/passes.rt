@@ -29,8 +29,10 @@ pub const VM: Section = Section {
     call: "msc print tour.c --pass vm",
     said: "Lowering makes blocks of simple instructions, over as many registers `vK` as it takes, and \
         numbers the instructions of the whole program. The variable `x` is `v0`. The statement is in block `B1`: \
-        each node of its tree has become one instruction, operands first: the number 3, `x`, the product, the number \
-        1, the sum, and the assignment. `mrk` in front counts a turn of the loop. The condition stands behind the \
+        each node of its tree becomes one instruction, operands first: the number 3, `x`, the product, the number \
+        1, the sum, and the assignment. `x` was a copy of `v0` in a register of its own, as in front of the \
+        comparison and the `return`; such copies are gone here, since `v0` is read where it stands and nothing \
+        reads them any more. `mrk` in front counts a turn of the loop. The condition stands behind the \
         body, in `B2`, so that each further turn takes one branch. `B4` is the end of `main` behind the `return`, \
         where C99 5.1.2.2.3 returns 0.",
 };

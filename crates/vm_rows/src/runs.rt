@@ -7,11 +7,12 @@ use row_sheets::escape::unescape;
 use row_sheets::number::{number, numbers};
 use row_vm_texts::reader::VmReader;
 use std::alloc::Global;
+use suifvm_ir::program::VmProgram;
 use suifvm_ir::vm_text;
 use suifvm_run::{VmEnding, run_vm};
 
 /// The most bytes that a run may write.
-const ROOM: u64 = 65_536;
+pub(crate) const ROOM: u64 = 65_536;
 
 /// What a row says of a run besides its program.
 #[derive(Drop)]
@@ -54,7 +55,7 @@ fn lines_of_text(alloc: Global, given: &str) -> Result<Vec<u8>> {
         let word = line.split(' ').next().unwrap_or(line);
         let is_shown = match word {
             "global" | "params" | "registers" | "object" => false,
-            "input" | "failing-inputs" | "failing-puts" | "turns" => false,
+            "input" | "failing-inputs" | "failing-puts" | "turns" | "behind" => false,
             _ => true,
         };
         if is_shown {
@@ -63,6 +64,16 @@ fn lines_of_text(alloc: Global, given: &str) -> Result<Vec<u8>> {
         }
     }
     Ok(text)
+}
+
+/// Refuses a program whose text is not the one that a row gives.
+pub(crate) fn check_text(alloc: Global, program: &VmProgram, given: &str) -> Result<()> {
+    let text = vm_text(alloc, program)?;
+    ensure!(
+        text.as_slice() == lines_of_text(alloc, given)?.as_slice(),
+        "the program's text is another one"
+    );
+    Ok(())
 }
 
 /// Whether a run came to an end of the program, with no fault outside it.
@@ -89,11 +100,7 @@ pub fn answer(alloc: Global, given: &str) -> Result<Vec<u8>> {
         }
     }
     let program = reader.program()?;
-    let text = vm_text(alloc, &program)?;
-    ensure!(
-        text.as_slice() == lines_of_text(alloc, given)?.as_slice(),
-        "the program's text is another one"
-    );
+    check_text(alloc, &program, given)?;
     let taken = Vec::from_slice(alloc, outside.input.as_slice())?;
     let mut input = MemSource::new(taken, outside.failing_inputs);
     let mut out = MemSink::new(alloc, ROOM, outside.failing_puts)?;

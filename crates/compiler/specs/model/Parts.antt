@@ -4,7 +4,11 @@ use Rattle.std.specs.List.{AllZip}
 use Rattle.std.specs.Global.{Vec}
 use Rattle.c_tree.specs.declared.declarations.TranslationUnit.{TranslationUnit}
 use Rattle.c_typed_tree.specs.declared.units.TypedUnit.{TypedUnit}
+use Rattle.c_typed_tree.specs.declared.c_lawful_unit.LawfulUnit.{LawfulUnit}
 use Rattle.c_typed_tree.specs.Weight.{unit_weight}
+use Rattle.suifvm_ir.specs.declared.program.VmProgram.{VmProgram}
+use Rattle.lowering_theorem.specs.Laws.{IsCodeOf}
+use Rattle.flow_clean.specs.Programs.{IsProgramWithoutCopiesOf, IsCleanProgramOf}
 use Rattle.temp_ir.specs.declared.program.TempProgram.{TempProgram}
 use Rattle.temp_ir.specs.Programs.{TempFn}
 use Rattle.alloc_model.specs.declared.allocation.Allocation.{Allocation}
@@ -13,11 +17,12 @@ use Rattle.call_words.specs.declared.compile_options.Allocator.{Allocator}
 use Rattle.compiler_front_end.specs.Units.{IsUnitWithin}
 use Rattle.compiler.specs.declared.built.AssemblyParts.{AssemblyParts}
 use Rattle.compiler.specs.declared.built.Built.{Built}
+use Rattle.compiler.specs.declared.built.CodeParts.{CodeParts}
 use Rattle.compiler.specs.declared.built.Parts.{Parts}
 use Rattle.compiler.specs.declared.built.WantedParts.{WantedParts}
 use Rattle.compiler.specs.declared.built.WantedParts.TheVariants.{Everything}
 use Rattle.compiler.specs.Made.{Made}
-use Rattle.compiler.specs.model.Stages.{IsAssemblyOf}
+use Rattle.compiler.specs.model.Stages.{IsRewrittenUnit, IsCodeWithin, IsAssemblyOf}
 
 -- a text has this tree, and this is its typed unit, which is within the limits
 pub record UnitHasText (tree : TranslationUnit) (u : TypedUnit) : Type 0 where
@@ -29,6 +34,32 @@ pub record UnitHasText (tree : TranslationUnit) (u : TypedUnit) : Type 0 where
 -- what a pass was given is kept if everything is wanted
 abbrev pub IsKept : {A : Type 0} → WantedParts → A → Option A → Type 0
 IsKept wanted value kept = wanted ≡ Everything → kept ≡ Some value
+
+-- a program is the clean one of one whose instructions read no copies, which is made of another one, and is kept if
+-- everything is wanted
+pub record IsCleanCode (lowered : VmProgram) (wanted : WantedParts) (given : Option VmProgram)
+    (vm : VmProgram) : Type 0 where
+  pub copied : VmProgram
+  pub without_copies : IsProgramWithoutCopiesOf lowered copied
+  pub clean : IsCleanProgramOf copied vm
+  pub kept : IsKept wanted copied given
+
+-- the code of a unit over temporaries, by way of what each pass made of what the one before it gave; that is kept if
+-- everything is wanted
+pub record AreCodePartsOf (typed : LawfulUnit) (wanted : WantedParts) (p : CodeParts) : Type 0 where
+  pub rewritten : LawfulUnit
+  pub lowered : VmProgram
+  pub copied : VmProgram
+  pub vm : VmProgram
+  pub is_rewritten : IsRewrittenUnit typed.unit rewritten.unit
+  pub is_code : IsCodeOf rewritten.unit lowered
+  pub without_copies : IsProgramWithoutCopiesOf lowered copied
+  pub clean : IsCleanProgramOf copied vm
+  pub within : IsCodeWithin typed.unit vm p.temps
+  pub typed_kept : IsKept wanted typed p.typed
+  pub rewritten_kept : IsKept wanted rewritten p.rewritten
+  pub copied_kept : IsKept wanted copied p.copied
+  pub vm_kept : IsKept wanted vm p.vm
 
 -- there are allocations that an allocator gives for the functions of a program, of which this is the assembly; the
 -- program and they are kept if everything is wanted
@@ -49,6 +80,7 @@ parts_of_built b = record {
   unit = Some b.unit;
   typed = Some b.typed;
   rewritten = Some b.rewritten;
+  copied = Some b.copied;
   vm = Some b.vm;
   temps = Some b.temps;
   allocations = Some b.allocations;

@@ -19,6 +19,7 @@ use Rattle.c_rewrite.specs.Rewritten.{IsRewritten}
 use Rattle.suifvm_ir.specs.declared.program.VmProgram.{VmProgram}
 use Rattle.pass_core.specs.Functions.{count_of}
 use Rattle.suifvm_ir.specs.Programs.{VmFunction, program_size}
+use Rattle.flow_clean.specs.Programs.{IsProgramWithoutCopiesOf, IsCleanProgramOf}
 use Rattle.lowering.specs.Lowered.{AllStandFor}
 use Rattle.lowering_theorem.specs.Laws.{IsCodeOf, CodeRunsAs}
 use Rattle.temp_ir.specs.declared.program.TempProgram.{TempProgram}
@@ -70,6 +71,12 @@ abbrev pub RewrittenCodeDoesAsUnit : Type 0
 RewrittenCodeDoesAsUnit =
     (u rewritten : TypedUnit) (vm : VmProgram) → IsRewrittenUnit u rewritten → IsLoweredUnit rewritten vm →
     DoesAsUnit u vm
+
+-- clean code does what the unit does
+abbrev pub CleanCodeDoesAsUnit : Type 0
+CleanCodeDoesAsUnit =
+    (u : TypedUnit) (lowered copied vm : VmProgram) → DoesAsUnit u lowered →
+    IsProgramWithoutCopiesOf lowered copied → IsCleanProgramOf copied vm → DoesAsUnit u vm
 
 -- what selection gives of code over virtual registers
 pub record IsSelectedProgram (vm : VmProgram) (selected : TempProgram) : Type 0 where

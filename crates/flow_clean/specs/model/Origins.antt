@@ -35,7 +35,8 @@ abbrev pub AreBefore : (time : ℕ) → List LastWrite → Type 0
 AreBefore time writes = All (λ last. last.when < time) writes
 
 -- an instruction was put behind others at a time, in a block that began at a start
-pub record IsLineCopied (start time : ℕ) (i : VmInsn) (made made_new : List VmInsn) (writes writes_new : List LastWrite) : Type 0 where
+pub record IsLineCopied (start time : ℕ) (i : VmInsn) (made made_new : List VmInsn)
+    (writes writes_new : List LastWrite) : Type 0 where
   pub made_is : made_new ≡ made ++ with_reads (origin writes start) i ∷ []
   pub writes_are : writes_new ≡ noted writes time (with_reads (origin writes start) i)
 
@@ -46,12 +47,14 @@ pub record AreLast (registers time : ℕ) (writes : List LastWrite) : Type 0 whe
   pub inside : All (λ last. last.source < registers) writes
 
 -- a block that began at a start was put behind others
-pub record IsBlockCopied (start next : ℕ) (insns : List VmInsn) (made made_new : List VmInsn) (writes writes_new : List LastWrite) : Type 0 where
+pub record IsBlockCopied (start next : ℕ) (insns : List VmInsn) (made made_new : List VmInsn)
+    (writes writes_new : List LastWrite) : Type 0 where
   pub next_is : next ≡ start + length insns
   pub made_is : made_new ≡ made ++ without_copies no_copies insns
   pub last : AreLast (length writes) next writes_new
 
-pub record IsBlockPushed (start next : ℕ) (insns : List VmInsn) (made made_new : List (List VmInsn)) (writes writes_new : List LastWrite) : Type 0 where
+pub record IsBlockPushed (start next : ℕ) (insns : List VmInsn) (made made_new : List (List VmInsn))
+    (writes writes_new : List LastWrite) : Type 0 where
   pub next_is : next ≡ start + length insns
   pub made_is : made_new ≡ made ++ without_copies no_copies insns ∷ []
   pub last : AreLast (length writes) next writes_new
