@@ -26,7 +26,8 @@ HEAD = """# Programs over virtual registers, and what the passes make of them th
 #
 # What is due is a line for each run, with its ending and what was put, if anything was; and for each pass the text of
 # the program behind it and those before it, and again a line for each run. Two numbers of turns are as many as the run
-# takes, and one fewer. How many instructions there are is seen by their numbers.
+# takes, and one fewer. How many instructions there are is seen by their numbers. How many instructions a run takes is
+# counted by the model that writes these rows, and no run takes more behind a pass than before it.
 """
 
 

@@ -19,9 +19,9 @@ import sys
 TOP = pathlib.Path(__file__).resolve().parent.parent
 CRATES = TOP / "crates"
 TABLE = TOP / "docs" / "want_of_memory.md"
-# the name in a type, in a path of its own functions, or as a parameter's type
-NO_VALUE = [r"Result<[^;{]*?AllocError>", r"From<[\w:]*AllocError>", r"(?<!:):\s+[\w:]*\bAllocError\b(?=[,)\s])",
-            r"\bAllocError::from\b", r"\[`AllocError`\]"]
+# the name in a type, in a path of its own functions, or as a parameter's type, which no brace and no brace's line has
+NO_VALUE = [r"Result<[^;{]*?AllocError>", r"From<[\w:]*AllocError>", r"\bAllocError::from\b", r"\[`AllocError`\]"]
+PARAMETER = r"\bfn\b[^{]*?(?<!:):\s+[\w:]*\bAllocError\b(?=[,)\s])"
 DEFINITION = "bk_memory/specs/Shortage.antt"
 PROOFS = "bk_memory/proofs/"
 
@@ -34,7 +34,7 @@ def values(text):
         if re.match(r"\s*(pub )?(ghost )?use\b", line):
             count += len(re.findall(r"\bAllocError as\b", line))
             continue
-        for pattern in NO_VALUE:
+        for pattern in [*NO_VALUE, PARAMETER]:
             line = re.sub(pattern, "", line)
         count += len(re.findall(r"\bAllocError\b", line))
     return count
@@ -95,4 +95,5 @@ def main():
     return status
 
 
-sys.exit(main())
+if __name__ == "__main__":
+    sys.exit(main())

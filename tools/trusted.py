@@ -1,7 +1,8 @@
 #!/usr/bin/env python3
 """Lists what a reader has to believe of a contract: the definitions that it reaches, file by file.
 
-    tools/trusted.py                   writes docs/trusted.md, for the contract of msc_main
+    tools/trusted.py                   writes docs/trusted.md: what the headline rests on, and then what the whole
+                                       contract of msc_main rests on besides
     tools/trusted.py --check           fails where docs/trusted.md is not what would be written
     tools/trusted.py FUNCTION..        prints the same for other public functions; a name is `f`, `Type::f`
                                        or `crate::f`
@@ -29,6 +30,7 @@ ROOT = "msc_main"
 
 Item = collections.namedtuple("Item", "crate kind module name")
 # kind: "specs" for a definition of an .antt file, "code" for an item of a .rt file
+HEADLINE = Item("compiler_theorem", "specs", "Correct", "IsCorrectImage")
 Node = collections.namedtuple("Node", "lines words")  # the numbers of its lines, and the names in them
 
 
@@ -565,16 +567,8 @@ def row(words):
     return "| " + " | ".join(str(w) for w in words) + " |"
 
 
-def page(repository, roots, title):
-    items = repository.reached(roots) - set(roots)
-    out = [f"# {title}", ""]
-    names = ", ".join(f"`{item.crate}::{item.name}`" for item in roots)
-    out += [
-        f"Made by `tools/trusted.py`, which follows the names in the contract of {names}. These definitions say",
-        "what the contract claims, so a reader has to believe that they say what they are meant to. All else in the",
-        "repository is checked by the toolchain, or is nothing that this contract rests on.",
-        "",
-    ]
+def definitions_of(repository, items, heading):
+    """The definitions among items, file by file, below a heading."""
     table, total, files = [], 0, 0
     for crate in repository.crates:
         for (name, module), file in sorted(repository.specs.items()):
@@ -588,9 +582,13 @@ def page(repository, roots, title):
             ordered = sorted(here, key=lambda n: min(file.nodes[n].lines))
             whole = "all" if len(here) == len(file.nodes) else " ".join(f"`{n}`" for n in ordered)
             table.append(row([f"`crates/{crate}/specs/{module.replace('.', '/')}.antt`", lines, whole]))
-    out += [f"## Definitions: {total} lines in {files} files", "",
+    return [f"{heading}: {total} lines in {files} files", "",
             "Lines are those of the definitions that are reached, with the comments above them.", "",
             row(["File", "Lines", "Definitions"]), "|---|---|---|", *table, ""]
+
+
+def types_of(repository, items, heading, said):
+    """The items of the code among items, file by file."""
     table, total = [], 0
     for crate in repository.crates:
         for (name, module), file in sorted(repository.code.items()):
@@ -603,16 +601,62 @@ def page(repository, roots, title):
             total += lines
             ordered = sorted(here, key=lambda n: min(file.nodes[n].lines))
             table.append(row([f"`{file.path.relative_to(TOP)}`", lines, " ".join(f"`{n}`" for n in ordered)]))
-    lines = sum(len(repository.code[i.crate, i.module].nodes[i.name].lines) for i in roots)
-    out += [f"## The contract and the code's own types: {lines} and {total} lines", "",
-            f"The contract itself is {lines} lines of "
-            + ", ".join(sorted({f"`{repository.code[i.crate, i.module].path.relative_to(TOP)}`" for i in roots}))
-            + ". It and the definitions speak of these types,", "traits and constants: of their fields, their invariants, and what contracts see of them.", "",
-            row(["File", "Lines", "Items"]), "|---|---|---|", *table, ""]
-    out += ["## Words of the libraries", "",
-            "The definitions are written in these words of the toolchain's libraries, which are believed with it.", ""]
-    for path, found in sorted(repository.library(items | set(roots)).items()):
+    return [f"{heading}: {total} lines", "", *said, "", row(["File", "Lines", "Items"]), "|---|---|---|", *table, ""]
+
+
+def words_of_libraries(repository, items):
+    out = ["## Words of the libraries", "",
+           "The definitions are written in these words of the toolchain's libraries, which are believed with it.", ""]
+    for path, found in sorted(repository.library(items).items()):
         out.append(f"- `{path}`: " + " ".join(f"`{n}`" for n in sorted(found) if n))
+    return out
+
+
+SPEAK_OF = ["The definitions speak of these types, traits and constants: of their fields, their invariants, and what",
+            "contracts see of them."]
+
+
+def contract_of(repository, roots):
+    """Where the contracts of functions stand, and how long they are."""
+    lines = sum(len(repository.code[i.crate, i.module].nodes[i.name].lines) for i in roots)
+    files = sorted({f"`{repository.code[i.crate, i.module].path.relative_to(TOP)}`" for i in roots})
+    return f"{lines} lines of " + ", ".join(files)
+
+
+def page_of_functions(repository, roots):
+    """What is believed of the contracts of functions."""
+    items = repository.reached(roots) - set(roots)
+    names = ", ".join(f"`{item.crate}::{item.name}`" for item in roots)
+    out = ["# What has to be believed", "",
+           f"Made by `tools/trusted.py`, which follows the names in the contract of {names}, which is",
+           f"{contract_of(repository, roots)}.", "",
+           *definitions_of(repository, items, "## Definitions"),
+           *types_of(repository, items, "## The code's own types", SPEAK_OF),
+           *words_of_libraries(repository, items | set(roots))]
+    return "\n".join(out) + "\n"
+
+
+def page(repository):
+    """What is believed of the headline, and then what the whole contract of `msc_main` rests on besides."""
+    roots = repository.functions(ROOT)
+    headline = repository.reached([HEADLINE])
+    items = repository.reached(roots) - set(roots) - headline
+    names = ", ".join(f"`{item.crate}::{item.name}`" for item in roots)
+    out = ["# What has to be believed", "",
+           f"Made by `tools/trusted.py`. The first part follows the names in `{HEADLINE.name}` of",
+           f"`crates/{HEADLINE.crate}/specs/{HEADLINE.module}.antt`: what it is for an image to be right for a C text, which is the first",
+           f"thing that {names} says of an image. The second part has what the whole contract of that function rests",
+           "on besides: how the image was made, pass by pass, and what the other commands do. These definitions say what is",
+           "claimed, so a reader has to believe that they say what they are meant to. All else in the repository is checked by",
+           "the toolchain, or is nothing that this rests on.", "",
+           "## The headline", "",
+           *definitions_of(repository, headline, "### Definitions of the headline"),
+           *types_of(repository, headline, "### The code's own types in the headline", SPEAK_OF),
+           "## The whole contract", "",
+           f"The contract itself is {contract_of(repository, roots)}.", "",
+           *definitions_of(repository, items, "### Definitions besides"),
+           *types_of(repository, items, "### The code's own types besides", SPEAK_OF),
+           *words_of_libraries(repository, items | headline | set(roots))]
     return "\n".join(out) + "\n"
 
 
@@ -658,9 +702,9 @@ def answer(repository, words):
         if not roots:
             print("trusted.py: there is no such public function", file=sys.stderr)
             return 64
-        print(page(repository, roots, "What has to be believed"), end="")
+        print(page_of_functions(repository, roots), end="")
         return 0
-    text = page(repository, repository.functions(ROOT), "What has to be believed")
+    text = page(repository)
     if words == ["--check"]:
         if not PAGE.is_file() or PAGE.read_text() != text:
             print("docs/trusted.md is not up to date: run tools/trusted.py", file=sys.stderr)

@@ -6,8 +6,6 @@
 
 mod lines;
 mod registers;
-#[cfg(test)]
-mod tests;
 mod text;
 
 pub use text::{alloc_text, journal_text, put_allocation};

@@ -9,8 +9,6 @@ mod allocation;
 mod allocator;
 mod holders;
 mod journal;
-#[cfg(test)]
-mod tests;
 mod visits;
 
 pub use allocation::plain;

@@ -1,6 +1,6 @@
-//! Checks the tables of values, the machine, programs over virtual registers and over temporaries, what is live in
-//! these, frames, moves and outcomes: each row of the folder `data/` says what a public function is given and what is
-//! due.
+//! Checks the tables of values, outcomes, the machine, programs over virtual registers, what passes make, programs over
+//! temporaries, what is live in these, and frames: each row of the folder `data/` says what a public function is given
+//! and what is due.
 //!
 //! The form of the files is described in `docs/rows.md`, and that of each kind of row at the head of its file.
 #![tactic(auto)]
@@ -14,10 +14,9 @@ fn main(rt: HostRuntime) -> Result<()> {
         value_rows::check_rows(&rt)?,
         machine_rows::check_rows(&rt)?,
         vm_rows::check_rows(&rt)?,
+        pass_rows::check_rows(&rt)?,
         temp_rows::check_rows(&rt)?,
         frame_rows::check_rows(&rt)?,
-        move_rows::check_rows(&rt)?,
-        outcome_rows::check_rows(&rt)?,
     ];
     end_of_checks(&differing)
 }

@@ -12,15 +12,15 @@ use Rattle.alloc_model.specs.Needs.UsesSlot.{LeavesByInsn, PassesInsn}
 use Rattle.alloc_model.specs.Needs.IsNeeded.{Relied}
 use Rattle.alloc_model.specs.Faithful.{HolderPlaces, stands, forget, end_all, write_all}
 use Rattle.alloc_rules.specs.Visits.{takes_away}
-use Rattle.binpack_scan.specs.declared.held.Held.{Held}
-use Rattle.binpack_scan.specs.declared.held.SlotCopy.TheVariants.{Own, Lent}
-use Rattle.binpack_scan.specs.model.Bins.{Bins, held_in, has_temp, held, IsNowhere, is_unsaved, lives, must_store}
-use Rattle.binpack_scan.specs.model.Steps.{Site, State, Empties, Ends}
-use Rattle.binpack_scan.specs.model.Steps.Empties.{Begin, Next}
-use Rattle.binpack_scan.proofs.Holders.{same_or_not, test_or_not, not_both, set_other, set_length, held_within, temp_held, held_of, came, came_held, cleared_held, nowhere_before, nowhere_or, not_where_it_came, once_came, inside_came}
+use Rattle.binpack_blocks.specs.declared.held.Held.{Held}
+use Rattle.binpack_blocks.specs.declared.held.SlotCopy.TheVariants.{Own, Lent}
+use Rattle.binpack_blocks.specs.model.Bins.{Bins, held_in, has_temp, held, IsNowhere, is_unsaved, lives, must_store}
+use Rattle.binpack_blocks.specs.model.Steps.{Site, State, Empties, Ends}
+use Rattle.binpack_blocks.specs.model.Steps.Empties.{Begin, Next}
+use Rattle.binpack_blocks.proofs.Holders.{same_or_not, test_or_not, not_both, set_other, set_length, held_within, temp_held, held_of, came, came_held, cleared_held, nowhere_before, nowhere_or, not_where_it_came, once_came, inside_came}
 use Rattle.binpack_scan.proofs.Claims.{InSlot, Has, Sound, Handed, IsSite, copy_held}
 use Rattle.binpack_scan.proofs.Moves.{slot_no_register, other_registers}
-use Rattle.binpack_scan.proofs.Tables.{WritesOne, places_are}
+use Rattle.binpack_blocks.proofs.Tables.{WritesOne, places_are}
 
 -- ---- what is written besides temporaries
 

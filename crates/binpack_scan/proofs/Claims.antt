@@ -8,12 +8,12 @@ use Rattle.alloc_model.specs.Effect.{Temp, Fixed}
 use Rattle.alloc_model.specs.Places.{Reg, Slot, Plan}
 use Rattle.alloc_model.specs.Needs.{is_live_at, UsesSlot, IsRelied}
 use Rattle.alloc_model.specs.Faithful.{HolderPlaces}
-use Rattle.binpack_scan.specs.declared.held.Held.{Held}
-use Rattle.binpack_scan.specs.declared.held.SlotCopy.{SlotCopy}
-use Rattle.binpack_scan.specs.declared.held.SlotCopy.TheVariants.{Own, Twice, Lent}
-use Rattle.binpack_scan.specs.model.Bins.{Bins, held_in, has_temp, IsNowhere, IsOnce, AreInside, is_unsaved, lives, must_store, Leaves}
-use Rattle.binpack_scan.specs.model.Steps.{Site, MayGet, MayStore}
-use Rattle.binpack_scan.proofs.Holders.{not_both, held_of}
+use Rattle.binpack_blocks.specs.declared.held.Held.{Held}
+use Rattle.binpack_blocks.specs.declared.held.SlotCopy.{SlotCopy}
+use Rattle.binpack_blocks.specs.declared.held.SlotCopy.TheVariants.{Own, Twice, Lent}
+use Rattle.binpack_blocks.specs.model.Bins.{Bins, held_in, has_temp, IsNowhere, IsOnce, AreInside, is_unsaved, lives, must_store, Leaves}
+use Rattle.binpack_blocks.specs.model.Steps.{Site, MayGet, MayStore}
+use Rattle.binpack_blocks.proofs.Holders.{not_both, held_of}
 
 -- the slot of a temporary that stands in a register holds it, where one that was lent needs it
 abbrev pub InSlot : (need : Type 0) → SlotCopy → Type 0

@@ -9,7 +9,7 @@ use Rattle.alloc_model.specs.declared.allocation.TempPlace.{TempPlace}
 use Rattle.alloc_model.specs.declared.allocation.Transfer.{Transfer}
 use Rattle.alloc_model.specs.declared.allocation.Transfer.TheVariants.{Shift}
 use Rattle.binpack_scan.specs.model.Edges.{register_at, register_for, shifts, held_with, IsHeld, IsMap}
-use Rattle.binpack_scan.proofs.Holders.{same_or_not}
+use Rattle.binpack_blocks.proofs.Holders.{same_or_not}
 
 -- ---- the register of a temporary
 

@@ -13,7 +13,7 @@ use Rattle.alloc_model.specs.Places.{code_in}
 use Rattle.alloc_model.specs.Faithful.{sorted_targets, sorted_edges_from}
 use Rattle.alloc_model.specs.declared.allocation.TempPlace.{TempPlace}
 use Rattle.binpack_scan.specs.model.Edges.{IsMap, AreMaps, ends_of, edges_to}
-use Rattle.binpack_scan.proofs.Holders.{test_or_not}
+use Rattle.binpack_blocks.proofs.Holders.{test_or_not}
 
 -- ---- one edge behind others
 

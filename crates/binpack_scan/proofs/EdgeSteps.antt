@@ -13,7 +13,7 @@ use Rattle.alloc_model.specs.Effect.{Holder, Temp}
 use Rattle.alloc_model.specs.Places.{Place, Reg, Slot}
 use Rattle.alloc_model.specs.Faithful.{HolderPlaces, stands, move_all, MovesAsk}
 use Rattle.binpack_scan.specs.model.Edges.{register_at, register_for, is_none, is_stored, store_with, store_of, load_with, load_of, move_of, shifts, IsMap, IsCodeBetween}
-use Rattle.binpack_scan.proofs.Holders.{same_or_not}
+use Rattle.binpack_blocks.proofs.Holders.{same_or_not}
 use Rattle.binpack_scan.proofs.Moves.{slot_no_register, register_no_slot, other_registers, other_slots, moves_in_turn, asks_in_turn}
 use Rattle.binpack_scan.proofs.EdgeMoves.{one_place, for_there, move_in, move_there, made_low, low_named}
 

@@ -24,15 +24,15 @@ use Rattle.alloc_rules.specs.declared.scan.Lifetimes.{Lifetimes}
 use Rattle.alloc_rules.specs.Scan.{AreLifetimes}
 use Rattle.alloc_rules.specs.Frugal.{place_at_bottom}
 use Rattle.alloc_rules.specs.Lean.{IsLean}
-use Rattle.binpack_scan.specs.declared.block.Lists.{Lists}
-use Rattle.binpack_scan.specs.declared.blocks.Maps.{Maps}
+use Rattle.binpack_blocks.specs.declared.block.Lists.{Lists}
+use Rattle.binpack_blocks.specs.declared.blocks.Maps.{Maps}
 use Rattle.binpack_scan.specs.model.Replays.{IsPlanOf}
-use Rattle.binpack_scan.specs.model.Bins.{Bins}
-use Rattle.binpack_scan.specs.model.Whole.{ScansBlocks}
+use Rattle.binpack_blocks.specs.model.Bins.{Bins}
+use Rattle.binpack_blocks.specs.model.Whole.{ScansBlocks}
 use Rattle.binpack_scan.specs.model.Made.{IsMapOf}
 use Rattle.binpack_scan.specs.model.Edges.{register_at, register_for, IsMap, IsEdgeCode, AreMaps, ends_of}
-use Rattle.binpack_scan.proofs.Holders.{same_or_not}
-use Rattle.binpack_scan.proofs.Rests.{all_at}
+use Rattle.binpack_blocks.proofs.Holders.{same_or_not}
+use Rattle.binpack_blocks.proofs.Rests.{all_at}
 use Rattle.binpack_scan.proofs.EdgeSteps.{place_for}
 use Rattle.binpack_scan.proofs.MapsOf.{an_entry, is_map, place_named, all_standing, are_maps, no_places, past_empty}
 use Rattle.binpack_scan.proofs.Lists.{scans_made}

@@ -16,16 +16,16 @@ use Rattle.alloc_model.specs.Faithful.{held_before}
 use Rattle.alloc_rules.specs.declared.scan.Lifetimes.{Lifetimes}
 use Rattle.alloc_rules.specs.Frugal.{place_at_bottom}
 use Rattle.alloc_rules.specs.Visits.{holds_fixed_value}
-use Rattle.binpack_scan.specs.declared.held.Held.{Held}
-use Rattle.binpack_scan.specs.declared.held.SlotCopy.TheVariants.{Lent}
-use Rattle.binpack_scan.specs.declared.block.Lists.{Lists}
-use Rattle.binpack_scan.specs.declared.blocks.Maps.{Maps}
+use Rattle.binpack_blocks.specs.declared.held.Held.{Held}
+use Rattle.binpack_blocks.specs.declared.held.SlotCopy.TheVariants.{Lent}
+use Rattle.binpack_blocks.specs.declared.block.Lists.{Lists}
+use Rattle.binpack_blocks.specs.declared.blocks.Maps.{Maps}
 use Rattle.binpack_scan.specs.model.Replays.{ReplaysBlock}
-use Rattle.binpack_scan.specs.model.Bins.{Bins, held_in, has_temp, IsNowhere, IsOnce, AreInside, lent}
-use Rattle.binpack_scan.specs.model.Tops.{is_listed, places_from}
-use Rattle.binpack_scan.specs.model.Whole.{AddsBlock, ScansBlocks}
-use Rattle.binpack_scan.specs.model.Whole.ScansBlocks.{NoBlock, OneBlock}
-use Rattle.binpack_scan.proofs.Holders.{same_or_not, test_or_not, not_both, held_within, past_none}
+use Rattle.binpack_blocks.specs.model.Bins.{Bins, held_in, has_temp, IsNowhere, IsOnce, AreInside, lent}
+use Rattle.binpack_blocks.specs.model.Tops.{is_listed, places_from}
+use Rattle.binpack_blocks.specs.model.Whole.{AddsBlock, ScansBlocks}
+use Rattle.binpack_blocks.specs.model.Whole.ScansBlocks.{NoBlock, OneBlock}
+use Rattle.binpack_blocks.proofs.Holders.{same_or_not, test_or_not, not_both, held_within, past_none}
 use Rattle.binpack_scan.proofs.Acts.{nowhere_or_somewhere}
 use Rattle.binpack_scan.proofs.Claims.{Has}
 use Rattle.binpack_scan.proofs.Leads.{SaysLive, IsLed, holds_written, rows_length, rows_lead, has_contains}

@@ -16,16 +16,16 @@ use Rattle.alloc_model.specs.Faithful.{move_all, MovesAsk, ReadsAsk, FixedAsk, b
 use Rattle.alloc_rules.specs.Lean.{most_before}
 use Rattle.alloc_rules.specs.declared.scan.Lifetimes.{Lifetimes}
 use Rattle.alloc_rules.specs.Visits.{takes_away, holds_fixed_value}
-use Rattle.binpack_scan.specs.model.Bins.{Bins}
-use Rattle.binpack_scan.specs.model.Steps.{Site, State, Writes}
-use Rattle.binpack_scan.specs.model.Steps.Writes.{Nothing, Keeps, Gets}
-use Rattle.binpack_scan.specs.model.Rows.{Rows, is_wanted, site_of, unmade}
-use Rattle.binpack_scan.specs.model.Rows.Rows.{NoRow, OneMore}
-use Rattle.binpack_scan.specs.model.Visits.{Visits, AreHeld}
-use Rattle.binpack_scan.proofs.Holders.{same_or_not, test_or_not, not_both}
+use Rattle.binpack_blocks.specs.model.Bins.{Bins}
+use Rattle.binpack_blocks.specs.model.Steps.{Site, State, Writes}
+use Rattle.binpack_blocks.specs.model.Steps.Writes.{Nothing, Keeps, Gets}
+use Rattle.binpack_blocks.specs.model.Rows.{Rows, is_wanted, site_of, unmade}
+use Rattle.binpack_blocks.specs.model.Rows.Rows.{NoRow, OneMore}
+use Rattle.binpack_blocks.specs.model.Visits.{Visits, AreHeld}
+use Rattle.binpack_blocks.proofs.Holders.{same_or_not, test_or_not, not_both}
 use Rattle.binpack_scan.proofs.Claims.{Has, Sound, Handed, IsSite}
 use Rattle.binpack_scan.proofs.Visited.{visited}
-use Rattle.binpack_scan.proofs.Counts.{few_enough}
+use Rattle.binpack_blocks.proofs.Counts.{few_enough}
 
 -- ---- tests
 

@@ -13,24 +13,24 @@ use Rattle.alloc_model.specs.declared.allocation.Transfer.{Transfer}
 use Rattle.alloc_model.specs.declared.allocation.Transfer.TheVariants.{Store, Load, Shift}
 use Rattle.alloc_model.specs.Faithful.{given_registers, IsGivenRegister, IsTransfer}
 use Rattle.alloc_rules.specs.declared.scan.Lifetimes.{Lifetimes}
-use Rattle.binpack_scan.specs.declared.held.Held.{Held}
-use Rattle.binpack_scan.specs.declared.held.SlotCopy.TheVariants.{Own, Twice}
-use Rattle.binpack_scan.specs.declared.block.Lists.{Lists}
-use Rattle.binpack_scan.specs.declared.blocks.Maps.{Maps}
-use Rattle.binpack_scan.specs.model.Bins.{Bins, held_in, has_temp, held, lent}
-use Rattle.binpack_scan.specs.model.Steps.{Site, State, Step, Steps, Empties, Writes}
-use Rattle.binpack_scan.specs.model.Steps.Step.{Stores, Shifts, Loads}
-use Rattle.binpack_scan.specs.model.Steps.Steps.{Start, More}
-use Rattle.binpack_scan.specs.model.Steps.Empties.{Begin, Next}
-use Rattle.binpack_scan.specs.model.Steps.Writes.{Nothing, Keeps, Gets}
-use Rattle.binpack_scan.specs.model.Visits.{Visits, AreHeld}
-use Rattle.binpack_scan.specs.model.Rows.{Rows, site_of, unmade}
-use Rattle.binpack_scan.specs.model.Rows.Rows.{NoRow, OneMore}
-use Rattle.binpack_scan.specs.model.Tops.{is_listed, entry, places_from}
-use Rattle.binpack_scan.specs.model.Whole.{AddsBlock, ScansBlocks}
-use Rattle.binpack_scan.specs.model.Whole.ScansBlocks.{NoBlock, OneBlock}
+use Rattle.binpack_blocks.specs.declared.held.Held.{Held}
+use Rattle.binpack_blocks.specs.declared.held.SlotCopy.TheVariants.{Own, Twice}
+use Rattle.binpack_blocks.specs.declared.block.Lists.{Lists}
+use Rattle.binpack_blocks.specs.declared.blocks.Maps.{Maps}
+use Rattle.binpack_blocks.specs.model.Bins.{Bins, held_in, has_temp, held, lent}
+use Rattle.binpack_blocks.specs.model.Steps.{Site, State, Step, Steps, Empties, Writes}
+use Rattle.binpack_blocks.specs.model.Steps.Step.{Stores, Shifts, Loads}
+use Rattle.binpack_blocks.specs.model.Steps.Steps.{Start, More}
+use Rattle.binpack_blocks.specs.model.Steps.Empties.{Begin, Next}
+use Rattle.binpack_blocks.specs.model.Steps.Writes.{Nothing, Keeps, Gets}
+use Rattle.binpack_blocks.specs.model.Visits.{Visits, AreHeld}
+use Rattle.binpack_blocks.specs.model.Rows.{Rows, site_of, unmade}
+use Rattle.binpack_blocks.specs.model.Rows.Rows.{NoRow, OneMore}
+use Rattle.binpack_blocks.specs.model.Tops.{is_listed, entry, places_from}
+use Rattle.binpack_blocks.specs.model.Whole.{AddsBlock, ScansBlocks}
+use Rattle.binpack_blocks.specs.model.Whole.ScansBlocks.{NoBlock, OneBlock}
 use Rattle.binpack_scan.specs.model.Made.{AreBins, IsMapOf, AreMapsOf, AreMade}
-use Rattle.binpack_scan.proofs.Holders.{same_or_not, not_both, set_length, held_within, held_of, temp_held, set_other, once_marked, marked_temp, once_came, once_cleared, inside_came, inside_cleared, cleared_temp, past_none}
+use Rattle.binpack_blocks.proofs.Holders.{same_or_not, not_both, set_length, held_within, held_of, temp_held, set_other, once_marked, marked_temp, once_came, once_cleared, inside_came, inside_cleared, cleared_temp, past_none}
 use Rattle.binpack_scan.proofs.Leads.{has_contains, and_first, and_second}
 use Rattle.binpack_scan.proofs.Functions.{same_temps, count_next, nothing_once, nothing_inside}
 

@@ -6,12 +6,12 @@ use Rattle.alloc_model.specs.declared.allocation.Loc.TheVariants as loc
 use Rattle.alloc_model.specs.declared.allocation.TempPlace.{TempPlace}
 use Rattle.alloc_model.specs.Needs.{top_place, named_place}
 use Rattle.alloc_model.specs.Faithful.{IsStanding, IsOwnPlace}
-use Rattle.binpack_scan.specs.declared.held.Held.{Held}
-use Rattle.binpack_scan.specs.model.Bins.{Bins, held_in, has_temp}
-use Rattle.binpack_scan.specs.model.Tops.{is_listed, places_from}
+use Rattle.binpack_blocks.specs.declared.held.Held.{Held}
+use Rattle.binpack_blocks.specs.model.Bins.{Bins, held_in, has_temp}
+use Rattle.binpack_blocks.specs.model.Tops.{is_listed, places_from}
 use Rattle.binpack_scan.specs.model.Edges.{register_at, register_for, IsMap, AreInSets, AreMaps}
 use Rattle.binpack_scan.specs.model.Made.{IsMapOf}
-use Rattle.binpack_scan.proofs.Holders.{temp_there}
+use Rattle.binpack_blocks.proofs.Holders.{temp_there}
 use Rattle.binpack_scan.proofs.Tops.{named_there}
 use Rattle.binpack_scan.proofs.EdgeSteps.{place_for}
 use Rattle.binpack_scan.proofs.Lists.{is_given}

@@ -11,13 +11,13 @@ use Rattle.alloc_model.specs.Needs.UsesSlot.{LeavesByMove, IsShifted, PassesMove
 use Rattle.alloc_model.specs.Needs.IsNeeded.{Relied}
 use Rattle.alloc_model.specs.Faithful.{HolderPlaces, stands, move_all, MovesAsk}
 use Rattle.alloc_rules.specs.Visits.{fixes}
-use Rattle.binpack_scan.specs.declared.held.Held.{Held}
-use Rattle.binpack_scan.specs.declared.held.SlotCopy.TheVariants.{Twice, Lent}
-use Rattle.binpack_scan.specs.model.Bins.{Bins, held_in, has_temp, held, IsNowhere, is_unsaved, Leaves}
-use Rattle.binpack_scan.specs.model.Steps.{Site, State, MayGet, Step, Steps}
-use Rattle.binpack_scan.specs.model.Steps.Step.{Stores, Shifts, Loads}
-use Rattle.binpack_scan.specs.model.Steps.Steps.{Start, More}
-use Rattle.binpack_scan.proofs.Holders.{same_or_not, test_or_not, not_both, set_same, set_other, set_length, held_within, temp_held, other_temp, came, came_held, cleared_held, cleared_temp, nowhere_before, nowhere_or, not_where_it_came, marked_temp, once_marked, once_came, once_cleared, inside_came, inside_cleared}
+use Rattle.binpack_blocks.specs.declared.held.Held.{Held}
+use Rattle.binpack_blocks.specs.declared.held.SlotCopy.TheVariants.{Twice, Lent}
+use Rattle.binpack_blocks.specs.model.Bins.{Bins, held_in, has_temp, held, IsNowhere, is_unsaved, Leaves}
+use Rattle.binpack_blocks.specs.model.Steps.{Site, State, MayGet, Step, Steps}
+use Rattle.binpack_blocks.specs.model.Steps.Step.{Stores, Shifts, Loads}
+use Rattle.binpack_blocks.specs.model.Steps.Steps.{Start, More}
+use Rattle.binpack_blocks.proofs.Holders.{same_or_not, test_or_not, not_both, set_same, set_other, set_length, held_within, temp_held, other_temp, came, came_held, cleared_held, cleared_temp, nowhere_before, nowhere_or, not_where_it_came, marked_temp, once_marked, once_came, once_cleared, inside_came, inside_cleared}
 use Rattle.binpack_scan.proofs.Claims.{Has, Sound, Handed, IsSite, left_in_slot, given_within, unclaimed_apart}
 
 pub slot_no_register : (a b : ℕ) → Slot a ≢ Reg b

@@ -14,7 +14,7 @@ use Rattle.alloc_model.specs.Lifetimes.{IsPresent, IsPart}
 use Rattle.alloc_model.specs.Lifetimes.IsPresent.{IsRead, IsLiveBefore, IsLiveAfter}
 use Rattle.pass_core.specs.Live.{Live}
 use Rattle.std.specs.Prelude.{Contains}
-use Rattle.binpack_scan.specs.model.Rows.{is_wanted}
+use Rattle.binpack_blocks.specs.model.Rows.{is_wanted}
 use Rattle.alloc_rules.specs.declared.scan.LifetimePart.{LifetimePart}
 use Rattle.alloc_rules.specs.declared.scan.Lifetimes.{Lifetimes}
 use Rattle.alloc_rules.specs.Scan.{AreLifetimes, lifetime_parts}
@@ -23,12 +23,12 @@ use Rattle.bitvector_flow.specs.Lives.{AreLive}
 use Rattle.alloc_lifetime_ends.specs.Wanted.{wants_of}
 use Rattle.alloc_lifetime_ends.proofs.Wants.{wants_exact}
 use Rattle.binpack_scan.specs.model.Replays.{ReplaysBlock, IsPlanOf}
-use Rattle.binpack_scan.specs.declared.block.Lists.{Lists}
-use Rattle.binpack_scan.specs.declared.blocks.Maps.{Maps}
-use Rattle.binpack_scan.specs.model.Bins.{Bins}
-use Rattle.binpack_scan.specs.model.Lists.{ReadsWanted}
-use Rattle.binpack_scan.specs.model.Wanted.{LifetimesRise}
-use Rattle.binpack_scan.specs.model.Whole.{ScansBlocks}
+use Rattle.binpack_blocks.specs.declared.block.Lists.{Lists}
+use Rattle.binpack_blocks.specs.declared.blocks.Maps.{Maps}
+use Rattle.binpack_blocks.specs.model.Bins.{Bins}
+use Rattle.binpack_blocks.specs.model.Lists.{ReadsWanted}
+use Rattle.binpack_blocks.specs.model.Wanted.{LifetimesRise}
+use Rattle.binpack_blocks.specs.model.Whole.{ScansBlocks}
 use Rattle.binpack_scan.proofs.Leads.{SaysLive, has_contains, unwritten}
 use Rattle.binpack_scan.proofs.Functions.{scans_lead, written_at_start}
 use Rattle.binpack_scan.proofs.Wants.{present_live, present_behind, wanted_present, present_wanted}

@@ -7,12 +7,12 @@ use Rattle.alloc_model.specs.declared.allocation.TempPlace.{TempPlace}
 use Rattle.alloc_model.specs.Places.{Reg, Slot, Plan, transfers_at}
 use Rattle.alloc_model.specs.Needs.{is_live_at, IsNeeded, named_place, place_at_top}
 use Rattle.alloc_model.specs.Faithful.{at_top}
-use Rattle.binpack_scan.specs.declared.held.Held.{Held}
-use Rattle.binpack_scan.specs.declared.held.SlotCopy.{SlotCopy}
-use Rattle.binpack_scan.specs.declared.held.SlotCopy.TheVariants.{Own, Twice, Lent}
-use Rattle.binpack_scan.specs.model.Bins.{Bins, held_in, has_temp, IsNowhere, IsOnce, lent, lent_copy}
-use Rattle.binpack_scan.specs.model.Tops.{entry, places_from}
-use Rattle.binpack_scan.proofs.Holders.{test_or_not, not_both, temp_held, temp_is}
+use Rattle.binpack_blocks.specs.declared.held.Held.{Held}
+use Rattle.binpack_blocks.specs.declared.held.SlotCopy.{SlotCopy}
+use Rattle.binpack_blocks.specs.declared.held.SlotCopy.TheVariants.{Own, Twice, Lent}
+use Rattle.binpack_blocks.specs.model.Bins.{Bins, held_in, has_temp, IsNowhere, IsOnce, lent, lent_copy}
+use Rattle.binpack_blocks.specs.model.Tops.{entry, places_from}
+use Rattle.binpack_blocks.proofs.Holders.{test_or_not, not_both, temp_held, temp_is}
 use Rattle.binpack_scan.proofs.Claims.{InSlot, Has, Handed}
 
 -- ---- the map of a block's top

@@ -11,16 +11,16 @@ use Rattle.alloc_model.specs.Places.{Place, Reg, Plan, home_of, places_written_a
 use Rattle.alloc_model.specs.Needs.{is_live_at, IsNeeded}
 use Rattle.alloc_model.specs.Faithful.{HolderPlaces, end_all, write_all, move_all, MovesAsk, ReadsAsk, FixedAsk, behind_insn}
 use Rattle.alloc_rules.specs.Visits.{takes_away}
-use Rattle.binpack_scan.specs.declared.held.Held.{Held}
-use Rattle.binpack_scan.specs.declared.held.SlotCopy.TheVariants.{Own}
-use Rattle.binpack_scan.specs.model.Bins.{Bins, held_in, has_temp, held, IsNowhere, lives, must_store}
-use Rattle.binpack_scan.specs.model.Steps.{Site, State, Ends, Writes}
-use Rattle.binpack_scan.specs.model.Steps.Writes.{Nothing, Keeps, Gets}
-use Rattle.binpack_scan.specs.model.Visits.{AreHeld, Visits}
-use Rattle.binpack_scan.proofs.Holders.{test_or_not, not_both, held_of, held_within}
+use Rattle.binpack_blocks.specs.declared.held.Held.{Held}
+use Rattle.binpack_blocks.specs.declared.held.SlotCopy.TheVariants.{Own}
+use Rattle.binpack_blocks.specs.model.Bins.{Bins, held_in, has_temp, held, IsNowhere, lives, must_store}
+use Rattle.binpack_blocks.specs.model.Steps.{Site, State, Ends, Writes}
+use Rattle.binpack_blocks.specs.model.Steps.Writes.{Nothing, Keeps, Gets}
+use Rattle.binpack_blocks.specs.model.Visits.{AreHeld, Visits}
+use Rattle.binpack_blocks.proofs.Holders.{test_or_not, not_both, held_of, held_within}
 use Rattle.binpack_scan.proofs.Claims.{Has, Sound, Handed, IsSite, given_within}
 use Rattle.binpack_scan.proofs.Moves.{steps_lead}
-use Rattle.binpack_scan.proofs.Tables.{WritesOne, writes_alone}
+use Rattle.binpack_blocks.proofs.Tables.{WritesOne, writes_alone}
 use Rattle.binpack_scan.proofs.Acts.{IsBehind, nothing_written, one_written, empties_nothing}
 
 -- ---- what is read

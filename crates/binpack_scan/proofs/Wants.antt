@@ -16,10 +16,10 @@ use Rattle.alloc_model.specs.Lifetimes.IsPresent.{IsRead, IsLiveBefore, IsWritte
 use Rattle.alloc_rules.specs.declared.scan.LifetimePart.{LifetimePart}
 use Rattle.alloc_rules.specs.declared.scan.Lifetimes.{Lifetimes}
 use Rattle.alloc_rules.specs.Scan.{lifetime_parts}
-use Rattle.binpack_scan.specs.model.Rows.{is_covered_by, is_wanted}
-use Rattle.binpack_scan.proofs.Holders.{same_or_not, test_or_not, not_both}
+use Rattle.binpack_blocks.specs.model.Rows.{is_covered_by, is_wanted}
+use Rattle.binpack_blocks.proofs.Holders.{same_or_not, test_or_not, not_both}
 use Rattle.binpack_scan.proofs.Functions.{count_next, count_most}
-use Rattle.binpack_scan.proofs.Rests.{all_at}
+use Rattle.binpack_blocks.proofs.Rests.{all_at}
 
 -- ---- numbers of instructions
 

@@ -6,11 +6,11 @@ ghost use Rattle.alloc_model.specs.Places.{plan_of};
 ghost use Rattle.alloc_model.specs.Faithful.{Faithful};
 ghost use Rattle.alloc_rules.specs.Lean.{IsLean};
 
-use crate::block::Lists;
-use crate::blocks::Maps;
 use crate::edges::all_edges;
 use crate::scan::{Placed, place_temporaries};
 use alloc_model::allocation::Allocation;
+use binpack_blocks::block::Lists;
+use binpack_blocks::blocks::Maps;
 use bitvector_flow::liveness;
 use bk_containers::Seq;
 use lifetime_holes::lifetimes;

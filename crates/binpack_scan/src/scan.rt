@@ -7,15 +7,15 @@ ghost use Rattle.temp_ir.specs.Insns.{reads_of, writes_of, targets_of, flows_on_
 ghost use Rattle.alloc_rules.specs.Scan.{AreLifetimes};
 ghost use Rattle.bitvector_flow.specs.Flows.{AreBounded};
 ghost use Rattle.bitvector_flow.specs.Lives.{AreLive};
-ghost use Rattle.binpack_scan.specs.model.Bins.{Bins, held_in};
-ghost use Rattle.binpack_scan.specs.model.Lists.{ReadsWanted};
-ghost use Rattle.binpack_scan.specs.model.Wanted.{LifetimesRise};
-ghost use Rattle.binpack_scan.specs.model.Whole.{ScansBlocks};
+ghost use Rattle.binpack_blocks.specs.model.Bins.{Bins, held_in};
+ghost use Rattle.binpack_blocks.specs.model.Lists.{ReadsWanted};
+ghost use Rattle.binpack_blocks.specs.model.Wanted.{LifetimesRise};
+ghost use Rattle.binpack_blocks.specs.model.Whole.{ScansBlocks};
 
-use crate::bins::{GIVEN, Scan};
-use crate::block::Lists;
-use crate::blocks::Maps;
 use alloc_rules::scan::Lifetimes;
+use binpack_blocks::bins::{GIVEN, Scan};
+use binpack_blocks::block::Lists;
+use binpack_blocks::blocks::Maps;
 use bitvector_flow::Flow;
 use bk_bits::BitSet;
 use bk_containers::Seq;

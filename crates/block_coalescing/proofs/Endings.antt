@@ -12,7 +12,7 @@ use Rattle.alloc_model.specs.Contents.{Content}
 use Rattle.alloc_model.specs.Temporaries.{TemporaryCode, code_of, Temps, temp_code, temp_run, TempsEnd, main_of, start_world}
 use Rattle.alloc_model.specs.Laws.{OnlyTheseTrap}
 use Rattle.block_coalescing.specs.Kept.{IsCoalesced, CoalescedProgramsKeepEndings}
-use Rattle.block_coalescing.proofs.Lagging.{runs_arrive}
+use Rattle.machine_model.proofs.Lagging.{runs_arrive}
 use Rattle.block_coalescing.proofs.Runs.{WalkedAt, Related, lags}
 
 -- ---- functions

@@ -1,4 +1,3 @@
-pub mod Lagging
 pub mod Forms
 pub mod Pure
 pub mod Held

@@ -19,7 +19,7 @@ use Rattle.alloc_model.specs.Temporaries.{TemporaryCode, blocks_in, sizes_in, Te
 use Rattle.alloc_model.specs.Laws.{OnlyTheseTrap}
 use Rattle.block_coalescing.specs.Forms.{write_of, is_pure, copy_of}
 use Rattle.block_coalescing.specs.Walks.{Names, BehindName, IsBehind, IsCopied, IsLost, IsRenamed, IsHome, Walked, Ends, Copies, Loses, Keeps, BlockWalked, OptionWalked, AreCoalesced}
-use Rattle.block_coalescing.proofs.Lagging.{AloneAct, WritesAlone, MeansNothing, Stands, Both, Alone, Nowhere, Lags}
+use Rattle.machine_model.proofs.Lagging.{both_take, AloneAct, WritesAlone, MeansNothing, Stands, Both, Alone, Nowhere, Lags}
 use Rattle.block_coalescing.proofs.Forms.{SameForm, same_form}
 use Rattle.block_coalescing.proofs.Pure.{PureAct, Gives_all, Means_nothing, pure_act, pure_form, copy_form}
 use Rattle.block_coalescing.proofs.Held.{Holds, Agree, reads_same, writes_same, lost_holds, copy_holds, top_holds, home_agrees, same_agrees}
@@ -314,7 +314,7 @@ module _ (fs gs : List TemporaryCode) where
     ends n e e' held home true left =
         let out : flows_out k.insns ≡ true = and_left (flows_out k.insns) (p.at == length k.insns) left in
         Both (next_site p.block) (next_site q.block) (site_before None (place_end k.insns p.at e).0 ∙ ap (next_if p.block) left)
-        (site_after None (place_end k.insns' q.at e').0 ∙ ap (next_if q.block) (left_too e' out)) (record {
+        (site_after None (place_end k.insns' q.at e').0 ∙ ap (next_if q.block) (left_too e' out)) (both_take Content Temps Temps rooms (temp_code fs) (temp_code gs) Related p q (next_site p.block) (next_site q.block) s t (record {
           function = k.function;
           does = λ own o. refl;
           turn = refl;
@@ -324,7 +324,7 @@ module _ (fs gs : List TemporaryCode) where
               let next : suc p.block ≡ block = only_one (suc p.block) j block is in
               follows block s t (subst (λ b. Contains (successors_of targets_of flows_on_of p.block k.insns) b) next (next_follows p.block (last_of k.insns) out))
               (home_agrees n (k.code.coalesced.bottoms p.block) s t home held);
-        })
+        }))
 
     -- a copy that the second version lacks
     copies : (n m : Names) (d f : ℕ) (us ys : List TempInsn) → drop p.at k.insns ≡ copy_of d f ∷ us → drop q.at k.insns' ≡ ys → Holds n s t → IsCopied d f n m → Walked k.code.temps (k.code.coalesced.bottoms p.block) m us ys → Here
@@ -352,7 +352,7 @@ module _ (fs gs : List TemporaryCode) where
     -- an instruction of both
     keeps : (n m : Names) (x y : TempInsn) (us vs : List TempInsn) → drop p.at k.insns ≡ x ∷ us → drop q.at k.insns' ≡ y ∷ vs → Holds n s t → IsRenamed k.code.temps n x y → IsBehind (write_of x) (write_of y) n m → (targets_of x ≡ []) ⊎ IsHome (k.code.coalesced.bottoms p.block) n → Walked k.code.temps (k.code.coalesced.bottoms p.block) m us vs → Here
     keeps n m x y us vs e e' held renamed is leaves walk =
-        Both (temp_site (widest_call k.f.blocks) x) (temp_site (widest_call k.f.blocks) y) (site_before (Some x) (place k.insns p.at x us e).0) (site_after (Some y) (place k.insns' q.at y vs e').0) (record {
+        Both (temp_site (widest_call k.f.blocks) x) (temp_site (widest_call k.f.blocks) y) (site_before (Some x) (place k.insns p.at x us e).0) (site_after (Some y) (place k.insns' q.at y vs e').0) (both_take Content Temps Temps rooms (temp_code fs) (temp_code gs) Related p q (temp_site (widest_call k.f.blocks) x) (temp_site (widest_call k.f.blocks) y) s t (record {
           function = k.function;
           does = λ own o.
               ap (λ cs. does (widest_call k.f.blocks) x own cs o) (reads_same k.code.temps n s t x y held form renamed.reads)
@@ -364,7 +364,7 @@ module _ (fs gs : List TemporaryCode) where
               (let within = slice_get_within k.insns' q.at y (place k.insns' q.at y vs e').0 in omega (arith, within)) walk
               (writes_same n m x y cs s t form is held);
           edge = λ j block target. jumps leaves j block target;
-        })
+        }))
       where
         form : SameForm x y
         form = same_form x y renamed.form

@@ -1,5 +1,3 @@
-pub mod Nodes
-pub mod Rules
 pub mod Rewritten
 pub mod Examples
 pub mod model

@@ -10,8 +10,8 @@ use Rattle.c_typed_tree.specs.c_typed_height.Heights.{expr_height}
 use Rattle.c_typed_tree.specs.Expressions.{Expr}
 use Rattle.c_typed_tree.specs.Statements.{LocalDeclaration, First, Nothing, Value, Locals, Stmt, Block, If, While, Do, For, Switch, Break, Continue, Return, Expression, Empty, Declare, Else, no_else, else_stmt, Stmts, no_stmts, more_stmts, Sections, no_sections, more_sections}
 use Rattle.c_typed_tree.specs.View.{stmt_view}
-use Rattle.c_rewrite.specs.Nodes.{children_of, with_child}
-use Rattle.c_rewrite.specs.Rules.{folded, simplified, pruned}
+use Rattle.c_rewrite_rules.specs.Nodes.{children_of, with_child}
+use Rattle.c_rewrite_rules.specs.Rules.{folded, simplified, pruned}
 
 -- what a rule makes of an expression from the leaves up
 abbrev pub up_by : (Expr → Expr) → Expr → Expr

@@ -1,15 +1,3 @@
-pub mod Codes
-pub mod NodeLaws
-pub mod Truths
-pub mod Constants
-pub mod Runs
-pub mod Pruned
-pub mod Folded
-pub mod Heights
-pub mod Held
-pub mod Idle
-pub mod SimplifiedOperands
-pub mod Simplified
 pub mod RewrittenUnits
 pub mod Mixed
 pub mod RewrittenHeights

@@ -4,7 +4,7 @@
 ghost use Rattle.std.specs.Prelude.{◌≡◌};
 ghost use Rattle.c_tree.specs.declared.expressions.BinaryOp.TheVariants.{LogicalAnd, LogicalOr, Or, Xor, ShiftLeft, ShiftRight, Add, Subtract, Multiply, Divide};
 ghost use Rattle.c_typed_tree.specs.Expressions.{Number, Convert};
-ghost use Rattle.c_rewrite.specs.Rules.{folded, simplified, pruned};
+ghost use Rattle.c_rewrite_rules.specs.Rules.{folded, simplified, pruned};
 ghost use Rattle.c_rewrite.specs.Rewritten.{up_by, rewritten};
 ghost use Rattle.c_rewrite.specs.Examples as it;
 

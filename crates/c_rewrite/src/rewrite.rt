@@ -4,12 +4,8 @@ ghost use Rattle.std.specs.Prelude.{◌≡◌, IfOk, map, option_map};
 ghost use Rattle.c_typed_tree.specs.View.{expr_view, local_view, first_view};
 ghost use Rattle.c_rewrite.specs.Rewritten.{rewritten, with_init, with_first};
 
-use crate::dead_arm::DeadArm;
-use crate::fold::FoldConst;
-use crate::node::Node;
-use crate::operands::leaf;
-use crate::simplify::Simplify;
 use bk_containers::{Box, Seq};
+use c_rewrite_rules::{DeadArm, FoldConst, Node, Simplify, leaf};
 use c_typed_tree::units::Local;
 use c_typed_tree::{TExpr, TFirst, TLocal};
 use pass_trees::bottom_up;
@@ -60,7 +56,7 @@ pub(crate) fn rewrite_optional(
 }
 
 /// The declaration of a local.
-#[tactic(auto, unfolding(crate::proofs::Exchanges::opens))]
+#[tactic(auto, unfolding(c_rewrite_rules::proofs::Exchanges::opens))]
 pub(crate) fn rewrite_local(
     alloc: Global,
     local: TLocal,
@@ -99,7 +95,7 @@ fn rewrite_locals(
 }
 
 /// The first part of a `for`.
-#[tactic(auto, unfolding(crate::proofs::Exchanges::opens))]
+#[tactic(auto, unfolding(c_rewrite_rules::proofs::Exchanges::opens))]
 fn rewrite_first(alloc: Global, first: TFirst, locals: &[Local]) -> Result<TFirst, AllocError>
     ensures { IfOk result (λ made. first_view made ≡ with_first (rewritten locals.now) (first_view first)) }
 {

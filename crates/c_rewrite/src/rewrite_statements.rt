@@ -15,7 +15,7 @@ use std::mem::replace;
 
 /// A statement in a function with these locals.
 #[cycle(statement)]
-#[tactic(auto, using(crate::proofs::StatementViews::statement_steps), unfolding(crate::proofs::Exchanges::opens))]
+#[tactic(auto, using(crate::proofs::StatementViews::statement_steps), unfolding(c_rewrite_rules::proofs::Exchanges::opens))]
 pub(crate) fn rewrite_statement(
     alloc: Global,
     s: TStmt,

@@ -35,7 +35,7 @@ pub const KINDS: [Kind; 6] = [
 
 /// What comes for the text that is generated for a seed and a size, by its image and by its code over virtual registers.
 fn answers_for_generated(alloc: Global, given: &str) -> Result<Vec<u8>> {
-    let text = generated_rows::text(alloc, given)?;
+    let text = program_rows::generated_text(alloc, given)?;
     let text = str::from_utf8(text.as_slice()).context("a text of letters")?;
     let mut shown = Vec::new(alloc);
     for line in RUN_AND_VM {

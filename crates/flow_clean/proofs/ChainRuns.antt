@@ -15,9 +15,9 @@ use Rattle.flow_clean.specs.Chains.{only_jump, jump_in, LeadsTo, AreChained, ret
 use Rattle.flow_clean.specs.Chains.LeadsTo.{IsEnd, PassesOn}
 use Rattle.flow_clean.specs.ChainRuns.{FunctionsAreChained, ChainsKeepRuns}
 use Rattle.flow_clean.specs.ChainRuns.FunctionsAreChained.{NoFunction, Function}
-use Rattle.flow_clean.proofs.Lagging.{BothStep, Stands, Lags, runs_arrive}
-use Rattle.flow_clean.proofs.Lagging.AloneAct.{JumpsAlone}
-use Rattle.flow_clean.proofs.Lagging.Stands.{Both, Alone, Nowhere}
+use Rattle.machine_model.proofs.Lagging.{BothStep, Stands, Lags, runs_arrive}
+use Rattle.machine_model.proofs.Lagging.AloneAct.{JumpsAlone}
+use Rattle.machine_model.proofs.Lagging.Stands.{Both, Alone, Nowhere}
 use Rattle.flow_clean.proofs.Retargeted.{reads_same, writes_same, turn_same, does_same, targets_are}
 
 -- the only instruction of a block that passes on

@@ -22,9 +22,9 @@ use Rattle.suifvm_meaning.specs.Effect.{does, writes}
 use Rattle.suifvm_meaning.specs.Behave.{Registers, FunctionCode, insn_site, next_site, site_or_next, site_in_block, site_in_function, sizes_in, registers_of, set_register, set_registers, first_or_unset, vm_code}
 use Rattle.flow_clean.specs.Copies.{with_reads, move_source, behind, behind_write, behind_writes, no_copies, without_copies, AreWithoutCopies, FunctionsAreWithoutCopies, ReadingOriginsKeepsRuns}
 use Rattle.flow_clean.specs.Copies.FunctionsAreWithoutCopies.{NoFunction, Function}
-use Rattle.flow_clean.proofs.Lagging.{GoesOn, BothStep, LandsAlike, Stands, Lags, runs_arrive}
-use Rattle.flow_clean.proofs.Lagging.GoesOn.{ByWriting, ByCalling}
-use Rattle.flow_clean.proofs.Lagging.Stands.{Both, Nowhere}
+use Rattle.machine_model.proofs.Lagging.{GoesOn, BothStep, LandsAlike, Stands, Lags, runs_arrive}
+use Rattle.machine_model.proofs.Lagging.GoesOn.{ByWriting, ByCalling}
+use Rattle.machine_model.proofs.Lagging.Stands.{Both, Nowhere}
 use Rattle.flow_clean.proofs.OtherReads.{reads_are, writes_same, turn_same, targets_same, does_same}
 use Rattle.flow_clean.proofs.CopyReads.{at_write, lost, stays}
 use Rattle.flow_clean.proofs.WantedSets.{one_write}

@@ -18,10 +18,10 @@ use Rattle.suifvm_meaning.specs.Laws.{OnlyTheseVmInstructionsTrap}
 use Rattle.suifvm_meaning.specs.Behave.{Registers, FunctionCode, insn_site, next_site, site_or_next, site_in_block, site_in_function, sizes_in, registers_of, set_registers, vm_code}
 use Rattle.flow_clean.specs.Dead.{is_wanted, is_dead_write, cleaned, NoneIsDead, NoneIsLeftDead, NoSumRises, AreCleaned, FunctionsAreCleaned, CleaningKeepsRuns}
 use Rattle.flow_clean.specs.Dead.FunctionsAreCleaned.{NoFunction, Function}
-use Rattle.flow_clean.proofs.Lagging.{GoesOn, LandsAlike, AloneAct, Stands, Lags, runs_arrive}
-use Rattle.flow_clean.proofs.Lagging.GoesOn.{ByWriting, ByCalling}
-use Rattle.flow_clean.proofs.Lagging.AloneAct.{WritesAlone, MeansNothing}
-use Rattle.flow_clean.proofs.Lagging.Stands.{Both, Alone, Nowhere}
+use Rattle.machine_model.proofs.Lagging.{GoesOn, LandsAlike, AloneAct, Stands, Lags, runs_arrive}
+use Rattle.machine_model.proofs.Lagging.GoesOn.{ByWriting, ByCalling}
+use Rattle.machine_model.proofs.Lagging.AloneAct.{WritesAlone, MeansNothing}
+use Rattle.machine_model.proofs.Lagging.Stands.{Both, Alone, Nowhere}
 use Rattle.flow_clean.proofs.DroppedActs.{Drops, drops, dropped_turn, dropped_straight, writing_flows, calling_flows}
 use Rattle.flow_clean.proofs.DroppedActs.Drops.{DropsValue, DropsNothing}
 use Rattle.flow_clean.proofs.WantedRegisters.{same_behind, read_same, is_cleaned, unchanged, droppable, wanted_live, last_is, stands_last, target_follows, next_follows}

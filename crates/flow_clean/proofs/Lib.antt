@@ -1,4 +1,3 @@
-pub mod Lagging
 pub mod Retargeted
 pub mod ChainRuns
 pub mod ChainEnds

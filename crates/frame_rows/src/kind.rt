@@ -1,6 +1,6 @@
 //! The kinds of rows, each with its file.
 
-use crate::{runs, texts};
+use crate::{allocations, runs, texts};
 use anyhow::Result;
 use row_sheets::Table;
 use std::alloc::Global;
@@ -10,16 +10,18 @@ use std::alloc::Global;
 pub enum Kind {
     Texts,
     Runs,
+    Allocations,
 }
 
 /// The kinds in the order in which they are checked.
-pub const KINDS: [Kind; 2] = [Kind::Texts, Kind::Runs];
+pub const KINDS: [Kind; 3] = [Kind::Texts, Kind::Runs, Kind::Allocations];
 
 impl Table for Kind {
     fn file(&self) -> &'static str {
         match self {
             Kind::Texts => "frames.rows",
             Kind::Runs => "frame_runs.rows",
+            Kind::Allocations => "allocations.rows",
         }
     }
 
@@ -27,6 +29,7 @@ impl Table for Kind {
         match self {
             Kind::Texts => texts::answer(alloc, given),
             Kind::Runs => runs::answer(alloc, given),
+            Kind::Allocations => allocations::answer(alloc, given),
         }
     }
 }

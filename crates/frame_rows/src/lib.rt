@@ -1,9 +1,10 @@
-//! The tables of functions over temporaries that are laid out in frames, and how they run.
+//! The tables of functions over temporaries that are laid out in frames, how they run, and the texts of allocations.
 //!
 //! The files stand in `back_rows/data`. Their form is described in `docs/rows.md`, and that of each kind of row at the
 //! head of its file.
 #![tactic(auto)]
 
+mod allocations;
 mod kind;
 mod program;
 mod runs;

@@ -1,5 +1,5 @@
-//! Checks the tables of texts, types, units, lowered programs and generated texts: each row of the folder `data/` says what a public
-//! function is given and what is due.
+//! Checks the tables of texts, types, units, lowered programs and generated texts: each row of the folder `data/` says
+//! what a public function is given and what is due.
 //!
 //! The form of the files is described in `docs/rows.md`, and that of each kind of row at the head of its file.
 #![tactic(auto)]
@@ -16,7 +16,6 @@ fn main(rt: HostRuntime) -> Result<()> {
         unit_rows::check_rows(&rt)?,
         typed_rows::check_rows(&rt)?,
         program_rows::check_rows(&rt)?,
-        generated_rows::check_rows(&rt)?,
     ];
     end_of_checks(&differing)
 }

@@ -1,3 +1,4 @@
+pub mod Lagging
 pub mod Outputs
 pub mod Peaks
 pub mod Runs

@@ -1,6 +1,6 @@
 //! The kinds of rows, each with its file.
 
-use crate::programs;
+use crate::{generated, programs};
 use anyhow::Result;
 use row_sheets::Table;
 use std::alloc::Global;
@@ -10,6 +10,8 @@ use std::alloc::Global;
 pub enum Kind {
     Programs,
     Generated,
+    Texts,
+    Sums,
 }
 
 impl Table for Kind {
@@ -17,6 +19,8 @@ impl Table for Kind {
         match self {
             Kind::Programs => "programs.rows",
             Kind::Generated => "generated_programs.rows",
+            Kind::Texts => "generated_texts.rows",
+            Kind::Sums => "generated_sums.rows",
         }
     }
 
@@ -24,6 +28,8 @@ impl Table for Kind {
         match self {
             Kind::Programs => programs::answer(alloc, given),
             Kind::Generated => programs::answer_for_generated(alloc, given),
+            Kind::Texts => generated::generated_text(alloc, given),
+            Kind::Sums => generated::sum(alloc, given),
         }
     }
 }

@@ -1,5 +1,6 @@
 //! Runs of C programs, lowered to programs over virtual registers.
 
+use crate::generated::generated_text;
 use anyhow::{Result, bail, ensure};
 use bk_io::memory::{MemSink, MemSource};
 use c_lexer::TEXT_LIMIT;
@@ -72,7 +73,7 @@ pub fn answer(alloc: Global, given: &str) -> Result<Vec<u8>> {
 /// How the program of the text runs that is generated for a seed and a size.
 pub fn answer_for_generated(alloc: Global, given: &str) -> Result<Vec<u8>> {
     let row = Row {
-        text: generated_rows::text(alloc, given)?,
+        text: generated_text(alloc, given)?,
         input: Vec::new(alloc),
         turns: GENERATED_TURNS,
     };

@@ -6,3 +6,5 @@
 mod insns;
 pub mod reader;
 mod words;
+
+pub use insns::behind;

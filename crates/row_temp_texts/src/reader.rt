@@ -50,7 +50,7 @@ fn small(text: &str) -> Result<u32> {
 }
 
 /// The number of a register.
-fn register(text: &str) -> Result<u8> {
+pub fn register(text: &str) -> Result<u8> {
     Ok(u8::try_from(behind(text, "$")?)?)
 }
 
@@ -66,7 +66,7 @@ fn params_of(alloc: Global, given: &str) -> Result<Vec<u32>> {
 }
 
 /// A transfer, if the word is that of one.
-fn transfer(word: &str, rest: &str) -> Result<Option<Transfer>> {
+pub fn transfer(word: &str, rest: &str) -> Result<Option<Transfer>> {
     let mut words = rest.split(' ');
     let temp = words.next().unwrap_or("");
     let first = words.next().unwrap_or("");

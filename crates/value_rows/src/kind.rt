@@ -1,6 +1,6 @@
 //! The kinds of rows, each with its file.
 
-use crate::{integers, lists, memory};
+use crate::{integers, lists, memory, outcomes};
 use anyhow::Result;
 use mem_model::memory::Mem;
 use row_sheets::Table;
@@ -13,6 +13,7 @@ pub enum Kind {
     /// With the memory that each row goes on with.
     Memory(Mem),
     Lists,
+    Outcomes,
 }
 
 impl Table for Kind {
@@ -21,6 +22,7 @@ impl Table for Kind {
             Kind::Integers => "integers.rows",
             Kind::Memory(_mem) => "memory.rows",
             Kind::Lists => "lists.rows",
+            Kind::Outcomes => "outcomes.rows",
         }
     }
 
@@ -29,6 +31,7 @@ impl Table for Kind {
             Kind::Integers => integers::answer(alloc, given),
             Kind::Memory(mem) => memory::answer(alloc, mem, given),
             Kind::Lists => lists::answer(alloc, given),
+            Kind::Outcomes => outcomes::answer(alloc, given),
         }
     }
 }

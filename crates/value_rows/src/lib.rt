@@ -1,4 +1,4 @@
-//! The tables of integers, objects and lists.
+//! The tables of integers, objects and lists, and of outcomes of calls with their lines and statuses.
 //!
 //! The files stand in `back_rows/data`. Their form is described in `docs/rows.md`, and that of each kind of row at the
 //! head of its file.
@@ -8,6 +8,7 @@ mod integers;
 mod kind;
 mod lists;
 mod memory;
+mod outcomes;
 
 use crate::kind::Kind;
 use anyhow::Result;
@@ -18,6 +19,11 @@ use row_sheets::check_tables;
 /// there are no words, and answers how many differ.
 pub fn check_rows(rt: &HostRuntime) -> Result<u32> {
     let mem = Mem::new(rt.alloc());
-    let mut kinds = [Kind::Integers, Kind::Memory(mem), Kind::Lists];
+    let mut kinds = [
+        Kind::Integers,
+        Kind::Memory(mem),
+        Kind::Lists,
+        Kind::Outcomes,
+    ];
     check_tables(rt, &mut kinds)
 }

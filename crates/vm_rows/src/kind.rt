@@ -1,6 +1,6 @@
 //! The kinds of rows, each with its file.
 
-use crate::{cleaned, flows, runs, selected};
+use crate::{runs, selected};
 use anyhow::Result;
 use row_sheets::Table;
 use std::alloc::Global;
@@ -10,8 +10,6 @@ use std::alloc::Global;
 pub enum Kind {
     Runs,
     Selected,
-    Cleaned,
-    Flows,
 }
 
 impl Table for Kind {
@@ -19,8 +17,6 @@ impl Table for Kind {
         match self {
             Kind::Runs => "vm_runs.rows",
             Kind::Selected => "selected.rows",
-            Kind::Cleaned => "cleaned.rows",
-            Kind::Flows => "flows.rows",
         }
     }
 
@@ -28,8 +24,6 @@ impl Table for Kind {
         match self {
             Kind::Runs => runs::answer(alloc, given),
             Kind::Selected => selected::answer(alloc, given),
-            Kind::Cleaned => cleaned::answer(alloc, given),
-            Kind::Flows => flows::answer(alloc, given),
         }
     }
 }

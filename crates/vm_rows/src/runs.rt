@@ -1,18 +1,14 @@
 //! Runs of programs over virtual registers.
 
 use crate::temporaries::{Run, differences};
-use anyhow::{Result, ensure};
+use anyhow::Result;
 use bk_io::memory::{MemSink, MemSource};
 use row_sheets::escape::unescape;
 use row_sheets::number::{number, numbers};
 use row_vm_texts::reader::VmReader;
+use row_vm_texts::text::{ROOM, check_text, names_of};
 use std::alloc::Global;
-use suifvm_ir::program::VmProgram;
-use suifvm_ir::vm_text;
 use suifvm_run::{VmEnding, run_vm};
-
-/// The most bytes that a run may write.
-pub(crate) const ROOM: u64 = 65_536;
 
 /// What a row says of a run besides its program.
 #[derive(Drop)]
@@ -35,45 +31,6 @@ impl Outside {
         }
         Ok(true)
     }
-}
-
-/// The names of the functions of a program.
-pub(crate) fn names_of(alloc: Global, given: &str) -> Result<Vec<String>> {
-    let mut names = Vec::new(alloc);
-    for line in given.lines() {
-        if let Some(name) = line.strip_prefix("func ") {
-            names.push(name.to_string(alloc)?)?;
-        }
-    }
-    Ok(names)
-}
-
-/// The lines of a row that the text of its program has: functions, blocks and instructions.
-fn lines_of_text(alloc: Global, given: &str) -> Result<Vec<u8>> {
-    let mut text = Vec::new(alloc);
-    for line in given.lines() {
-        let word = line.split(' ').next().unwrap_or(line);
-        let is_shown = match word {
-            "global" | "params" | "registers" | "object" => false,
-            "input" | "failing-inputs" | "failing-puts" | "turns" | "behind" => false,
-            _ => true,
-        };
-        if is_shown {
-            text.extend_from_slice(line.as_bytes())?;
-            text.push(b'\n')?;
-        }
-    }
-    Ok(text)
-}
-
-/// Refuses a program whose text is not the one that a row gives.
-pub(crate) fn check_text(alloc: Global, program: &VmProgram, given: &str) -> Result<()> {
-    let text = vm_text(alloc, program)?;
-    ensure!(
-        text.as_slice() == lines_of_text(alloc, given)?.as_slice(),
-        "the program's text is another one"
-    );
-    Ok(())
 }
 
 /// Whether a run came to an end of the program, with no fault outside it.

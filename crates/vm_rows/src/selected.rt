@@ -1,9 +1,9 @@
 //! Programs over temporaries that are selected.
 
-use crate::runs::names_of;
 use alpha_select::select;
 use anyhow::{Result, ensure};
 use row_vm_texts::reader::VmReader;
+use row_vm_texts::text::names_of;
 use std::alloc::Global;
 use suifvm_checks::size::is_small;
 use temp_ir::temp_text;

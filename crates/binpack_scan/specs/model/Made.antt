@@ -2,10 +2,10 @@
 use Rattle.std.specs.Prelude.{◌≡◌, ℕ, ◌<◌, false, true, Bool, List, [], All, length, slice_index_or}
 use Rattle.alloc_model.specs.declared.allocation.TempPlace.{TempPlace}
 use Rattle.alloc_model.specs.Faithful.{IsGivenRegister, IsTransfer}
-use Rattle.binpack_scan.specs.declared.block.Lists.{Lists}
-use Rattle.binpack_scan.specs.declared.blocks.Maps.{Maps}
-use Rattle.binpack_scan.specs.model.Bins.{Bins, IsOnce, AreInside}
-use Rattle.binpack_scan.specs.model.Tops.{is_listed, places_from}
+use Rattle.binpack_blocks.specs.declared.block.Lists.{Lists}
+use Rattle.binpack_blocks.specs.declared.blocks.Maps.{Maps}
+use Rattle.binpack_blocks.specs.model.Bins.{Bins, IsOnce, AreInside}
+use Rattle.binpack_blocks.specs.model.Tops.{is_listed, places_from}
 
 -- each of the 26 registers has one temporary at most, and each of so many temporaries is in one at most
 pub record AreBins (temps : ℕ) (bins : Bins) : Type 0 where

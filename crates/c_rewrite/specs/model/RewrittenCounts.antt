@@ -21,11 +21,11 @@ use Rattle.c_typed_tree.specs.Typing.{is_same_type}
 use Rattle.c_typed_tree.specs.Counts.{expr_nodes, exprs_nodes, optional_nodes, declared_nodes, first_part_nodes, stmt_nodes, else_nodes, stmts_nodes, sections_nodes, function_nodes}
 use Rattle.c_typed_tree.specs.Lawful.{IsLawfulUnit}
 use Rattle.c_typed_tree.specs.c_typed_height.Heights.{expr_height}
-use Rattle.c_rewrite.specs.Nodes.{operand_list, children_of, pick_first, pick_second, pick_third, with_listed, with_child, placeholder}
-use Rattle.c_rewrite.specs.Rules.{literal_of, is_literal_with, is_over_literals, literal_or, folded, keeps_left, keeps_right, is_zero_product, first_operand, is_left_out, simplified_twice, simplified, arm_by, truth_of, pruned_binary, pruned}
+use Rattle.c_rewrite_rules.specs.Nodes.{operand_list, children_of, pick_first, pick_second, pick_third, with_listed, with_child, placeholder}
+use Rattle.c_rewrite_rules.specs.Rules.{literal_of, is_literal_with, is_over_literals, literal_or, folded, keeps_left, keeps_right, is_zero_product, first_operand, is_left_out, simplified_twice, simplified, arm_by, truth_of, pruned_binary, pruned}
 use Rattle.c_rewrite.specs.Rewritten.{up_by, rewritten, with_init, with_first, with_exprs, else_with_exprs, all_with_exprs, sections_with_exprs, IsRewrittenFn, IsRewritten}
-use Rattle.c_rewrite.specs.model.NodeLaws.{same_in, of_counted, node_laws}
-use Rattle.c_rewrite.specs.model.Heights.{folded_low, simplified_low, pruned_low}
+use Rattle.c_rewrite_rules.specs.model.NodeLaws.{same_in, of_counted, node_laws}
+use Rattle.c_rewrite_rules.specs.model.Heights.{folded_low, simplified_low, pruned_low}
 use Rattle.c_rewrite.specs.model.RewrittenUnits.{unit_rewritten}
 
 -- ---- an order that goes through every node

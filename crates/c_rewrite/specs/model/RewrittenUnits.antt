@@ -15,14 +15,14 @@ use Rattle.c_semantics.specs.Refines as form
 use Rattle.c_semantics.proofs.RefinesOrder.{expr_on, stmt_itself}
 use Rattle.c_semantics.proofs.RefinesStmt.{stmt_refines}
 use Rattle.c_semantics.proofs.RefinesUnit.{unit_refines}
-use Rattle.c_rewrite.specs.Nodes.{children_of, with_child, placeholder}
-use Rattle.c_rewrite.specs.Rules.{folded, simplified, pruned}
+use Rattle.c_rewrite_rules.specs.Nodes.{children_of, with_child, placeholder}
+use Rattle.c_rewrite_rules.specs.Rules.{folded, simplified, pruned}
 use Rattle.c_rewrite.specs.Rewritten.{up_by, rewritten, with_init, with_first, with_exprs, else_with_exprs, all_with_exprs, sections_with_exprs, IsRewrittenFn, IsRewritten}
-use Rattle.c_rewrite.specs.model.NodeLaws.{node_laws}
-use Rattle.c_rewrite.specs.model.Folded.{folded_refines}
-use Rattle.c_rewrite.specs.model.Simplified.{simplified_refines}
-use Rattle.c_rewrite.specs.model.Pruned.{pruned_refines}
-use Rattle.c_rewrite.specs.model.Heights.{folded_low, simplified_low, pruned_low}
+use Rattle.c_rewrite_rules.specs.model.NodeLaws.{node_laws}
+use Rattle.c_rewrite_rules.specs.model.Folded.{folded_refines}
+use Rattle.c_rewrite_rules.specs.model.Simplified.{simplified_refines}
+use Rattle.c_rewrite_rules.specs.model.Pruned.{pruned_refines}
+use Rattle.c_rewrite_rules.specs.model.Heights.{folded_low, simplified_low, pruned_low}
 
 -- ---- expressions
 

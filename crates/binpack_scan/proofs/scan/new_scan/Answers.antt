@@ -1,7 +1,7 @@
 use Rattle.std.proofs.Common.{ap, ◌∙◌, ◌≡◌, length, ℕ}
 use Rattle.std.specs.Prelude.{replicate, Option, None, false}
-use Rattle.binpack_scan.specs.declared.held.Held.{Held}
-use Rattle.binpack_scan.specs.model.Bins.{held_in}
+use Rattle.binpack_blocks.specs.declared.held.Held.{Held}
+use Rattle.binpack_blocks.specs.model.Bins.{held_in}
 use Rattle.binpack_scan.proofs.Functions.{resized, held_none, replicate_length, nothing_inside, nothing_once}
 use Rattle.binpack_scan.proofs.scan.new_scan.Goals as goal
 

@@ -1,6 +1,6 @@
 use Rattle.std.proofs.Common.{subst}
 use Rattle.std.specs.Prelude.{length}
-use Rattle.binpack_scan.specs.model.Whole.{ScansBlocks}
+use Rattle.binpack_blocks.specs.model.Whole.{ScansBlocks}
 use Rattle.binpack_scan.proofs.Said.{lifetimes_rise, all_reads_wanted}
 use Rattle.binpack_scan.proofs.scan.place_temporaries.Goals as goal
 

@@ -2,8 +2,8 @@ use Rattle.std.proofs.Common.{sym, ap, ◌∙◌, refl, subst, ◌^◌}
 use Rattle.std.specs.Prelude.{All, slice_get}
 use Rattle.pass_core.specs.Functions.{UsesRegisters}
 use Rattle.temp_ir.specs.Insns.{reads_of, writes_of}
-use Rattle.binpack_scan.specs.model.Whole.ScansBlocks.{NoBlock}
-use Rattle.binpack_scan.proofs.Rests.{all_at}
+use Rattle.binpack_blocks.specs.model.Whole.ScansBlocks.{NoBlock}
+use Rattle.binpack_blocks.proofs.Rests.{all_at}
 use Rattle.binpack_scan.proofs.Functions.{few_left, scans_next, number_next}
 use Rattle.binpack_scan.proofs.scan.scan_blocks.Goals as goal
 

@@ -1,7 +1,7 @@
 use Rattle.std.proofs.Common.{◌≡◌}
 use Rattle.std.specs.Prelude.{take}
 use Rattle.pass_core.specs.Functions.{count_of}
-use Rattle.binpack_scan.specs.model.Whole.{ScansBlocks}
+use Rattle.binpack_blocks.specs.model.Whole.{ScansBlocks}
 use Rattle.binpack_scan.proofs.scan.scan_blocks.Given as goal
 
 abbrev pub invariant-loop-place : goal.invariant-loop-place

@@ -1,0 +1,11 @@
+pub mod Bins
+pub mod Steps
+pub mod Visits
+pub mod Rows
+pub mod Wanted
+pub mod Choices
+pub mod Standing
+pub mod Tops
+pub mod Scanning
+pub mod Lists
+pub mod Whole

@@ -1,9 +1,0 @@
-use Rattle.std.proofs.Common.{◌≡◌, ◌+◌, length}
-use Rattle.binpack_scan.specs.model.Standing.{AreStanding}
-use Rattle.binpack_scan.proofs.standing.standing_rows.Given as goal
-
-abbrev pub invariant-loop-done : goal.invariant-loop-done
-invariant-loop-done l = record {
-  size : length l.rows ≡ l.done + 1;
-  rows : AreStanding l.insns l.done l.rows;
-}

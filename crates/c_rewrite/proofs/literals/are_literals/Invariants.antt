@@ -1,8 +1,0 @@
--- The elements that were seen are literals.
-use Rattle.std.proofs.Common.{◌≡◌, drop}
-use Rattle.c_typed_tree.specs.model.View.{exprs_view}
-use Rattle.c_rewrite.specs.Rules.{are_literals}
-use Rattle.c_rewrite.proofs.literals.are_literals.Given as goal
-
-abbrev pub invariant-loop-e : goal.invariant-loop-e
-invariant-loop-e l = are_literals (exprs_view (drop l.e-index l.list)) ≡ are_literals (exprs_view l.list)

@@ -1,0 +1,4 @@
+pub mod Exchanges
+pub mod LiteralLists
+pub mod Kept
+pub mod IdleSteps
