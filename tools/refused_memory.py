@@ -6,9 +6,9 @@ A program over `alpha_text` and `alpha_asm`, made and proved in a folder of its 
 of each form, prints it and assembles it. A call that finds no memory says so and is made once more, so at its end the
 program has to say what it says with memory. It is run once for each of its allocations, of which that one is refused.
 
-Where `./msc` has built the compiler, each command is run on the files of `examples/` likewise, and `build` on a text
-with forty locals: it has to end with
-status 71, to say `msc: memory`, and to write nothing to the standard output.
+Where `./msc` has built the compiler, each command is run on the files of `examples/` likewise, and `build`, `run`, `vm`
+and `print` of what is live, on a text with forty locals: it has to end with status 71, to say `msc: memory`, and to
+write nothing to the standard output.
 
 It needs the toolchain and a C compiler. The gate does not run it.
 """
@@ -21,17 +21,28 @@ import tempfile
 TOP = os.path.dirname(os.path.dirname(os.path.abspath(__file__)))
 CRATES = ["alpha_isa", "alpha_items", "alpha_asm", "alpha_lines", "alpha_text"]
 
-# the allocations that the programs of the toolchain make, of which the one whose number is in REFUSED fails
+# the allocations that the programs of the toolchain make, of which the one whose number is in REFUSED fails; at the end
+# their number is put into the file COUNTED
 SHIM = r"""
 #define _GNU_SOURCE
 #include <dlfcn.h>
 #include <errno.h>
+#include <fcntl.h>
 #include <stdlib.h>
+#include <unistd.h>
+
+static long made;
 
 static int is_refused(void) {
-    static long made;
     const char *refused = getenv("REFUSED");
-    return refused != NULL && ++made == atol(refused);
+    made++;
+    return refused != NULL && made == atol(refused);
+}
+
+__attribute__((destructor)) static void count(void) {
+    const char *path = getenv("COUNTED");
+    int file = path == NULL ? -1 : open(path, O_WRONLY | O_CREAT | O_TRUNC, 0600);
+    if (file >= 0 && write(file, &made, sizeof made) == sizeof made) close(file);
 }
 
 void *malloc(size_t size) {
@@ -133,21 +144,29 @@ def made_program(folder):
     return f"{crate}/out/refused_memory"
 
 
-def run(words, shim, refused):
+def run(words, shim, refused, **more):
     """How a program ends where one of its allocations is refused, or none where that is 0."""
-    known = dict(os.environ, LD_PRELOAD=shim, REFUSED=str(refused))
+    known = dict(os.environ, LD_PRELOAD=shim, REFUSED=str(refused), **more)
     end = subprocess.run(words, env=known, stdin=subprocess.DEVNULL, capture_output=True)
     return end.returncode, end.stdout, end.stderr
 
 
 def refused_in_turn(words, shim, is_right):
-    """How many allocations a program makes, each of which was refused once. It stops where an answer is wrong."""
-    whole = run(words, shim, 0)
+    """The answers of a program, of which each allocation is refused once, that are not the one that it gives with
+    memory. It does without some, as the room in which its output is held. It stops where an answer is wrong."""
+    counted = f"{os.path.dirname(shim)}/counted"
+    whole = run(words, shim, 0, COUNTED=counted)
+    with open(counted, "rb") as file:
+        made = int.from_bytes(file.read(), sys.byteorder)
     answers = []
-    while (answer := run(words, shim, len(answers) + 1)) != whole:
-        if not is_right(answer, whole):
-            sys.exit(f"{' '.join(words)}: allocation {len(answers) + 1} refused: {answer}")
-        answers.append(answer)
+    for refused in range(1, made + 1):
+        answer = run(words, shim, refused)
+        if answer != whole:
+            if not is_right(answer, whole):
+                sys.exit(f"{' '.join(words)}: allocation {refused} of {made} refused: {answer}")
+            answers.append(answer)
+    said = " ".join(os.path.basename(word) for word in words)
+    print(f"{said}: {made} allocations, {len(answers)} of them wanted")
     return answers
 
 
@@ -184,10 +203,10 @@ def check_compiler(folder, shim):
     with open(image, "wb") as file:
         file.write(run([program, "build", source], shim, 0)[1])
     calls = [["build", source], ["run", source], ["print", source, "--pass", "tree"], ["assemble", text],
-             ["exec", image], ["migrate", image], ["build", locals_source]]
+             ["exec", image], ["migrate", image], ["build", locals_source], ["run", locals_source],
+             ["vm", locals_source], ["print", locals_source, "--pass", "live"]]
     for words in calls:
-        answers = refused_in_turn([program, *words], shim, lambda a, _: a == (71, b"", b"msc: memory\n"))
-        print(f"msc {words[0]} {os.path.basename(words[1])}: {len(answers)} allocations")
+        refused_in_turn([program, *words], shim, lambda a, _: a == (71, b"", b"msc: memory\n"))
 
 
 def main():
