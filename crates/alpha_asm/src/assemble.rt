@@ -18,7 +18,7 @@ use crate::far::{Layout, lay_out};
 use crate::labels::{Targets, targets_of};
 use crate::words::put_text;
 use alpha_isa::image::Image;
-use alpha_isa::limits::MOST_WORDS;
+use alpha_isa::limits::{MOST_WORDS, TEXT_START};
 use alpha_items::asm::Asm;
 use alpha_items::item::{AsmItem, Fix};
 use bk_memory::memory_is_short;
@@ -51,7 +51,7 @@ fn data_start(words: u64) -> u64
     ensures start { result ≡ next_part (text_start + 4 * words) }
     ensures low { result < 2 ^ 31 - 2 ^ 27 }
 {
-    (65_536 + 4 * words + 65_535) / 65_536 * 65_536
+    (TEXT_START + 4 * words + 65_535) / 65_536 * 65_536
 }
 
 /// What is known of a text before its words are made.

@@ -2,7 +2,7 @@
 //! has no more words, so these alone are looked at.
 
 use crate::ends::Ends;
-use crate::rooms::{NEVER, Rooms};
+use crate::slack::{NEVER, Slacks};
 use crate::spans::{Span, Spans};
 use crate::sums::words_between;
 use alpha_isa::limits::BRANCH_REACH;
@@ -16,14 +16,14 @@ struct Links {
     behind: usize,
 }
 
-/// The spans of a text that are not far yet, of which the outermost have their rooms. Their starts rise, and their
+/// The spans of a text that are not far yet, of which the outermost have their slacks. Their starts rise, and their
 /// ends too.
 #[derive(Debug, Drop)]
 pub(crate) struct Outermost {
     spans: Vec<Span>,
     begun: Vec<usize>,
     ends: Ends,
-    rooms: Rooms,
+    slacks: Slacks,
     links: Vec<Links>,
 }
 
@@ -37,30 +37,30 @@ fn link(links: &mut [Links], before: usize, behind: usize) {
     }
 }
 
-/// The room of each span where it is one of the outermost, by the places of the items. The outermost are linked.
-fn rooms_of(
+/// The slack of each span where it is one of the outermost, by the places of the items. The outermost are linked.
+fn slacks_of(
     alloc: Global,
     spans: &[Span],
     places: &[u64],
     links: &mut [Links],
 ) -> Result<Vec<i64>, AllocError> {
-    let mut rooms = Vec::with_capacity(alloc, spans.len())?;
+    let mut slacks = Vec::with_capacity(alloc, spans.len())?;
     let mut before = spans.len();
     let mut greatest = 0;
     for (at, span) in spans.iter().enumerate() {
-        let mut room = NEVER;
+        let mut slack = NEVER;
         if span.end() > greatest {
-            room = (BRANCH_REACH - 1)
+            slack = (BRANCH_REACH - 1)
                 .wrapping_sub(span.words(places))
                 .cast_signed();
             link(links, before, at);
             before = at;
             greatest = span.end();
         }
-        rooms.push(room)?;
+        slacks.push(slack)?;
     }
     link(links, before, spans.len());
-    Ok(rooms)
+    Ok(slacks)
 }
 
 impl Outermost {
@@ -78,21 +78,21 @@ impl Outermost {
         };
         let mut links = Vec::new(alloc);
         links.resize(none.saturating_add(1), alone)?;
-        let rooms = rooms_of(alloc, spans.as_slice(), places, links.as_mut_slice())?;
-        let rooms = Rooms::new(alloc, rooms.as_slice())?;
+        let slacks = slacks_of(alloc, spans.as_slice(), places, links.as_mut_slice())?;
+        let slacks = Slacks::new(alloc, slacks.as_slice())?;
         let ends = Ends::new(alloc, spans.as_slice())?;
         Ok(Outermost {
             spans,
             begun,
             ends,
-            rooms,
+            slacks,
             links,
         })
     }
 
-    /// The branch of the span with the least room, where that is less than none.
+    /// The branch of the span with the least slack, where that is less than none.
     pub(crate) fn overfull(&self) -> Option<usize> {
-        let (at, _room) = self.rooms.overfull()?;
+        let (at, _slack) = self.slacks.overfull()?;
         let span = self.spans.get(at)?;
         Some(span.branch)
     }
@@ -105,30 +105,30 @@ impl Outermost {
         }
     }
 
-    /// Looks no more at a span, and takes words from the rooms of those that pass over its branch. Where that
+    /// Looks no more at a span, and takes words from the slacks of those that pass over its branch. Where that
     /// goes ahead, they stand before it, and else behind it.
     fn leave(&mut self, at: usize, span: Span, words: u64) {
         if span.is_ahead() {
             let first = self.ends.first_of_all_past(span.branch).unwrap_or(at);
-            self.rooms.leave_behind(first, at, words);
+            self.slacks.leave_behind(first, at, words);
             return;
         }
         let past = self.begun.get(span.branch).copied().unwrap_or(0);
-        self.rooms.leave_before(at, past, words);
+        self.slacks.leave_before(at, past, words);
     }
 
-    /// Looks at a span that lies within another one, which has so much room. Answers where it ends.
-    fn look_at(&mut self, at: usize, outer: Span, room: i64, sums: &[u32]) -> Option<usize> {
+    /// Looks at a span that lies within another one, which has so much slack. Answers where it ends.
+    fn look_at(&mut self, at: usize, outer: Span, slack: i64, sums: &[u32]) -> Option<usize> {
         let span = self.spans.get(at).copied()?;
         let before = words_between(sums, outer.start(), span.start());
         let behind = words_between(sums, span.end(), outer.end());
         let more = before.wrapping_add(behind).cast_signed();
-        self.rooms.look_at(at, room.wrapping_add(more));
+        self.slacks.look_at(at, slack.wrapping_add(more));
         Some(span.end())
     }
 
-    /// Looks at those that are outermost without a span that had so much room, which stood between two others.
-    fn show(&mut self, at: usize, outer: Span, around: Links, room: i64, sums: &[u32]) {
+    /// Looks at those that are outermost without a span that had so much slack, which stood between two others.
+    fn show(&mut self, at: usize, outer: Span, around: Links, slack: i64, sums: &[u32]) {
         let mut before = around.before;
         let mut greatest = self.end(before);
         let mut from = at.saturating_add(1);
@@ -143,7 +143,7 @@ impl Outermost {
             if next >= around.behind {
                 break;
             }
-            let Some(end) = self.look_at(next, outer, room, sums) else {
+            let Some(end) = self.look_at(next, outer, slack, sums) else {
                 break;
             };
             link(self.links.as_mut_slice(), before, next);
@@ -154,9 +154,9 @@ impl Outermost {
         link(self.links.as_mut_slice(), before, around.behind);
     }
 
-    /// Takes the span with the least room out, whose branch is far now and has so many words more.
+    /// Takes the span with the least slack out, whose branch is far now and has so many words more.
     pub(crate) fn remove(&mut self, words: u64, sums: &[u32]) {
-        let Some((at, room)) = self.rooms.overfull() else {
+        let Some((at, slack)) = self.slacks.overfull() else {
             return;
         };
         let Some(span) = self.spans.get(at).copied() else {
@@ -167,6 +167,6 @@ impl Outermost {
         };
         self.leave(at, span, words);
         self.ends.remove(at);
-        self.show(at, span, around, room, sums);
+        self.show(at, span, around, slack, sums);
     }
 }

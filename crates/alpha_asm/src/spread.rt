@@ -1,7 +1,7 @@
 //! A search for branches that become far because others do, from one to the next.
 //!
 //! Of the spans that lie within no other one, both the starts and the ends rise. So a branch that becomes far
-//! takes from the rooms of a row of them, and the one with the least room is far next. A span is looked at once
+//! takes from the slacks of a row of them, and the one with the least slack is far next. A span is looked at once
 //! no other one holds it. Each of these steps takes time in the logarithm of the number of spans.
 
 ghost use Rattle.std.specs.Prelude.{◌≡◌, ◌+◌, ◌<◌, ◌≤◌, ◌^◌, true, false, length, slice_set, OnOk};

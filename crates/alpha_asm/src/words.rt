@@ -16,6 +16,7 @@ ghost use Rattle.alpha_asm.specs.model.Text.{IsLaidOut};
 use crate::sizes::is_link;
 use alpha_isa::encode::encode;
 use alpha_isa::insn::{BranchOp, Fields, Insn32, JumpOp, MemoryOp};
+use alpha_isa::limits::TEXT_START;
 use alpha_items::item::AsmItem;
 use std::alloc::AllocError;
 
@@ -23,9 +24,6 @@ use std::alloc::AllocError;
 const SCRATCH: u8 = 28;
 
 const ZERO: u8 = 31;
-
-/// The address of the first word.
-const TEXT_START: u64 = 65_536;
 
 /// Appends the word of an instruction.
 fn put(words: &mut Vec<u32>, fields: Fields) -> Result<(), AllocError>

@@ -8,11 +8,12 @@ ghost use Rattle.alpha_isa.specs.Behave.{IsStack, start_state};
 
 use crate::ending::{Ending, Halt};
 use crate::memory::Memory;
-use crate::processor::{Processor, StepResult, TEXT_START};
+use crate::processor::{Processor, StepResult};
 use crate::registers::Registers;
 use alpha_isa::decode::decode;
 use alpha_isa::image::Image;
 use alpha_isa::insn::Insn32;
+use alpha_isa::limits::TEXT_START;
 use bk_io::outside::{Sink, Source, ask};
 use std::alloc::{AllocError, Global};
 use std::marker::Model;

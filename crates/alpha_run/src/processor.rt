@@ -14,9 +14,7 @@ use crate::ending::Halt;
 use crate::memory::Memory;
 use crate::registers::Registers;
 use alpha_isa::insn::{BranchOp, Fields, Insn32, MemoryOp, Operand, OperateOp};
-
-/// The address at which the text begins.
-pub(crate) const TEXT_START: u64 = 65_536;
+use alpha_isa::limits::TEXT_START;
 
 /// The text, decoded, with the place in it, and the registers and memory that it works on.
 #[derive(Debug, Drop)]

@@ -8,8 +8,6 @@ mod predecessors;
 pub mod renumber;
 mod search;
 mod successors;
-#[cfg(test)]
-mod tests;
 pub mod unreachable;
 
 pub use graph::{Graph, build};

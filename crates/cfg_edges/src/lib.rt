@@ -7,7 +7,5 @@
 mod marks;
 mod pieces;
 pub mod split;
-#[cfg(test)]
-mod tests;
 
 pub use split::split_edges;

@@ -7,13 +7,14 @@ ghost use Rattle.compile_calls.specs.Built.{IsBuilt};
 ghost use Rattle.compile_calls.specs.Compile.{RefusesText};
 ghost use Rattle.compile_calls.specs.model.Causes.{outcome_of_compile_fault, IsNoFault};
 
+use c_lexer::TEXT_LIMIT;
 use call_outcomes::outcome::{Outcome, Which};
 use compiler::compile::compile;
 use compiler::{Built, CompileFault, Options};
 use std::alloc::Global;
 
 /// How many bytes of a C file are read: one more than a text may have.
-pub(crate) const SOURCE_LIMIT: u64 = 4_194_305;
+pub(crate) const SOURCE_LIMIT: u64 = TEXT_LIMIT as u64 + 1;
 
 /// The outcome where nothing is compiled of a text.
 pub(crate) fn outcome_of_fault(fault: CompileFault) -> Outcome

@@ -1,6 +1,6 @@
 pub mod Registers
 pub mod Rewritten
-pub mod CleanCode
+pub mod KeptCode
 pub mod Stages
 pub mod Images
 pub mod Parts

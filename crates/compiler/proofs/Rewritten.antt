@@ -12,9 +12,8 @@ use Rattle.c_typing_weight.specs.Limits.{most_weight}
 use Rattle.c_semantics.specs.Refines.{WeighNoMore, none_weighs, one_weighs}
 use Rattle.c_rewrite.specs.Rewritten.{IsRewrittenFn}
 use Rattle.suifvm_ir.specs.declared.insn.VmInsn.{VmInsn}
-use Rattle.suifvm_ir.specs.Programs.{VmFunction}
+use Rattle.suifvm_ir.specs.Programs.{VmFunction, arguments_of}
 use Rattle.lowering_code.specs.Functions.{objects_of}
-use Rattle.lowering_bounds.specs.Laws.{arguments_of}
 use Rattle.lowering.specs.Lowered.{IsWithinWeight, StandsFor, AllStandFor}
 use Rattle.compiler_theorem.specs.RefinedCode.{RefinedUnitsHaveCode}
 use Rattle.compiler.specs.model.Stages.{IsRewrittenUnit, RewrittenCodeDoesAsUnit}

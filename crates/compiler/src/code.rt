@@ -8,12 +8,13 @@ ghost use Rattle.compiler.specs.model.Parts.{IsKept, IsCleanCode, AreCodePartsOf
 ghost use Rattle.compiler.specs.model.Stages.{IsRewrittenUnit, IsLoweredUnit, IsSelectedProgram};
 
 use crate::built::{CodeParts, PassParts, WantedParts};
-use crate::laws::{clean_code_does_as_unit, rewritten_code_does_as_unit};
+use crate::laws::{kept_code_does_as_unit, rewritten_code_does_as_unit};
 use alpha_select::{select, select_in_turn};
 use block_passes::clean_and_split;
 use c_rewrite::rewrite_unit;
 use c_typed_tree::c_lawful_unit::LawfulUnit;
 use c_typed_tree::copy_unit;
+use flow_clean::laws::{cleaning_keeps_code, code_is_kept_along, copies_keep_code};
 use flow_clean::{clean, clean_in_turn, without_copies};
 use lowering::{lower, lower_in_turn};
 use lowering_theorem::laws::programs_keep_meaning;
@@ -95,6 +96,9 @@ fn clean_code(
     requires { program_size lowered.functions ≤ 2 ^ 24 }
     ensures { IfOk result (λ p. IsCleanCode lowered wanted p.given p.made) }
 {
+    copies_keep_code();
+    cleaning_keeps_code();
+    code_is_kept_along();
     let copied = without_copies(alloc, lowered)?;
     match wanted {
         WantedParts::Everything => {
@@ -166,7 +170,7 @@ pub(crate) fn code_of(
         given: copied,
         made: vm,
     } = clean_code(alloc, lowered, wanted)?;
-    clean_code_does_as_unit();
+    kept_code_does_as_unit();
     let PassParts {
         given: vm,
         made: selected,

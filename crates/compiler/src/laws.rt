@@ -1,13 +1,12 @@
 //! What follows of what the passes give, by the laws of the layers below: each the contract of a function that does
 //! nothing.
 
-ghost use Rattle.compiler.specs.model.Stages.{RewrittenCodeDoesAsUnit, CleanCodeDoesAsUnit, CodeCanBeAssembled, AssembliesAreMade, ImagesAreCorrect};
+ghost use Rattle.compiler.specs.model.Stages.{RewrittenCodeDoesAsUnit, KeptCodeDoesAsUnit, CodeCanBeAssembled, AssembliesAreMade, ImagesAreCorrect};
 
 use block_preparation_laws::laws::{
     passes_keep_selections, temp_functions_fit, temp_functions_have_names,
 };
 use compiler_theorem::refined_code::laws::refined_units_have_code;
-use flow_clean::laws::{clean_programs_do_all, copies_go_in_programs, counts_stay_bounded};
 use image_assembly_laws::allocation_laws::laws::{
     allocations_are_near, allocations_fit, labels_are_few,
 };
@@ -25,13 +24,10 @@ pub(crate) fn rewritten_code_does_as_unit()
     refined_units_have_code();
 }
 
-/// Clean code does what the unit does.
-pub(crate) fn clean_code_does_as_unit()
-    ensures { CleanCodeDoesAsUnit }
+/// Code that passes made of code that does what the unit does, and that keeps what they have to keep, does so too.
+pub(crate) fn kept_code_does_as_unit()
+    ensures { KeptCodeDoesAsUnit }
 {
-    copies_go_in_programs();
-    clean_programs_do_all();
-    counts_stay_bounded();
     one_ending();
 }
 

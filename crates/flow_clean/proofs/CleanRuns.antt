@@ -16,7 +16,7 @@ use Rattle.flow_clean.specs.Copies.{IsWithoutCopiesOf, FunctionsAreWithoutCopies
 use Rattle.flow_clean.specs.Copies.FunctionsAreWithoutCopies.{NoFunction as NoCopied, Function as OneCopied}
 use Rattle.flow_clean.specs.Dead.{FunctionsAreCleaned}
 use Rattle.flow_clean.specs.Dead.FunctionsAreCleaned.{NoFunction as NoCleaned, Function as OneCleaned}
-use Rattle.flow_clean.specs.Programs.{DoesAllOf, CopiesGoInPrograms, CleanProgramsDoAll}
+use Rattle.flow_clean.specs.Programs.{IsProgramWithoutCopiesOf, IsCleanProgramOf, DoesAllOf}
 use Rattle.flow_clean.proofs.Alike.{AreAlike, copied_alike, clean_alike, main_same}
 use Rattle.flow_clean.proofs.ChainRuns.{chains_keep}
 use Rattle.flow_clean.proofs.CopyRuns.{origins_keep}
@@ -84,10 +84,10 @@ does_all before after alike globals ends rooms input turns e defined run =
           ∙ done.1;
     }
 
-pub copies_go : CopiesGoInPrograms
+pub copies_go : (before after : VmProgram) → IsProgramWithoutCopiesOf before after → DoesAllOf after before
 copies_go before after k =
     does_all before after (copied_alike before.functions after.functions k.functions) k.globals (copies_end before.functions after.functions k.functions)
 
-pub clean_does : OnlyTheseVmInstructionsTrap → CleanProgramsDoAll
+pub clean_does : OnlyTheseVmInstructionsTrap → (copied clean : VmProgram) → IsCleanProgramOf copied clean → DoesAllOf clean copied
 clean_does only copied clean k =
     does_all copied clean (clean_alike copied.functions clean.functions k.functions) k.globals (clean_ends only copied.functions clean.functions k.functions)

@@ -1,8 +1,8 @@
 -- A run that reads origins in place of copies goes step by step with the run that reads the copies.
-use Rattle.std.proofs.Common.{◌≡◌, ◌≢◌, ◌⊎◌, ℕ, zero, suc, ◌<◌, ◌≤◌, ◌==◌, Bool, true, false, List, [], ◌∷◌, length, drop, map, Option, Some, None, refl, sym, ap, ◌∙◌, subst, arith, inl, inr, ⊎_elim, if◌then◌else◌}
+use Rattle.std.proofs.Common.{◌≡◌, ◌≢◌, ◌⊎◌, ℕ, zero, suc, ◌<◌, ◌≤◌, Bool, true, false, List, [], ◌∷◌, length, drop, map, Option, Some, None, refl, sym, ap, ◌∙◌, subst, arith, inl, inr, ⊎_elim, if◌then◌else◌}
 use Rattle.std.specs.Prelude.{slice_get, option_map}
 use Rattle.std.proofs.lemmas.Bool.{eq-eqb, ne_eqb, cases_eq}
-use Rattle.std.proofs.lemmas.Option.{slice_get-map, slice_get_past, none-some, same_Some}
+use Rattle.std.proofs.lemmas.Option.{slice_get-map, slice_get_past}
 use Rattle.mem_model.specs.declared.value.Value.{Value}
 use Rattle.mem_model.specs.declared.value.Value.TheVariants as values
 use Rattle.mem_model.specs.World.{Outer, Rooms}
@@ -10,19 +10,18 @@ use Rattle.machine_model.specs.Code.{Point, block_point, entry_point, next_point
 use Rattle.bitvector_flow.proofs.Lives.{drop_first, drop_none}
 use Rattle.suifvm_ir.specs.declared.types.VmType.{VmType}
 use Rattle.suifvm_ir.specs.declared.types.VmType.TheVariants as types
-use Rattle.suifvm_ir.specs.declared.insn.VmUnaryOp.{VmUnaryOp}
 use Rattle.suifvm_ir.specs.declared.insn.VmUnaryOp.TheVariants as unary
 use Rattle.suifvm_ir.specs.declared.insn.VmInsn.{VmInsn}
 use Rattle.suifvm_ir.specs.declared.insn.VmInsn.TheVariants as x
-use Rattle.suifvm_ir.specs.Insns.{reads_of, writes_of, targets_of}
+use Rattle.suifvm_ir.specs.Insns.{reads_of, writes_of}
 use Rattle.suifvm_meaning.specs.declared.answer.Answer.{Answer}
 use Rattle.suifvm_meaning.specs.declared.answer.Answer.TheVariants.{Gives, TrapsWith, Fails}
-use Rattle.suifvm_meaning.specs.Operations.{unary_answer, is_value_of, integer_of}
+use Rattle.suifvm_meaning.specs.Operations.{unary_answer}
 use Rattle.suifvm_meaning.specs.Effect.{does, writes}
 use Rattle.suifvm_meaning.specs.Behave.{Registers, FunctionCode, insn_site, next_site, site_or_next, site_in_block, site_in_function, sizes_in, registers_of, set_register, set_registers, first_or_unset, vm_code}
 use Rattle.flow_clean.specs.Copies.{with_reads, move_source, behind, behind_write, behind_writes, no_copies, without_copies, AreWithoutCopies, FunctionsAreWithoutCopies, ReadingOriginsKeepsRuns}
 use Rattle.flow_clean.specs.Copies.FunctionsAreWithoutCopies.{NoFunction, Function}
-use Rattle.machine_model.proofs.Lagging.{GoesOn, BothStep, LandsAlike, Stands, Lags, runs_arrive}
+use Rattle.machine_model.proofs.Lagging.{GoesOn, Stands, Lags, runs_arrive}
 use Rattle.machine_model.proofs.Lagging.GoesOn.{ByWriting, ByCalling}
 use Rattle.machine_model.proofs.Lagging.Stands.{Both, Nowhere}
 use Rattle.flow_clean.proofs.OtherReads.{reads_are, writes_same, turn_same, targets_same, does_same}

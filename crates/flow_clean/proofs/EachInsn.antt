@@ -1,5 +1,5 @@
 -- What holds of each instruction of a function holds of each of one without copies, and of a clean one.
-use Rattle.std.proofs.Common.{ℕ, ◌<◌, ◌≤◌, List, [], ◌∷◌, length, map, All, sym, subst, arith}
+use Rattle.std.proofs.Common.{ℕ, ◌<◌, List, [], ◌∷◌, length, map, All, sym, subst, arith}
 use Rattle.std.specs.Prelude.{slice_index_or}
 use Rattle.std.proofs.lemmas.Option.{slice_get-get_or, get_or_from_slice_get}
 use Rattle.std.proofs.lemmas.List.Elements.{All-nil, All-cons, All-head, All-tail, All-weaker, All-map}
@@ -11,7 +11,6 @@ use Rattle.flow_clean.specs.Chains.{retargeted}
 use Rattle.flow_clean.specs.Clean.{IsCleanOf}
 use Rattle.flow_clean.specs.Copies.{with_reads, behind, no_copies, without_copies, IsWithoutCopiesOf}
 use Rattle.flow_clean.specs.Dead.{cleaned, AreCleaned}
-use Rattle.flow_clean.specs.Programs.{CountsStayBounded}
 use Rattle.flow_clean.proofs.Thinned.{thinned, thin_all}
 
 -- blocks that are each cleaned
@@ -43,9 +42,3 @@ module _ (P Q : VmInsn → Type 0) where
   in_clean step f g k h =
       subst (AllInsns Q) (sym k.chained.made)
       (each_changed (map (retargeted k.chained.ends)) (each_mapped (retargeted k.chained.ends) (step k.chained.ends)) k.middle (each_left P f.blocks k.middle k.live h))
-
--- what is counted of an instruction
-pub counts_bounded : CountsStayBounded
-counts_bounded measure by_reads by_targets most f copied clean k l h =
-    in_clean (λ i. measure i ≤ most) (λ i. measure i ≤ most) (λ ends i few. subst (λ n. n ≤ most) (sym (by_targets ends i)) few) copied clean l
-    (in_copied (λ i. measure i ≤ most) (λ i. measure i ≤ most) (λ names i few. subst (λ n. n ≤ most) (sym (by_reads names i)) few) f copied k h)

@@ -23,4 +23,5 @@ pub mod EachInsn
 pub mod FewRegisters
 pub mod BothPasses
 pub mod CleanRuns
+pub mod KeptCode
 pub mod CleanPrograms

@@ -4,12 +4,11 @@ use Rattle.std.specs.List.{AllZip}
 use Rattle.mem_model.specs.World.{Rooms}
 use Rattle.mem_model.specs.Ending.{Ending, IsDefined}
 use Rattle.pass_core.specs.Functions.{AllInsns}
-use Rattle.suifvm_ir.specs.declared.insn.VmInsn.{VmInsn}
 use Rattle.suifvm_ir.specs.declared.program.VmProgram.{VmProgram}
-use Rattle.suifvm_ir.specs.Programs.{VmFunction}
+use Rattle.suifvm_ir.specs.Programs.{VmFunction, function_size, arguments_of}
+use Rattle.suifvm_ir.specs.Cost.{cost}
 use Rattle.suifvm_meaning.specs.Behave.{behave_vm}
-use Rattle.flow_clean.specs.Chains.{retargeted}
-use Rattle.flow_clean.specs.Copies.{with_reads, IsWithoutCopiesOf}
+use Rattle.flow_clean.specs.Copies.{IsWithoutCopiesOf}
 use Rattle.flow_clean.specs.Dead.{MeasuresFall}
 use Rattle.flow_clean.specs.Clean.{IsCleanOf}
 
@@ -31,16 +30,34 @@ DoesAllOf after before =
     (rooms : Rooms) (input : List ℕ) (turns : ℕ) (e : Ending) → IsDefined e →
     behave_vm rooms before input turns e → behave_vm rooms after input turns e
 
-abbrev pub CopiesGoInPrograms : Type 0
-CopiesGoInPrograms = (before after : VmProgram) → IsProgramWithoutCopiesOf before after → DoesAllOf after before
+-- ---- what every pass over such code keeps
 
-abbrev pub CleanProgramsDoAll : Type 0
-CleanProgramsDoAll = (copied clean : VmProgram) → IsCleanProgramOf copied clean → DoesAllOf clean copied
+-- a function is made of another one: its name, parameters, registers and memory locals are those of that one, it costs
+-- no more and is no larger, and as few arguments bound its calls
+pub record FunctionKeeps (before after : VmFunction) : Type 0 where
+  pub name : after.name ≡ before.name
+  pub params : after.params ≡ before.params
+  pub temps : after.temps ≡ before.temps
+  pub objects : after.objects ≡ before.objects
+  pub cost : cost after ≤ cost before
+  pub size : function_size after ≤ function_size before
+  pub arguments : (most : ℕ) → AllInsns (λ i. arguments_of i ≤ most) before.blocks →
+      AllInsns (λ i. arguments_of i ≤ most) after.blocks
 
--- what is counted of an instruction apart from the registers that it reads and its targets is nowhere more than it was
-abbrev pub CountsStayBounded : Type 0
-CountsStayBounded =
-    (measure : VmInsn → ℕ) → ((names : ℕ → ℕ) (i : VmInsn) → measure (with_reads names i) ≡ measure i) →
-    ((ends : List ℕ) (i : VmInsn) → measure (retargeted ends i) ≡ measure i) →
-    (most : ℕ) (f copied clean : VmFunction) → IsWithoutCopiesOf f copied → IsCleanOf copied clean →
-    AllInsns (λ i. measure i ≤ most) f.blocks → AllInsns (λ i. measure i ≤ most) clean.blocks
+-- Code is made of other code: its functions by number, with the same objects of static storage, and it does all that
+-- the other does. Nothing else is asked of a pass over such code
+pub record CodeKeeps (before after : VmProgram) : Type 0 where
+  pub functions : AllZip FunctionKeeps before.functions after.functions
+  pub globals : after.globals ≡ before.globals
+  pub does : DoesAllOf after before
+
+-- two passes one after the other
+abbrev pub CodeIsKeptAlong : Type 0
+CodeIsKeptAlong =
+    (first second third : VmProgram) → CodeKeeps first second → CodeKeeps second third → CodeKeeps first third
+
+abbrev pub CopiesKeepCode : Type 0
+CopiesKeepCode = (before after : VmProgram) → IsProgramWithoutCopiesOf before after → CodeKeeps before after
+
+abbrev pub CleaningKeepsCode : Type 0
+CleaningKeepsCode = (copied clean : VmProgram) → IsCleanProgramOf copied clean → CodeKeeps copied clean

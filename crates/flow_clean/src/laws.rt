@@ -3,7 +3,7 @@
 ghost use Rattle.flow_clean.specs.ChainRuns.{ChainsKeepRuns};
 ghost use Rattle.flow_clean.specs.Copies.{ReadingOriginsKeepsRuns};
 ghost use Rattle.flow_clean.specs.Dead.{CleaningKeepsRuns, NoneIsLeftDead, NoSumRises};
-ghost use Rattle.flow_clean.specs.Programs.{CopiesGoInPrograms, CleanProgramsDoAll, CountsStayBounded};
+ghost use Rattle.flow_clean.specs.Programs.{CodeIsKeptAlong, CopiesKeepCode, CleaningKeepsCode};
 
 /// A run that ends with a meaning ends so too where jumps go on past those that are only instructions.
 pub fn chains_keep_runs()
@@ -33,19 +33,19 @@ pub fn no_sum_rises()
     ensures { NoSumRises }
 {}
 
-/// Whatever a program does where that has a meaning, the one whose instructions read origins does.
-pub fn copies_go_in_programs()
-    ensures { CopiesGoInPrograms }
+/// What two passes keep of code, one after the other, both keep.
+pub fn code_is_kept_along()
+    ensures { CodeIsKeptAlong }
+{}
+
+/// A program whose instructions read no copies keeps what the code is of which it is made, and does all that it does.
+pub fn copies_keep_code()
+    ensures { CopiesKeepCode }
 {}
 
 /// So does a clean one.
-pub fn clean_programs_do_all()
-    ensures { CleanProgramsDoAll }
+pub fn cleaning_keeps_code()
+    ensures { CleaningKeepsCode }
 {
     suifvm_meaning::laws::only_these_trap();
 }
-
-/// What is counted of an instruction apart from the registers that it reads and its targets is nowhere more than it was.
-pub fn counts_stay_bounded()
-    ensures { CountsStayBounded }
-{}

@@ -2,11 +2,8 @@
 
 ghost use Rattle.std.specs.Prelude.{◌≡◌, ◌∷◌, OnOk, OnErr};
 
-use pass_core::block::Block;
+use pass_core::block::{Block, LAST_ID};
 use std::alloc::AllocError;
-
-/// The number of ids from which on a list gives no more.
-const LAST_ID: u32 = u32::MAX - 1;
 
 /// Puts an instruction before the others. Where memory is short, or the list has no more ids, the block stays as it was.
 pub(crate) fn push_front<I: Drop>(block: &mut Block<I>, insn: I) -> Result<(), AllocError>

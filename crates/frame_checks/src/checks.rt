@@ -10,9 +10,7 @@ use crate::objects::{are_small, lie_in_order};
 use alloc_model::allocation::Allocation;
 use frame_emitter::insns::FUNCTIONS;
 use mem_objects::DataObject;
-
-/// The most temporaries of a function.
-const MOST_TEMPORARIES: u32 = 1 << 24;
+use suifvm_ir::program::MOST_PROGRAM_SIZE;
 
 /// Whether labels and temporaries are few enough.
 fn numbers_fit(a: &Allocation, number: u32, first_label: u32) -> bool
@@ -21,7 +19,7 @@ fn numbers_fit(a: &Allocation, number: u32, first_label: u32) -> bool
     let count = a.func.blocks.as_slice().len() as u64;
     u64::from(FUNCTIONS) + u64::from(number) < u64::from(first_label)
         && u64::from(first_label) + count < u64::from(u32::MAX)
-        && a.func.temps <= MOST_TEMPORARIES
+        && a.func.temps <= MOST_PROGRAM_SIZE
 }
 
 /// Whether objects lie where they may, and each instruction is as is asked.

@@ -1,54 +1,16 @@
 //! What is asked of instructions.
 
-ghost use Rattle.std.specs.Prelude.{◌≡◌, slice_get};
+ghost use Rattle.std.specs.Prelude.{◌≡◌};
 ghost use Rattle.std.specs.List.{list_all};
-ghost use Rattle.suifvm_ir.specs.Programs as programs;
 ghost use Rattle.frame_checks.specs.model.Asked.{is_asked};
 
 use frame_emitter::insns::FUNCTIONS;
 use mem_objects::DataObject;
 use pass_core::block::Block;
 use pass_core::function::MemoryLocal;
-use suifvm_ir::insn::VmObject;
+use suifvm_ir::objects::place_reaches;
+use suifvm_ir::program::MOST_PROGRAM_SIZE;
 use temp_ir::insn::TempInsn;
-
-/// No call has more arguments.
-const MOST_ARGUMENTS: u32 = 1 << 24;
-
-/// Whether an object of static storage is there and has so many bytes.
-fn global_reaches(globals: &[DataObject], global: usize, plus: u64) -> bool
-    ensures { result ≡ programs.global_reaches plus (slice_get globals.now global) }
-{
-    match globals.get(global) {
-        None => false,
-        Some(object) => plus <= object.size,
-    }
-}
-
-/// Whether a memory local is there and has so many bytes.
-fn local_reaches(objects: &[MemoryLocal], local: usize, plus: u64) -> bool
-    ensures { result ≡ programs.local_reaches plus (slice_get objects.now local) }
-{
-    match objects.get(local) {
-        None => false,
-        Some(object) => plus <= object.size,
-    }
-}
-
-/// Whether a place is there and has so many bytes.
-fn place_reaches(
-    globals: &[DataObject],
-    objects: &[MemoryLocal],
-    plus: u64,
-    place: VmObject,
-) -> bool
-    ensures { result ≡ programs.place_reaches globals.now objects.now plus place }
-{
-    match place {
-        VmObject::Global(global) => global_reaches(globals, global as usize, plus),
-        VmObject::Local(local) => local_reaches(objects, local as usize, plus),
-    }
-}
 
 /// Whether an instruction is as is asked.
 fn insn_asks(
@@ -67,7 +29,7 @@ fn insn_asks(
             function,
             arguments,
         } => u64::from(FUNCTIONS) + u64::from(*function) < u64::from(first_label)
-            && *arguments <= MOST_ARGUMENTS,
+            && *arguments <= MOST_PROGRAM_SIZE,
         _ => true,
     }
 }

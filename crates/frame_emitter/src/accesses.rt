@@ -18,6 +18,9 @@ const WAY: u8 = 29;
 
 pub(crate) const ZERO: u8 = 31;
 
+/// The register that calls of functions write the return address to.
+pub(crate) const RETURN: u8 = 26;
+
 /// How many times 65,536 stand in an offset, with the nearest one counted.
 pub(crate) fn high_part(offset: u64) -> i16
     requires { offset < most_address }

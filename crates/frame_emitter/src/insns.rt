@@ -13,7 +13,7 @@ ghost use Rattle.frame_steps.specs.function_items.InstructionItems.{insn_items, 
 ghost use Rattle.frame_emitter.specs.Settings.{IsFit};
 ghost use Rattle.frame_emitter.specs.Layouts.{setting_in};
 
-use crate::accesses::{ZERO, frame_address, frame_load, frame_store, register_move};
+use crate::accesses::{RETURN, ZERO, frame_address, frame_load, frame_store, register_move};
 use crate::items::FrameItems;
 use crate::layout::FrameLayout;
 use crate::operations::{
@@ -32,9 +32,7 @@ use temp_ir::operation::{
 /// The label of the function with the number 0. That of each other one is its number more.
 pub const FUNCTIONS: u32 = 256;
 
-/// What calls write the return address to: those of functions, and of division routines.
-const RETURN: u8 = 26;
-
+/// What calls of division routines write the return address to.
 const ROUTINE_RETURN: u8 = 23;
 
 /// The register that is stated at a place.

@@ -8,14 +8,13 @@ ghost use Rattle.frame_steps.specs.call_parts.Items.{high_below, lower_stack, ra
 ghost use Rattle.frame_steps.specs.function_items.Items.{exit_items};
 ghost use Rattle.frame_emitter.specs.Layouts.{setting_in, shape_in};
 
-use crate::accesses::{NEAR_SIZE, STACK, ZERO, frame_load, frame_store, high_part, low_part};
+use crate::accesses::{
+    NEAR_SIZE, RETURN, STACK, ZERO, frame_load, frame_store, high_part, low_part,
+};
 use crate::items::FrameItems;
 use crate::layout::FrameLayout;
 use alpha_isa::insn::{Fields, JumpOp, MemoryOp};
 use std::alloc::AllocError;
-
-/// The return address.
-const RETURN: u8 = 26;
 
 /// The high part of a displacement that leads down by a size.
 fn high_below(size: u64) -> i16

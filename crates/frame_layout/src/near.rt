@@ -6,18 +6,17 @@ ghost use Rattle.frame_emitter.specs.Settings.{near_insn, near_blocks};
 use bk_containers::Seq;
 use pass_core::block::Block;
 use std::alloc::{AllocError, Global};
+use suifvm_ir::program::MOST_PROGRAM_SIZE;
 use temp_ir::insn::TempInsn;
 
-/// The greatest number of an argument place that is told from others: a greater one counts as
-/// this one.
-const LAST_ARGUMENT_PLACE: u32 = 1 << 24;
-
+/// An instruction with an argument place that is told from others: a number past the most arguments of a call counts as
+/// that one.
 fn near_insn(insn: TempInsn) -> TempInsn
     ensures { result ≡ near_insn insn }
 {
     match insn {
         TempInsn::WriteArgument { number, source } => TempInsn::WriteArgument {
-            number: number.min(LAST_ARGUMENT_PLACE),
+            number: number.min(MOST_PROGRAM_SIZE),
             source,
         },
         TempInsn::ReadArgument {
@@ -25,7 +24,7 @@ fn near_insn(insn: TempInsn) -> TempInsn
             number,
         } => TempInsn::ReadArgument {
             destination,
-            number: number.min(LAST_ARGUMENT_PLACE),
+            number: number.min(MOST_PROGRAM_SIZE),
         },
         _ => insn,
     }

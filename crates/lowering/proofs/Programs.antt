@@ -17,14 +17,14 @@ use Rattle.c_typed_tree.specs.Lawful.{IsLawfulUnit, IsTypedFn, IsLawfulStruct, i
 use Rattle.suifvm_ir.specs.Insns.{targets_of, flows_on_of}
 use Rattle.pass_core.specs.Functions.{AllInsns, count_of, edge_count}
 use Rattle.suifvm_ir.specs.Programs as program
-use Rattle.suifvm_ir.specs.Programs.{VmFunction, IsLawfulFunction, names_what_is_there, main_count, weight_of, function_size, program_size}
+use Rattle.suifvm_ir.specs.Programs.{VmFunction, IsLawfulFunction, names_what_is_there, main_count, weight_of, function_size, program_size, arguments_of}
 use Rattle.suifvm_ir.specs.Cost.{insn_cost}
 use Rattle.lowering_code.specs.Functions.{objects_of, items_of}
 use Rattle.lowering_layout.specs.Good.{IsGood}
 use Rattle.lowering_layout.specs.Tops.{blocks_top}
 use Rattle.lowering_functions.proofs.Bodies.{good_items}
 use Rattle.c_typing_struct_layout.proofs.CLayoutLaws.Truth.{front, back}
-use Rattle.lowering_bounds.specs.Laws.{TakesArguments, arguments_of}
+use Rattle.lowering_bounds.specs.Laws.{TakesArguments}
 use Rattle.lowering_bounds.proofs.Functions.{takes_arguments, names_there, top_low, arguments_few, cost_low, size_low}
 use Rattle.lowering.specs.Lowered.{IsLowered, AreLowered, IsWithinWeight, AreWithinWeight}
 use Rattle.lowering.specs.model.Premises.{CanBeLowered}

@@ -5,12 +5,11 @@ use Rattle.c_typed_tree.specs.declared.types.StructDef.{StructDef}
 use Rattle.c_typed_tree.specs.declared.units.TypedFn.{TypedFn}
 use Rattle.c_typed_tree.specs.Weight.{function_weight}
 use Rattle.pass_core.specs.Functions.{AllInsns}
-use Rattle.suifvm_ir.specs.Programs.{VmFunction}
+use Rattle.suifvm_ir.specs.Programs.{VmFunction, arguments_of}
 use Rattle.suifvm_ir.specs.Cost.{cost}
 use Rattle.lowering_code.specs.Functions.{objects_of, function_blocks}
 use Rattle.lowering_layout.specs.Tops.{blocks_top}
 use Rattle.lowering_layout.specs.Views.{GoesBackToMarks}
-use Rattle.lowering_bounds.specs.Laws.{arguments_of}
 
 -- a function of a program is the code of one of a unit, with its name, its parameters and its memory locals. It has no
 -- more registers than its parameters and its code name

@@ -15,7 +15,7 @@ use Rattle.suifvm_ir.specs.declared.insn.VmInsn as vm
 use Rattle.suifvm_ir.specs.declared.insn.VmInsn.TheVariants as n
 use Rattle.suifvm_ir.specs.Insns.{targets_of, flows_on_of}
 use Rattle.pass_core.specs.Functions.{AllInsns, last_of, successors_after, successors_of, edge_count, count_of}
-use Rattle.suifvm_ir.specs.Programs.{weight_of}
+use Rattle.suifvm_ir.specs.Programs.{weight_of, arguments_of}
 use Rattle.suifvm_ir.specs.Cost.{most_binary_insns, insn_cost}
 use Rattle.lowering_code.specs.declared.item.CodeItem.{CodeItem}
 use Rattle.lowering_code.specs.declared.item.CodeItem.TheVariants.{Start, Plain, Jump, Branch, Loop, Enter, Again, Repeat, Return}
@@ -28,7 +28,6 @@ use Rattle.lowering_layout.specs.Tops.{insn_top, insns_top, blocks_top}
 use Rattle.lowering_layout.proofs.Laid.{Straight, last_is}
 use Rattle.c_typing_struct_layout.proofs.CLayoutLaws.Truth.{all_at}
 use Rattle.lowering_bounds.specs.model.Costs.{plain_cost, items_cost}
-use Rattle.lowering_bounds.specs.Laws.{arguments_of}
 use Rattle.lowering_bounds.specs.model.Fits.{Fits, IsNarrow}
 
 -- ---- what fits and is narrow

@@ -14,7 +14,7 @@ use Rattle.c_typed_tree.specs.Weight.{stmt_weight, function_weight}
 use Rattle.suifvm_ir.specs.declared.insn.VmInsn as vm
 use Rattle.suifvm_ir.specs.Insns.{targets_of, flows_on_of}
 use Rattle.pass_core.specs.Functions.{AllInsns, count_of, edge_count}
-use Rattle.suifvm_ir.specs.Programs.{VmFunction, names_what_is_there, function_takes, weight_of}
+use Rattle.suifvm_ir.specs.Programs.{VmFunction, names_what_is_there, function_takes, weight_of, arguments_of}
 use Rattle.suifvm_ir.specs.Cost.{insn_cost}
 use Rattle.lowering_code.specs.Functions.{objects_of, items_of, function_blocks}
 use Rattle.lowering_layout.specs.Good.{IsGood}
@@ -23,7 +23,7 @@ use Rattle.c_typing_struct_layout.proofs.CLayoutLaws.Truth.{front, back, none_so
 use Rattle.lowering_bounds.specs.model.Costs.{items_cost}
 use Rattle.lowering_bounds.specs.model.Depths.{stmt_depths}
 use Rattle.lowering_bounds.proofs.Pieces as m
-use Rattle.lowering_bounds.specs.Laws.{TakesArguments, arguments_of}
+use Rattle.lowering_bounds.specs.Laws.{TakesArguments}
 use Rattle.lowering_bounds.proofs.Statements.{body_emits}
 use Rattle.lowering_bounds.proofs.Weights.{locals_declared, few_registers}
 use Rattle.lowering_bounds.proofs.Blocks.{is_narrow, merge, PassesWays, Q, holds_all, blocks_low, BlocksCost, blocks_cost}

@@ -25,7 +25,7 @@ use Rattle.suifvm_ir.specs.declared.insn.VmInsn.TheVariants as n
 use Rattle.mem_objects.specs.declared.DataObject.{DataObject}
 use Rattle.pass_core.specs.declared.function.MemoryLocal.{MemoryLocal}
 use Rattle.suifvm_ir.specs.Insns.{returned_register}
-use Rattle.suifvm_ir.specs.Programs.{VmFunction, names_what_is_there, place_reaches, alignment_bytes}
+use Rattle.suifvm_ir.specs.Programs.{VmFunction, names_what_is_there, place_reaches, alignment_bytes, arguments_of}
 use Rattle.lowering_code.specs.declared.operation.RegisterOperation.{RegisterOperation}
 use Rattle.lowering_code.specs.declared.operation.RegisterOperation.TheVariants.{Calculates, Shifts, Compares, ComparesBack}
 use Rattle.lowering_code.specs.declared.item.CodeItem.{CodeItem}
@@ -34,7 +34,6 @@ use Rattle.lowering_code.specs.Registers.{register_type, type_place, temporary, 
 use Rattle.lowering_code.specs.Expressions as code
 use Rattle.lowering_layout.specs.Tops.{registers_top, insn_top}
 use Rattle.lowering_bounds.specs.model.Costs.{plain_cost, items_cost}
-use Rattle.lowering_bounds.specs.Laws.{arguments_of}
 use Rattle.lowering_bounds.specs.model.Fits.{Fits, IsNarrow}
 
 module _ (most : ℕ) (fs : List VmFunction) (gs : List DataObject) (os : List MemoryLocal) where

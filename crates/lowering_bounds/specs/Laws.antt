@@ -5,20 +5,13 @@ use Rattle.c_typed_tree.specs.declared.units.TypedUnit.{TypedUnit}
 use Rattle.c_typed_tree.specs.Typing.{Signature}
 use Rattle.c_typed_tree.specs.Weight.{function_weight}
 use Rattle.c_typed_tree.specs.Lawful.{IsLawfulStruct, IsTypedFn, signature_of}
-use Rattle.suifvm_ir.specs.declared.insn.VmInsn.{VmInsn}
-use Rattle.suifvm_ir.specs.declared.insn.VmInsn.TheVariants.{Call}
 use Rattle.suifvm_ir.specs.Insns.{targets_of, flows_on_of}
 use Rattle.pass_core.specs.Functions.{AllInsns, count_of, edge_count}
-use Rattle.suifvm_ir.specs.Programs.{VmFunction, names_what_is_there, function_takes, weight_of}
+use Rattle.suifvm_ir.specs.Programs.{VmFunction, names_what_is_there, function_takes, weight_of, arguments_of}
 use Rattle.suifvm_ir.specs.Cost.{insn_cost}
 use Rattle.lowering_code.specs.Functions.{objects_of, items_of, function_blocks}
 use Rattle.lowering_layout.specs.Good.{IsGood}
 use Rattle.lowering_layout.specs.Tops.{blocks_top}
-
--- how many arguments an instruction gives
-abbrev pub arguments_of : VmInsn → ℕ
-arguments_of (Call destination callee arguments) = length arguments
-arguments_of i = 0
 
 -- each function takes as many arguments as the signature with its number has parameters
 abbrev pub TakesArguments : List VmFunction → List Signature → Type 0

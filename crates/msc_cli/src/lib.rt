@@ -4,5 +4,3 @@
 mod assemble;
 pub mod laws;
 pub mod top;
-
-pub use call_outcomes::outcome;

@@ -1,6 +1,7 @@
 //! The top call.
 
 ghost use Rattle.std.specs.Prelude.{◌≡◌, ◌≢◌, Some, None, map, option_map, string_bytes};
+ghost use Rattle.bk_io.specs.Outside.{traffic_of};
 ghost use Rattle.bk_io.specs.Shelf.{after_call};
 ghost use Rattle.call_outcomes.specs.Outcome.{line_of};
 ghost use Rattle.call_outcomes.specs.Output.{TookUnlessFault, file_faults_after, input_faults_after, output_faults_after};
@@ -43,14 +44,14 @@ pub fn msc_main<F: Files, I: Source, O: Sink, E: Sink>(
     // What `build` and `run` answer by what the text means: an image that is right for it is written, or is run, and
     // ends where it has enough steps. It is run on the input that was left, where that is told, and else on some input.
     ensures meaning { AnswersWordsByMeaning (request_of (map string_bytes words.now)) result (F.told files.old)
-        (record { left = I.left input.old; made = I.made input.old; taken = O.taken out.old })
-        (record { left = I.left input.new; made = I.made input.new; taken = O.taken out.new }) }
+        (traffic_of I.left I.made O.taken input.old out.old)
+        (traffic_of I.left I.made O.taken input.new out.new) }
 
     // Which outcomes there are by the words, the file and the input, with what is made of a text pass by pass, what was
     // done to the input and the output, and that the file that is named is read once.
     ensures answer { AnswersWords (request_of (map string_bytes words.now)) result (F.told files.old) (F.told files.new)
-        (record { left = I.left input.old; made = I.made input.old; taken = O.taken out.old })
-        (record { left = I.left input.new; made = I.made input.new; taken = O.taken out.new }) }
+        (traffic_of I.left I.made O.taken input.old out.old)
+        (traffic_of I.left I.made O.taken input.new out.new) }
     ensures usage { result ≡ Outcome.Usage → request_of (map string_bytes words.now) ≡ None }
 
     // Each count of faults rises by one where the outcome tells that fault, and else is as before.
@@ -76,11 +77,11 @@ fn perform<F: Files, I: Source, O: Sink>(
     out: &mut O,
 ) -> Outcome
     ensures meaning { AnswersWordsByMeaning (request_of (map string_bytes words.now)) result (F.told files.old)
-        (record { left = I.left input.old; made = I.made input.old; taken = O.taken out.old })
-        (record { left = I.left input.new; made = I.made input.new; taken = O.taken out.new }) }
+        (traffic_of I.left I.made O.taken input.old out.old)
+        (traffic_of I.left I.made O.taken input.new out.new) }
     ensures answer { AnswersWords (request_of (map string_bytes words.now)) result (F.told files.old) (F.told files.new)
-        (record { left = I.left input.old; made = I.made input.old; taken = O.taken out.old })
-        (record { left = I.left input.new; made = I.made input.new; taken = O.taken out.new }) }
+        (traffic_of I.left I.made O.taken input.old out.old)
+        (traffic_of I.left I.made O.taken input.new out.new) }
     ensures usage { result ≡ Outcome.Usage → request_of (map string_bytes words.now) ≡ None }
     ensures file_count { F.faults files.new ≡ file_faults_after result (F.faults files.old) }
     ensures input_count { I.faults input.new ≡ input_faults_after result (I.faults input.old) }
@@ -104,11 +105,11 @@ fn answer_command<F: Files, I: Source, O: Sink>(
 ) -> Outcome
     requires { CommandHasStack command }
     ensures meaning { AnswersByMeaning (Some (OnFile command file.now)) (F.told files.old) result
-        (record { left = I.left input.old; made = I.made input.old; taken = O.taken out.old })
-        (record { left = I.left input.new; made = I.made input.new; taken = O.taken out.new }) }
+        (traffic_of I.left I.made O.taken input.old out.old)
+        (traffic_of I.left I.made O.taken input.new out.new) }
     ensures answer { AnswersCall (Some (OnFile command file.now)) (F.told files.old) result
-        (record { left = I.left input.old; made = I.made input.old; taken = O.taken out.old })
-        (record { left = I.left input.new; made = I.made input.new; taken = O.taken out.new }) }
+        (traffic_of I.left I.made O.taken input.old out.old)
+        (traffic_of I.left I.made O.taken input.new out.new) }
     ensures asked { result ≢ Outcome.Usage }
     ensures due { FailsWhereDue (Some (OnFile command file.now)) (F.told files.old) result }
     ensures told { F.told files.new ≡ option_map after_call (F.told files.old) }
@@ -137,11 +138,11 @@ fn answer_request<F: Files, I: Source, O: Sink>(
 ) -> Outcome
     requires { HasStack (call_is request) }
     ensures meaning { AnswersByMeaning (Some (call_is request.entry)) (F.told files.old) result
-        (record { left = I.left input.old; made = I.made input.old; taken = O.taken out.old })
-        (record { left = I.left input.new; made = I.made input.new; taken = O.taken out.new }) }
+        (traffic_of I.left I.made O.taken input.old out.old)
+        (traffic_of I.left I.made O.taken input.new out.new) }
     ensures answer { AnswersCall (Some (call_is request.entry)) (F.told files.old) result
-        (record { left = I.left input.old; made = I.made input.old; taken = O.taken out.old })
-        (record { left = I.left input.new; made = I.made input.new; taken = O.taken out.new }) }
+        (traffic_of I.left I.made O.taken input.old out.old)
+        (traffic_of I.left I.made O.taken input.new out.new) }
     ensures asked { result ≢ Outcome.Usage }
     ensures due { FailsWhereDue (Some (call_is request.entry)) (F.told files.old) result }
     ensures told { F.told files.new ≡ told_after (Some (call_is request.entry)) (F.told files.old) }

@@ -7,7 +7,7 @@ use std::alloc::{AllocError, Global};
 use std::marker::Model;
 
 /// The number of ids from which on a list gives no more.
-const LAST_ID: u32 = u32::MAX - 1;
+pub const LAST_ID: u32 = u32::MAX - 1;
 
 /// A block: instructions that are done one after the other. Contracts see their list.
 #[derive(Drop)]

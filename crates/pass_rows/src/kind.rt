@@ -1,6 +1,6 @@
 //! The kinds of rows, each with its file.
 
-use crate::{cleaned, flows, moves};
+use crate::{cleaned, flows, graphs, moves};
 use anyhow::Result;
 use row_sheets::Table;
 use std::alloc::Global;
@@ -10,17 +10,19 @@ use std::alloc::Global;
 pub enum Kind {
     Cleaned,
     Flows,
+    Graphs,
     Moves,
 }
 
 /// The kinds in the order in which they are checked.
-pub const KINDS: [Kind; 3] = [Kind::Cleaned, Kind::Flows, Kind::Moves];
+pub const KINDS: [Kind; 4] = [Kind::Cleaned, Kind::Flows, Kind::Graphs, Kind::Moves];
 
 impl Table for Kind {
     fn file(&self) -> &'static str {
         match self {
             Kind::Cleaned => "cleaned.rows",
             Kind::Flows => "flows.rows",
+            Kind::Graphs => "graphs.rows",
             Kind::Moves => "moves.rows",
         }
     }
@@ -29,6 +31,7 @@ impl Table for Kind {
         match self {
             Kind::Cleaned => cleaned::answer(alloc, given),
             Kind::Flows => flows::answer(alloc, given),
+            Kind::Graphs => graphs::answer(alloc, given),
             Kind::Moves => moves::answer(alloc, given),
         }
     }

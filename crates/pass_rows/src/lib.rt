@@ -1,5 +1,6 @@
 //! The tables of what passes over code make: what becomes of programs over virtual registers behind those that clean
-//! their functions, what flows between the blocks of graphs, and what the moves do that are made for moves at once.
+//! their functions, what flows between the blocks of graphs, the graphs of functions, and what the moves do that are
+//! made for moves at once.
 //!
 //! The files stand in `back_rows/data`. Their form is described in `docs/rows.md`, and that of each kind of row at the
 //! head of its file.
@@ -8,6 +9,7 @@
 mod cleaned;
 mod conditions;
 mod flows;
+mod graphs;
 mod kind;
 mod moves;
 

@@ -2,7 +2,7 @@
 #![tactic(auto)]
 
 use anyhow::Result;
-use msc_cli::outcome::{Outcome, exit_code};
+use call_outcomes::outcome::{Outcome, exit_code};
 use msc_cli::top::msc_main;
 use row_calls::{Compiler, Ending, Outside};
 use std::alloc::Global;

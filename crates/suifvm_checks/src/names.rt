@@ -9,43 +9,9 @@ ghost use Rattle.suifvm_ir.specs.Programs.{names_what_is_there};
 use mem_objects::DataObject;
 use pass_core::block::Block;
 use pass_core::function::{Func, MemoryLocal};
-use suifvm_ir::insn::{VmBuiltin, VmCallee, VmInsn, VmObject};
+use suifvm_ir::insn::{VmBuiltin, VmCallee, VmInsn};
+use suifvm_ir::objects::place_reaches;
 use suifvm_ir::types::Alignment;
-
-/// Whether an object of static storage is there and has so many bytes.
-fn global_reaches(globals: &[DataObject], global: usize, plus: u64) -> bool
-    ensures { result ≡ programs.global_reaches plus (slice_get globals.now global) }
-{
-    match globals.get(global) {
-        None => false,
-        Some(object) => plus <= object.size,
-    }
-}
-
-/// Whether a memory local is there and has so many bytes.
-fn local_reaches(objects: &[MemoryLocal], local: usize, plus: u64) -> bool
-    ensures { result ≡ programs.local_reaches plus (slice_get objects.now local) }
-{
-    match objects.get(local) {
-        None => false,
-        Some(object) => plus <= object.size,
-    }
-}
-
-/// Whether a place is there and has so many bytes.
-fn place_reaches(
-    globals: &[DataObject],
-    objects: &[MemoryLocal],
-    plus: u64,
-    place: VmObject,
-) -> bool
-    ensures { result ≡ programs.place_reaches globals.now objects.now plus place }
-{
-    match place {
-        VmObject::Global(global) => global_reaches(globals, global as usize, plus),
-        VmObject::Local(local) => local_reaches(objects, local as usize, plus),
-    }
-}
 
 /// How many arguments a built-in function takes.
 fn builtin_parameters(builtin: VmBuiltin) -> usize

@@ -8,10 +8,7 @@ ghost use Rattle.suifvm_ir.specs.Programs.{VmFunction, weight_of, function_size,
 use pass_core::block::Block;
 use pass_core::function::Func;
 use suifvm_ir::insn::VmInsn;
-use suifvm_ir::program::VmProgram;
-
-/// The greatest size of a program, and the most registers of a function.
-const LIMIT: u32 = 1 << 24;
+use suifvm_ir::program::{MOST_PROGRAM_SIZE, VmProgram};
 
 /// What counts for an instruction besides itself is taken from a number, if so much is there.
 fn behind_weight(left: u64, insn: &VmInsn) -> Option<u64>
@@ -51,7 +48,7 @@ fn behind_block(left: u64, block: &Block<VmInsn>) -> Option<u64>
 }
 
 /// The instructions of blocks are taken from a number with what counts for them.
-fn behind_blocks(left: u64, blocks: &[Block<VmInsn>]) -> Option<u64>
+pub fn behind_blocks(left: u64, blocks: &[Block<VmInsn>]) -> Option<u64>
     ensures { IfSome result (λ rest.
         rest + count_of blocks.now + sum_by (λ block. sum_by weight_of block) blocks.now ≡ left) }
 {
@@ -88,7 +85,7 @@ fn have_few_registers(functions: &[Func<VmInsn>]) -> bool
     ensures { OnTrue result (All (λ (f : VmFunction). f.temps ≤ 2 ^ 24) functions.now) }
 {
     for function in functions {
-        if function.temps > LIMIT {
+        if function.temps > MOST_PROGRAM_SIZE {
             return false;
         }
     }
@@ -104,5 +101,5 @@ pub fn is_small(program: &VmProgram) -> bool
     if !have_few_registers(functions) {
         return false;
     }
-    behind_functions(LIMIT as u64, functions).is_some()
+    behind_functions(MOST_PROGRAM_SIZE as u64, functions).is_some()
 }

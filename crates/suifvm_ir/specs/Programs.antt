@@ -103,6 +103,11 @@ weight_of (Copy to from size align) = 2 * size
 weight_of (Call destination callee arguments) = length arguments
 weight_of _ = 0
 
+-- how many arguments an instruction gives
+abbrev pub arguments_of : VmInsn → ℕ
+arguments_of (Call destination callee arguments) = length arguments
+arguments_of _ = 0
+
 abbrev pub function_size : VmFunction → ℕ
 function_size f =
     length f.blocks + count_of f.blocks + f.params + sum_by (λ block. sum_by weight_of block) f.blocks

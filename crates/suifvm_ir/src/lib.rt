@@ -6,6 +6,7 @@
 
 pub mod insn;
 pub mod lines;
+pub mod objects;
 pub mod operands;
 pub mod program;
 pub mod references;

@@ -9,6 +9,9 @@ use bk_containers::Seq;
 use mem_objects::DataObject;
 use pass_core::function::Func;
 
+/// The greatest size of a program, and the most registers of a function and arguments of a call.
+pub const MOST_PROGRAM_SIZE: u32 = 1 << 24;
+
 /// A program: its functions and its objects of static storage, by their numbers.
 #[derive(Drop)]
 pub struct VmProgram {

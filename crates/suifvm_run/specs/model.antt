@@ -1,3 +1,4 @@
 pub mod Stops
 pub mod Progress
 pub mod Falls
+pub mod Quick

@@ -4,6 +4,7 @@
 
 ghost use Rattle.std.specs.Prelude.{◌≡◌, ◌<◌, ◌≤◌, ◌∷◌, [], take, drop, length, slice_get, Some, IfSome};
 ghost use Rattle.std.specs.Bool.{OnTrue, OnFalse};
+ghost use Rattle.suifvm_run.specs.model.Quick.{StepsOrKeeps};
 ghost use Rattle.machine_model.specs.Machine.{Goes};
 ghost use Rattle.suifvm_ir.specs.declared.insn.VmInsn.{VmInsn as Insn};
 ghost use Rattle.suifvm_ir.specs.Insns as insns;
@@ -80,8 +81,8 @@ fn word(machine: &Machine<'_, '_>, register: u32) -> Option<u64>
 fn put(machine: &mut Machine<'_, '_>, destination: u32, value: Value) -> bool
     requires sound { config.IsSound machine.old }
     requires within { machine.old.here.at < length machine.old.here.row.now.insns.items }
-    ensures done { OnTrue result (config.Wrote machine.old machine.new (destination ∷ []) value) }
-    ensures kept { OnFalse result (machine.new ≡ machine.old) }
+    ensures { StepsOrKeeps machine.old machine.new result
+        (config.Wrote machine.old machine.new (destination ∷ []) value) }
 {
     let base = machine.here.base;
     if !set_in(&mut machine.stack, base, destination, value) {
@@ -96,8 +97,8 @@ fn put(machine: &mut Machine<'_, '_>, destination: u32, value: Value) -> bool
 fn put_word(machine: &mut Machine<'_, '_>, destination: u32, word: u64) -> bool
     requires sound { config.IsSound machine.old }
     requires within { machine.old.here.at < length machine.old.here.row.now.insns.items }
-    ensures done { OnTrue result (config.Wrote machine.old machine.new (destination ∷ []) (Value.Word word)) }
-    ensures kept { OnFalse result (machine.new ≡ machine.old) }
+    ensures { StepsOrKeeps machine.old machine.new result
+        (config.Wrote machine.old machine.new (destination ∷ []) (Value.Word word)) }
 {
     put(machine, destination, Value::Word(word))
 }
@@ -114,13 +115,12 @@ fn quick_binary(
 ) -> bool
     requires sound { config.IsSound machine.old }
     requires within { machine.old.here.at < length machine.old.here.row.now.insns.items }
-    ensures done { OnTrue result ((i : Insn) → insns.writes_of i ≡ destination ∷ [] →
+    ensures { StepsOrKeeps machine.old machine.new result ((i : Insn) → insns.writes_of i ≡ destination ∷ [] →
         config.TurnIs machine.old machine.new StepResult.Goes (λ rooms h. acts.act_there rooms machine.old h i
         (effect.writes (operations.binary_answer machine.old.memory op ty
         (registers_of (drop machine.old.here.base machine.old.stack.items) left)
         (registers_of (drop machine.old.here.base machine.old.stack.items) right))
         (config.world_in machine.old h).outer))) }
-    ensures kept { OnFalse result (machine.new ≡ machine.old) }
 {
     let Some(a) = word(machine, left) else {
         return false;
@@ -146,13 +146,12 @@ fn quick_compare(
 ) -> bool
     requires sound { config.IsSound machine.old }
     requires within { machine.old.here.at < length machine.old.here.row.now.insns.items }
-    ensures done { OnTrue result ((i : Insn) → insns.writes_of i ≡ destination ∷ [] →
+    ensures { StepsOrKeeps machine.old machine.new result ((i : Insn) → insns.writes_of i ≡ destination ∷ [] →
         config.TurnIs machine.old machine.new StepResult.Goes (λ rooms h. acts.act_there rooms machine.old h i
         (effect.writes (operations.compare_answer machine.old.memory op ty
         (registers_of (drop machine.old.here.base machine.old.stack.items) left)
         (registers_of (drop machine.old.here.base machine.old.stack.items) right))
         (config.world_in machine.old h).outer))) }
-    ensures kept { OnFalse result (machine.new ≡ machine.old) }
 {
     let Some(a) = word(machine, left) else {
         return false;
@@ -171,10 +170,9 @@ fn quick_compare(
 fn quick_constant(machine: &mut Machine<'_, '_>, ty: VmType, destination: u32, word: u64) -> bool
     requires sound { config.IsSound machine.old }
     requires within { machine.old.here.at < length machine.old.here.row.now.insns.items }
-    ensures done { OnTrue result ((i : Insn) → insns.writes_of i ≡ destination ∷ [] →
+    ensures { StepsOrKeeps machine.old machine.new result ((i : Insn) → insns.writes_of i ≡ destination ∷ [] →
         config.TurnIs machine.old machine.new StepResult.Goes (λ rooms h. acts.act_there rooms machine.old h i
         (effect.writes (operations.when_value ty (Value.Word word)) (config.world_in machine.old h).outer))) }
-    ensures kept { OnFalse result (machine.new ≡ machine.old) }
 {
     let Some(word) = given_word(when_value(ty, Value::Word(word))) else {
         return false;
@@ -193,12 +191,11 @@ fn quick_unary(
 ) -> bool
     requires sound { config.IsSound machine.old }
     requires within { machine.old.here.at < length machine.old.here.row.now.insns.items }
-    ensures done { OnTrue result ((i : Insn) → insns.writes_of i ≡ destination ∷ [] →
+    ensures { StepsOrKeeps machine.old machine.new result ((i : Insn) → insns.writes_of i ≡ destination ∷ [] →
         config.TurnIs machine.old machine.new StepResult.Goes (λ rooms h. acts.act_there rooms machine.old h i
         (effect.writes (operations.unary_answer op ty
         (registers_of (drop machine.old.here.base machine.old.stack.items) source))
         (config.world_in machine.old h).outer))) }
-    ensures kept { OnFalse result (machine.new ≡ machine.old) }
 {
     let Some(a) = word(machine, source) else {
         return false;
@@ -220,12 +217,11 @@ fn quick_convert(
 ) -> bool
     requires sound { config.IsSound machine.old }
     requires within { machine.old.here.at < length machine.old.here.row.now.insns.items }
-    ensures done { OnTrue result ((i : Insn) → insns.writes_of i ≡ destination ∷ [] →
+    ensures { StepsOrKeeps machine.old machine.new result ((i : Insn) → insns.writes_of i ≡ destination ∷ [] →
         config.TurnIs machine.old machine.new StepResult.Goes (λ rooms h. acts.act_there rooms machine.old h i
         (effect.writes (operations.convert_answer from to
         (registers_of (drop machine.old.here.base machine.old.stack.items) source))
         (config.world_in machine.old h).outer))) }
-    ensures kept { OnFalse result (machine.new ≡ machine.old) }
 {
     let Some(a) = word(machine, source) else {
         return false;
@@ -248,13 +244,12 @@ fn quick_shift(
 ) -> bool
     requires sound { config.IsSound machine.old }
     requires within { machine.old.here.at < length machine.old.here.row.now.insns.items }
-    ensures done { OnTrue result ((i : Insn) → insns.writes_of i ≡ destination ∷ [] →
+    ensures { StepsOrKeeps machine.old machine.new result ((i : Insn) → insns.writes_of i ≡ destination ∷ [] →
         config.TurnIs machine.old machine.new StepResult.Goes (λ rooms h. acts.act_there rooms machine.old h i
         (effect.writes (operations.shift_answer op ty
         (registers_of (drop machine.old.here.base machine.old.stack.items) source)
         (registers_of (drop machine.old.here.base machine.old.stack.items) count))
         (config.world_in machine.old h).outer))) }
-    ensures kept { OnFalse result (machine.new ≡ machine.old) }
 {
     let Some(a) = word(machine, source) else {
         return false;
@@ -273,10 +268,9 @@ fn quick_shift(
 fn put_answer(machine: &mut Machine<'_, '_>, destination: u32, answer: Answer) -> bool
     requires sound { config.IsSound machine.old }
     requires within { machine.old.here.at < length machine.old.here.row.now.insns.items }
-    ensures done { OnTrue result ((i : Insn) → insns.writes_of i ≡ destination ∷ [] →
+    ensures { StepsOrKeeps machine.old machine.new result ((i : Insn) → insns.writes_of i ≡ destination ∷ [] →
         config.TurnIs machine.old machine.new StepResult.Goes (λ rooms h. acts.act_there rooms machine.old h i
         (effect.writes answer (config.world_in machine.old h).outer))) }
-    ensures kept { OnFalse result (machine.new ≡ machine.old) }
 {
     match answer {
         Answer::Gives(value) => put(machine, destination, value),
@@ -296,12 +290,11 @@ fn quick_load(
 ) -> bool
     requires sound { config.IsSound machine.old }
     requires within { machine.old.here.at < length machine.old.here.row.now.insns.items }
-    ensures done { OnTrue result ((i : Insn) → insns.writes_of i ≡ destination ∷ [] →
+    ensures { StepsOrKeeps machine.old machine.new result ((i : Insn) → insns.writes_of i ≡ destination ∷ [] →
         config.TurnIs machine.old machine.new StepResult.Goes (λ rooms h. acts.act_there rooms machine.old h i
         (effect.writes (operations.loaded_answer machine.old.memory ty
         (registers_of (drop machine.old.here.base machine.old.stack.items) pointer) plus)
         (config.world_in machine.old h).outer))) }
-    ensures kept { OnFalse result (machine.new ≡ machine.old) }
 {
     let answer = load(&machine.memory, ty, machine.get(pointer), plus);
     put_answer(machine, destination, answer)
@@ -317,11 +310,10 @@ fn quick_address(
 ) -> bool
     requires sound { config.IsSound machine.old }
     requires within { machine.old.here.at < length machine.old.here.row.now.insns.items }
-    ensures done { OnTrue result ((i : Insn) → insns.writes_of i ≡ destination ∷ [] →
+    ensures { StepsOrKeeps machine.old machine.new result ((i : Insn) → insns.writes_of i ≡ destination ∷ [] →
         config.TurnIs machine.old machine.new StepResult.Goes (λ rooms h. acts.act_there rooms machine.old h i
         (effect.writes (Answer.Gives (operations.place_address machine.old.here.own place plus))
         (config.world_in machine.old h).outer))) }
-    ensures kept { OnFalse result (machine.new ≡ machine.old) }
 {
     match address_of(machine.here.own, place, plus) {
         Ok(value) => put(machine, destination, value),
@@ -341,13 +333,12 @@ fn quick_pointer(
 ) -> bool
     requires sound { config.IsSound machine.old }
     requires within { machine.old.here.at < length machine.old.here.row.now.insns.items }
-    ensures done { OnTrue result ((i : Insn) → insns.writes_of i ≡ destination ∷ [] →
+    ensures { StepsOrKeeps machine.old machine.new result ((i : Insn) → insns.writes_of i ≡ destination ∷ [] →
         config.TurnIs machine.old machine.new StepResult.Goes (λ rooms h. acts.act_there rooms machine.old h i
         (effect.writes (operations.binary_answer machine.old.memory op ty
         (registers_of (drop machine.old.here.base machine.old.stack.items) left)
         (registers_of (drop machine.old.here.base machine.old.stack.items) right))
         (config.world_in machine.old h).outer))) }
-    ensures kept { OnFalse result (machine.new ≡ machine.old) }
 {
     let answer = binary(
         &machine.memory,
@@ -371,13 +362,12 @@ fn quick_two(
 ) -> bool
     requires sound { config.IsSound machine.old }
     requires within { machine.old.here.at < length machine.old.here.row.now.insns.items }
-    ensures done { OnTrue result ((i : Insn) → insns.writes_of i ≡ destination ∷ [] →
+    ensures { StepsOrKeeps machine.old machine.new result ((i : Insn) → insns.writes_of i ≡ destination ∷ [] →
         config.TurnIs machine.old machine.new StepResult.Goes (λ rooms h. acts.act_there rooms machine.old h i
         (effect.writes (operations.binary_answer machine.old.memory op ty
         (registers_of (drop machine.old.here.base machine.old.stack.items) left)
         (registers_of (drop machine.old.here.base machine.old.stack.items) right))
         (config.world_in machine.old h).outer))) }
-    ensures kept { OnFalse result (machine.new ≡ machine.old) }
 {
     match ty {
         VmType::P64 => quick_pointer(machine, op, ty, destination, left, right),
@@ -397,13 +387,12 @@ fn quick_store(
 ) -> bool
     requires sound { config.IsSound machine.old }
     requires within { machine.old.here.at < length machine.old.here.row.now.insns.items }
-    ensures done { OnTrue result ((i : Insn) → insns.writes_of i ≡ [] →
+    ensures { StepsOrKeeps machine.old machine.new result ((i : Insn) → insns.writes_of i ≡ [] →
         config.TurnIs machine.old machine.new StepResult.Goes (λ rooms h. acts.act_there rooms machine.old h i
         (effect.changes (operations.stored_memory machine.old.memory ty
         (registers_of (drop machine.old.here.base machine.old.stack.items) pointer) plus
         (registers_of (drop machine.old.here.base machine.old.stack.items) value))
         (config.world_in machine.old h).outer))) }
-    ensures kept { OnFalse result (machine.new ≡ machine.old) }
 {
     let to = machine.get(pointer);
     let value = machine.get(value);
@@ -419,9 +408,8 @@ fn quick_store(
 #[inline(always)]
 fn quick_jump(machine: &mut Machine<'_, '_>, block: usize) -> bool
     requires { config.IsSound machine.old }
-    ensures done { OnTrue result (config.TurnIs machine.old machine.new StepResult.Goes
+    ensures { StepsOrKeeps machine.old machine.new result (config.TurnIs machine.old machine.new StepResult.Goes
         (λ rooms h. Goes (acts.at_block block (config.config_of machine.old h)))) }
-    ensures kept { OnFalse result (machine.new ≡ machine.old) }
 {
     let table = machine.here.table;
     match block_at(table, block) {
@@ -446,10 +434,10 @@ fn quick_jump(machine: &mut Machine<'_, '_>, block: usize) -> bool
 fn quick_test(machine: &mut Machine<'_, '_>, op: VmBranchOp, test: bool, block: u32) -> bool
     requires sound { config.IsSound machine.old }
     requires within { machine.old.here.at < length machine.old.here.row.now.insns.items }
-    ensures done { OnTrue result ((i : Insn) → insns.targets_of i ≡ block ∷ [] → insns.writes_of i ≡ [] →
+    ensures { StepsOrKeeps machine.old machine.new result
+        ((i : Insn) → insns.targets_of i ≡ block ∷ [] → insns.writes_of i ≡ [] →
         config.TurnIs machine.old machine.new StepResult.Goes (λ rooms h. acts.act_there rooms machine.old h i
         (effect.branches op (Some test) (config.world_in machine.old h).outer))) }
-    ensures kept { OnFalse result (machine.new ≡ machine.old) }
 {
     if is_taken(op, test) {
         quick_jump(machine, block as usize)
@@ -470,12 +458,12 @@ fn quick_branch(
 ) -> bool
     requires sound { config.IsSound machine.old }
     requires within { machine.old.here.at < length machine.old.here.row.now.insns.items }
-    ensures done { OnTrue result ((i : Insn) → insns.targets_of i ≡ block ∷ [] → insns.writes_of i ≡ [] →
+    ensures { StepsOrKeeps machine.old machine.new result
+        ((i : Insn) → insns.targets_of i ≡ block ∷ [] → insns.writes_of i ≡ [] →
         config.TurnIs machine.old machine.new StepResult.Goes (λ rooms h. acts.act_there rooms machine.old h i
         (effect.branches op (operations.value_holds machine.old.memory ty
         (registers_of (drop machine.old.here.base machine.old.stack.items) source))
         (config.world_in machine.old h).outer))) }
-    ensures kept { OnFalse result (machine.new ≡ machine.old) }
 {
     let Some(word) = word(machine, source) else {
         return false;
@@ -491,10 +479,9 @@ fn quick_branch(
 fn quick_mark(machine: &mut Machine<'_, '_>) -> bool
     requires sound { config.IsSound machine.old }
     requires within { machine.old.here.at < length machine.old.here.row.now.insns.items }
-    ensures done { OnTrue result (
+    ensures { StepsOrKeeps machine.old machine.new result (
         slice_get (block_insns machine.old.here.row.now) machine.old.here.at ≡ Some Insn.Mark →
         config.TurnIs machine.old machine.new StepResult.Goes (λ rooms h. config.step_there rooms machine.old h)) }
-    ensures kept { OnFalse result (machine.new ≡ machine.old) }
 {
     if machine.turns == 0 {
         return false;
@@ -509,10 +496,9 @@ fn quick_mark(machine: &mut Machine<'_, '_>) -> bool
 fn quick_insn(machine: &mut Machine<'_, '_>, insn: &VmInsn) -> bool
     requires sound { config.IsSound machine.old }
     requires within { machine.old.here.at < length machine.old.here.row.now.insns.items }
-    ensures done { OnTrue result (
+    ensures { StepsOrKeeps machine.old machine.new result (
         slice_get (block_insns machine.old.here.row.now) machine.old.here.at ≡ Some insn.now →
         config.TurnIs machine.old machine.new StepResult.Goes (λ rooms h. config.step_there rooms machine.old h)) }
-    ensures kept { OnFalse result (machine.new ≡ machine.old) }
 {
     match insn {
         VmInsn::Binary {
@@ -585,9 +571,8 @@ fn quick_insn(machine: &mut Machine<'_, '_>, insn: &VmInsn) -> bool
 #[inline(always)]
 pub(crate) fn quick_step(machine: &mut Machine<'_, '_>) -> bool
     requires { config.IsSound machine.old }
-    ensures done { OnTrue result
+    ensures { StepsOrKeeps machine.old machine.new result
         (config.TurnIs machine.old machine.new StepResult.Goes (λ rooms h. config.step_there rooms machine.old h)) }
-    ensures kept { OnFalse result (machine.new ≡ machine.old) }
 {
     match machine.fetch() {
         None => {

@@ -4,8 +4,8 @@ use Rattle.std.specs.Prelude.{All, nat_lt, if◌then◌else◌}
 use Rattle.std.proofs.lemmas.Bool.{lt-ltb, ltb-false}
 use Rattle.std.proofs.lemmas.List.Elements.{All-nil, All-cons, All-append, All-head, All-tail}
 use Rattle.suifvm_ir.specs.declared.insn.VmInsn.{VmInsn}
+use Rattle.suifvm_ir.specs.Programs.{arguments_of}
 use Rattle.pass_core.specs.Functions.{AllInsns}
-use Rattle.lowering_bounds.specs.Laws.{arguments_of}
 use Rattle.temp_ir.specs.declared.insn.TempInsn.{TempInsn}
 use Rattle.temp_ir.specs.declared.insn.TempInsn.TheVariants as i
 use Rattle.selection_code.specs.Instructions.{temp_of, pass_item, pass_items, result_items, argument_register, selected_insn}

@@ -4,8 +4,8 @@ use Rattle.std.specs.Prelude.{All}
 use Rattle.std.proofs.lemmas.List.Elements.{All-nil, All-cons, All-head, All-tail}
 use Rattle.suifvm_ir.specs.declared.insn.VmInsn.{VmInsn}
 use Rattle.suifvm_ir.specs.declared.insn.VmInsn.TheVariants as x
+use Rattle.suifvm_ir.specs.Programs.{arguments_of}
 use Rattle.pass_core.specs.Functions.{AllInsns}
-use Rattle.lowering_bounds.specs.Laws.{arguments_of}
 use Rattle.suifvm_zero_branches.specs.declared.known.RegisterFact.{RegisterFact}
 use Rattle.suifvm_zero_branches.specs.declared.known.RegisterFact.TheVariants.{Nothing}
 use Rattle.suifvm_zero_branches.specs.Tests.{facts_after, tested_insn, tested_from, tested_block}

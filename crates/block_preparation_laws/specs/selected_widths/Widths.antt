@@ -1,8 +1,8 @@
 -- How wide the calls of selected functions are, and that the argument places they write are within.
 use Rattle.std.specs.Prelude.{ℕ, ◌≤◌, List, map}
 use Rattle.suifvm_ir.specs.declared.insn.VmInsn.{VmInsn}
+use Rattle.suifvm_ir.specs.Programs.{arguments_of}
 use Rattle.pass_core.specs.Functions.{AllInsns}
-use Rattle.lowering_bounds.specs.Laws.{arguments_of}
 use Rattle.suifvm_zero_branches.specs.Tests.{tested_block}
 use Rattle.temp_ir.specs.declared.insn.TempInsn.{TempInsn}
 use Rattle.selection_code.specs.Functions.{selected_blocks}

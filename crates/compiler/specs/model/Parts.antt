@@ -8,7 +8,7 @@ use Rattle.c_typed_tree.specs.declared.c_lawful_unit.LawfulUnit.{LawfulUnit}
 use Rattle.c_typed_tree.specs.Weight.{unit_weight}
 use Rattle.suifvm_ir.specs.declared.program.VmProgram.{VmProgram}
 use Rattle.lowering_theorem.specs.Laws.{IsCodeOf}
-use Rattle.flow_clean.specs.Programs.{IsProgramWithoutCopiesOf, IsCleanProgramOf}
+use Rattle.flow_clean.specs.Programs.{IsProgramWithoutCopiesOf, IsCleanProgramOf, CodeKeeps}
 use Rattle.temp_ir.specs.declared.program.TempProgram.{TempProgram}
 use Rattle.temp_ir.specs.Programs.{TempFn}
 use Rattle.alloc_model.specs.declared.allocation.Allocation.{Allocation}
@@ -36,12 +36,13 @@ abbrev pub IsKept : {A : Type 0} → WantedParts → A → Option A → Type 0
 IsKept wanted value kept = wanted ≡ Everything → kept ≡ Some value
 
 -- a program is the clean one of one whose instructions read no copies, which is made of another one, and is kept if
--- everything is wanted
+-- everything is wanted; a clause for each pass, and what all of them keep
 pub record IsCleanCode (lowered : VmProgram) (wanted : WantedParts) (given : Option VmProgram)
     (vm : VmProgram) : Type 0 where
   pub copied : VmProgram
   pub without_copies : IsProgramWithoutCopiesOf lowered copied
   pub clean : IsCleanProgramOf copied vm
+  pub keeps : CodeKeeps lowered vm
   pub kept : IsKept wanted copied given
 
 -- the code of a unit over temporaries, by way of what each pass made of what the one before it gave; that is kept if

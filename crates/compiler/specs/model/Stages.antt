@@ -19,7 +19,7 @@ use Rattle.c_rewrite.specs.Rewritten.{IsRewritten}
 use Rattle.suifvm_ir.specs.declared.program.VmProgram.{VmProgram}
 use Rattle.pass_core.specs.Functions.{count_of}
 use Rattle.suifvm_ir.specs.Programs.{VmFunction, program_size}
-use Rattle.flow_clean.specs.Programs.{IsProgramWithoutCopiesOf, IsCleanProgramOf}
+use Rattle.flow_clean.specs.Programs.{CodeKeeps}
 use Rattle.lowering.specs.Lowered.{AllStandFor}
 use Rattle.lowering_theorem.specs.Laws.{IsCodeOf, CodeRunsAs}
 use Rattle.temp_ir.specs.declared.program.TempProgram.{TempProgram}
@@ -72,11 +72,10 @@ RewrittenCodeDoesAsUnit =
     (u rewritten : TypedUnit) (vm : VmProgram) → IsRewrittenUnit u rewritten → IsLoweredUnit rewritten vm →
     DoesAsUnit u vm
 
--- clean code does what the unit does
-abbrev pub CleanCodeDoesAsUnit : Type 0
-CleanCodeDoesAsUnit =
-    (u : TypedUnit) (lowered copied vm : VmProgram) → DoesAsUnit u lowered →
-    IsProgramWithoutCopiesOf lowered copied → IsCleanProgramOf copied vm → DoesAsUnit u vm
+-- code that passes made of such code, and that keeps what they have to keep, does what the unit does
+abbrev pub KeptCodeDoesAsUnit : Type 0
+KeptCodeDoesAsUnit =
+    (u : TypedUnit) (before after : VmProgram) → DoesAsUnit u before → CodeKeeps before after → DoesAsUnit u after
 
 -- what selection gives of code over virtual registers
 pub record IsSelectedProgram (vm : VmProgram) (selected : TempProgram) : Type 0 where

@@ -2,10 +2,10 @@
 use Rattle.std.specs.Prelude.{◌≤◌, ◌<◌, ℕ, Bool, IsTrue, List, [], ◌∷◌}
 use Rattle.suifvm_ir.specs.declared.insn.VmInsn.{VmInsn}
 use Rattle.suifvm_ir.specs.Insns.{returned_register}
+use Rattle.suifvm_ir.specs.Programs.{arguments_of}
 use Rattle.lowering_code.specs.declared.item.CodeItem.{CodeItem}
 use Rattle.lowering_code.specs.declared.item.CodeItem.TheVariants.{Start, Plain, Jump, Branch, Loop, Enter, Again, Repeat, Return}
 use Rattle.lowering_layout.specs.Tops.{registers_top, insn_top}
-use Rattle.lowering_bounds.specs.Laws.{arguments_of}
 
 abbrev pub Fits : (most : ℕ) → (VmInsn → Bool) → List CodeItem → Type 0
 Fits most passes [] = Unit {0}

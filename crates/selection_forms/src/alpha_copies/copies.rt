@@ -4,14 +4,12 @@ ghost use Rattle.std.specs.Prelude.{◌≡◌, ◌+◌, ◌<◌, ◌≤◌, ℕ,
 ghost use Rattle.suifvm_ir.specs.Programs.{alignment_bytes};
 ghost use Rattle.selection_forms.specs.alpha_copies.Copies as copies;
 
+use crate::alpha_forms::operations::SCRATCH;
 use pass_core::block::Block;
 use std::alloc::AllocError;
 use suifvm_ir::types::Alignment;
 use temp_ir::insn::{FirstOperand, TempInsn};
 use temp_ir::operation::{AddressOp, LoadOp, StoreOp};
-
-/// The temporary through which the parts go.
-const SCRATCH: u32 = 0;
 
 /// The temporaries of the pointers once they are moved.
 const MOVED_TO: u32 = 1;

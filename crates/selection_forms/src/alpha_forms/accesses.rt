@@ -4,15 +4,12 @@ ghost use Rattle.std.specs.Prelude.{◌≡◌, [], ◌∷◌, ◌++◌, OnOk};
 ghost use Rattle.selection_forms.specs.alpha_forms.Accesses as accesses;
 
 use crate::alpha_forms::constants::put_constant;
-use crate::alpha_forms::operations::on_two;
+use crate::alpha_forms::operations::{SCRATCH, on_two};
 use pass_core::block::Block;
 use std::alloc::AllocError;
 use suifvm_ir::types::MemoryType;
 use temp_ir::insn::{FirstOperand, SecondOperand, TempInsn};
 use temp_ir::operation::{ExtendOp, LoadOp, Operation, StoreOp};
-
-/// The temporary that is used within the code of one instruction.
-const SCRATCH: u32 = 0;
 
 /// A number of bytes, where it is a displacement of 16 bits.
 fn near_part(plus: i64) -> Option<i16>

@@ -11,7 +11,7 @@ use temp_ir::insn::{FirstOperand, FixedRegister, SecondOperand, TempInsn};
 use temp_ir::operation::{DivisionRoutine, ExtendOp, Operation};
 
 /// The temporary that is used within the code of one instruction.
-const SCRATCH: u32 = 0;
+pub(crate) const SCRATCH: u32 = 0;
 
 /// An operation on two temporaries.
 pub(crate) fn on_two(op: Operation, destination: u32, left: u32, right: u32) -> TempInsn

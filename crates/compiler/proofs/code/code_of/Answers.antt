@@ -1,4 +1,4 @@
-use Rattle.compiler.proofs.CleanCode.{clean_does}
+use Rattle.compiler.proofs.KeptCode.{clean_does}
 use Rattle.compiler.proofs.Parts.{code_within}
 use Rattle.compiler.proofs.Rewritten.{light_too}
 use Rattle.compiler.proofs.code.code_of.Goals as goal
@@ -12,13 +12,13 @@ clean_code-requires c = c.in_ok-rewritten.ensures.made.size
 
 pub select_code-requires-clause-size : goal.select_code-requires-clause-size
 select_code-requires-clause-size c =
-    (clean_does c.rewritten_code_does_as_unit.ensures c.clean_code_does_as_unit.ensures c.args.typed.unit
+    (clean_does c.rewritten_code_does_as_unit.ensures c.kept_code_does_as_unit.ensures c.args.typed.unit
     c.in_ok-typed.field-0.made.unit c.in_ok-rewritten.field-0.made c.in_ok-copied.field-0.made c.args.wanted
     c.in_ok-copied.field-0.given c.in_ok-typed.ensures.made c.in_ok-rewritten.ensures.made c.in_ok-copied.ensures).size
 
 pub select_code-requires-clause-registers : goal.select_code-requires-clause-registers
 select_code-requires-clause-registers c =
-    (clean_does c.rewritten_code_does_as_unit.ensures c.clean_code_does_as_unit.ensures c.args.typed.unit
+    (clean_does c.rewritten_code_does_as_unit.ensures c.kept_code_does_as_unit.ensures c.args.typed.unit
     c.in_ok-typed.field-0.made.unit c.in_ok-rewritten.field-0.made c.in_ok-copied.field-0.made c.args.wanted
     c.in_ok-copied.field-0.given c.in_ok-typed.ensures.made c.in_ok-rewritten.ensures.made c.in_ok-copied.ensures).registers
 
@@ -38,7 +38,7 @@ returns c =
       without_copies = c.in_ok-copied.ensures.without_copies;
       clean = c.in_ok-copied.ensures.clean;
       within = code_within c.args.typed.unit c.in_ok-copied.field-0.made c.in_ok-vm.field-0.made c.in_ok-temps.temps
-          (clean_does c.rewritten_code_does_as_unit.ensures c.clean_code_does_as_unit.ensures c.args.typed.unit
+          (clean_does c.rewritten_code_does_as_unit.ensures c.kept_code_does_as_unit.ensures c.args.typed.unit
           c.in_ok-typed.field-0.made.unit c.in_ok-rewritten.field-0.made c.in_ok-copied.field-0.made c.args.wanted
           c.in_ok-copied.field-0.given c.in_ok-typed.ensures.made c.in_ok-rewritten.ensures.made c.in_ok-copied.ensures)
           c.in_ok-vm.ensures.made (record { keeps = p.keeps; reached = p.reached; split = p.split; labels = p.labels });

@@ -4,5 +4,8 @@ use Rattle.suifvm_meaning.specs.declared.answer.Answer.TheVariants.{Gives}
 use Rattle.suifvm_run.proofs.AtOnce.{gave_value}
 use Rattle.suifvm_run.proofs.quick.quick_address.Goals as goal
 
-pub returns-in-Ok-clause-done : goal.returns-in-Ok-clause-done
-returns-in-Ok-clause-done c = gave_value c.args.machine.now c.put.new.machine c.put.result _ c.args.destination c.in-Ok.value (ap (λ v. Gives v) (sym c.in-Ok.ensures)) c.put.ensures.done
+pub returns-in-Ok : goal.returns-in-Ok
+returns-in-Ok c = record {
+  done = gave_value c.args.machine.now c.put.new.machine c.put.result _ c.args.destination c.in-Ok.value (ap (λ v. Gives v) (sym c.in-Ok.ensures)) c.put.ensures.done;
+  kept = c.put.ensures.kept;
+}

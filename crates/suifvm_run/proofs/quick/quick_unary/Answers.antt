@@ -4,5 +4,8 @@ use Rattle.suifvm_meaning.specs.Operations.{unary_answer}
 use Rattle.suifvm_run.proofs.AtOnce.{gave_one}
 use Rattle.suifvm_run.proofs.quick.quick_unary.Goals as goal
 
-pub returns-clause-done : goal.returns-clause-done
-returns-clause-done c = gave_one c.args.machine.now c.put_word.new.machine c.put_word.result (unary_answer c.args.op c.args.ty) c.args.destination c.in-Some-given_word.word _ _ c.in-Some.ensures (sym c.unary.ensures ∙ c.in-Some-given_word.ensures) c.put_word.ensures.done
+pub returns : goal.returns
+returns c = record {
+  done = gave_one c.args.machine.now c.put_word.new.machine c.put_word.result (unary_answer c.args.op c.args.ty) c.args.destination c.in-Some-given_word.word _ _ c.in-Some.ensures (sym c.unary.ensures ∙ c.in-Some-given_word.ensures) c.put_word.ensures.done;
+  kept = c.put_word.ensures.kept;
+}

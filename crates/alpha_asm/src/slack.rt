@@ -1,38 +1,39 @@
-//! How many words more each span has room for, in a tree that knows the span with the least room.
+//! The slack of each span: how many words more it has room for. It stands in a tree that knows the span with the
+//! least slack.
 
 use crate::ends::levels_of;
 use std::alloc::{AllocError, Global};
 
-/// The room of a span that is not looked at: more than all growth of a text takes.
+/// The slack of a span that is not looked at: more than all growth of a text takes.
 pub(crate) const NEVER: i64 = 1 << 62;
 
-/// Two neighbours in the tree: what the rooms below each have in common beyond what stands in the nodes above, and
-/// the leaf with the least room below each. So the lesser of the first two is 0.
+/// Two neighbours in the tree: what the slacks below each have in common beyond what stands in the nodes above, and
+/// the leaf with the least slack below each. So the lesser of the first two is 0.
 #[derive(Clone, Copy, Debug)]
 struct Pair {
     common: [i64; 2],
     least: [usize; 2],
 }
 
-/// What the rooms below a node have become: the least of them has so much more, and stands at a leaf.
+/// What the slacks below a node have become: the least of them has so much more, and stands at a leaf.
 #[derive(Clone, Copy, Debug)]
 struct Change {
     more: i64,
     least: usize,
 }
 
-/// A node on the way up, with what the rooms below it have become.
+/// A node on the way up, with what the slacks below it have become.
 #[derive(Clone, Copy, Debug)]
 struct Edge {
     node: usize,
     change: Change,
 }
 
-/// The rooms of spans. Node 1 of the tree is its root, and below node k stand the nodes 2k and 2k + 1, which are the
-/// pair k. A room is the sum of the nodes from its leaf up to the root. The leaves stand from `size` on, `levels`
+/// The slacks of spans. Node 1 of the tree is its root, and below node k stand the nodes 2k and 2k + 1, which are the
+/// pair k. A slack is the sum of the nodes from its leaf up to the root. The leaves stand from `size` on, `levels`
 /// steps below the root, with one more at each end.
 #[derive(Debug, Drop)]
-pub(crate) struct Rooms {
+pub(crate) struct Slacks {
     pairs: Vec<Pair>,
     root: Change,
     size: usize,
@@ -40,17 +41,18 @@ pub(crate) struct Rooms {
 }
 
 impl Pair {
-    /// Changes one side, and takes words from the rooms of the other one. Answers what has become of the rooms of both.
+    /// Changes one side, and takes words from the slacks of the other one. Answers what has become of the slacks of
+    /// both.
     fn settle(&mut self, side: usize, change: Change, words: i64) -> Change {
         let one = side % 2;
         let other = 1 - one;
-        let room = self.common[one].wrapping_add(change.more);
-        let room_beside = self.common[other].wrapping_sub(words);
-        let more = room.min(room_beside);
-        self.common[one] = room.wrapping_sub(more);
-        self.common[other] = room_beside.wrapping_sub(more);
+        let slack = self.common[one].wrapping_add(change.more);
+        let slack_beside = self.common[other].wrapping_sub(words);
+        let more = slack.min(slack_beside);
+        self.common[one] = slack.wrapping_sub(more);
+        self.common[other] = slack_beside.wrapping_sub(more);
         self.least[one] = change.least;
-        let least = if room <= room_beside {
+        let least = if slack <= slack_beside {
             change.least
         } else {
             self.least[other]
@@ -58,7 +60,7 @@ impl Pair {
         Change { more, least }
     }
 
-    /// What has become of the rooms of both where they had nothing in common before.
+    /// What has become of the slacks of both where they had nothing in common before.
     fn gather(&mut self) -> Change {
         let change = Change {
             more: 0,
@@ -68,10 +70,10 @@ impl Pair {
     }
 }
 
-impl Rooms {
-    /// A tree of these rooms.
-    pub(crate) fn new(alloc: Global, rooms: &[i64]) -> Result<Rooms, AllocError> {
-        let levels = levels_of(rooms.len().saturating_add(2));
+impl Slacks {
+    /// A tree of these slacks.
+    pub(crate) fn new(alloc: Global, slacks: &[i64]) -> Result<Slacks, AllocError> {
+        let levels = levels_of(slacks.len().saturating_add(2));
         let size = 1_usize.wrapping_shl(levels);
         let nothing = Pair {
             common: [0, 0],
@@ -80,34 +82,34 @@ impl Rooms {
         let mut pairs = Vec::new(alloc);
         pairs.resize(size, nothing)?;
         let root = Change { more: 0, least: 0 };
-        let mut tree = Rooms {
+        let mut tree = Slacks {
             pairs,
             root,
             size,
             levels,
         };
-        tree.put_all(rooms);
+        tree.put_all(slacks);
         tree.gather_all();
         Ok(tree)
     }
 
-    /// Puts rooms below a node where there is nothing yet.
-    fn put(&mut self, node: usize, rooms: Change) {
+    /// Puts slacks below a node where there is nothing yet.
+    fn put(&mut self, node: usize, slacks: Change) {
         if let Some(pair) = self.pairs.get_mut(node / 2) {
-            pair.common[node % 2] = rooms.more;
-            pair.least[node % 2] = rooms.least;
+            pair.common[node % 2] = slacks.more;
+            pair.least[node % 2] = slacks.least;
         }
     }
 
-    /// Puts each room into its leaf.
-    fn put_all(&mut self, rooms: &[i64]) {
+    /// Puts each slack into its leaf.
+    fn put_all(&mut self, slacks: &[i64]) {
         for least in 0..self.size {
-            let more = rooms.get(least.wrapping_sub(1)).copied().unwrap_or(NEVER);
+            let more = slacks.get(least.wrapping_sub(1)).copied().unwrap_or(NEVER);
             self.put(self.size.wrapping_add(least), Change { more, least });
         }
     }
 
-    /// Puts what rooms have in common into the nodes above.
+    /// Puts what slacks have in common into the nodes above.
     fn gather_all(&mut self) {
         for node in (1..self.size).rev() {
             let Some(pair) = self.pairs.get_mut(node) else {
@@ -118,20 +120,20 @@ impl Rooms {
         }
     }
 
-    /// The room of a span.
-    fn room(&self, at: usize) -> i64 {
+    /// The slack of a span.
+    fn slack(&self, at: usize) -> i64 {
         let mut node = self.size.wrapping_add(at).wrapping_add(1);
-        let mut room = self.root.more;
+        let mut slack = self.root.more;
         for _level in 0..self.levels {
             if let Some(pair) = self.pairs.get(node / 2) {
-                room = room.wrapping_add(pair.common[node % 2]);
+                slack = slack.wrapping_add(pair.common[node % 2]);
             }
             node /= 2;
         }
-        room
+        slack
     }
 
-    /// A leaf whose room has so much more.
+    /// A leaf whose slack has so much more.
     fn edge(&self, leaf: usize, more: i64) -> Edge {
         Edge {
             node: self.size.wrapping_add(leaf),
@@ -139,7 +141,7 @@ impl Rooms {
         }
     }
 
-    /// Changes a node, and takes words from the rooms below its neighbour. Answers the node above.
+    /// Changes a node, and takes words from the slacks below its neighbour. Answers the node above.
     fn climb(&mut self, edge: Edge, words: i64) -> Edge {
         let node = edge.node / 2;
         let change = match self.pairs.get_mut(node) {
@@ -149,7 +151,7 @@ impl Rooms {
         Edge { node, change }
     }
 
-    /// Whether the rooms below a node have become no other.
+    /// Whether the slacks below a node have become no other.
     fn is_same(&self, edge: Edge) -> bool {
         match self.pairs.get(edge.node / 2) {
             Some(pair) => edge.change.more == 0 && edge.change.least == pair.least[edge.node % 2],
@@ -185,7 +187,7 @@ impl Rooms {
         self.rise(above);
     }
 
-    /// Changes two leaves, and takes words from the rooms between them: at each level from those nodes between the
+    /// Changes two leaves, and takes words from the slacks between them: at each level from those nodes between the
     /// two on the way up whose neighbours are not.
     fn take(&mut self, left: Edge, right: Edge, words: i64) {
         let mut left = left;
@@ -202,13 +204,13 @@ impl Rooms {
         self.join(left, right);
     }
 
-    /// Looks at a span from now on, which has so much room.
-    pub(crate) fn look_at(&mut self, at: usize, room: i64) {
-        let more = room.wrapping_sub(self.room(at));
+    /// Looks at a span from now on, which has so much slack.
+    pub(crate) fn look_at(&mut self, at: usize, slack: i64) {
+        let more = slack.wrapping_sub(self.slack(at));
         self.rise(self.edge(at.wrapping_add(1), more));
     }
 
-    /// Looks no more at a span, and takes words from the rooms of those before it, from one on.
+    /// Looks no more at a span, and takes words from the slacks of those before it, from one on.
     pub(crate) fn leave_behind(&mut self, first: usize, at: usize, words: u64) {
         let leaving = self.edge(at.wrapping_add(1), NEVER);
         if first >= at {
@@ -218,7 +220,7 @@ impl Rooms {
         self.take(self.edge(first, 0), leaving, words.cast_signed());
     }
 
-    /// Looks no more at a span, and takes words from the rooms of those behind it, to before another one.
+    /// Looks no more at a span, and takes words from the slacks of those behind it, to before another one.
     pub(crate) fn leave_before(&mut self, at: usize, past: usize, words: u64) {
         let leaving = self.edge(at.wrapping_add(1), NEVER);
         if at.saturating_add(1) >= past {
@@ -232,7 +234,7 @@ impl Rooms {
         );
     }
 
-    /// The span with the least room, and that room, where it is less than none.
+    /// The span with the least slack, and that slack, where it is less than none.
     pub(crate) fn overfull(&self) -> Option<(usize, i64)> {
         if self.root.more >= 0 {
             return None;
