@@ -4,10 +4,10 @@
 usage: bench/steps.py [MSC..]
 
 For each program of examples/ that reads nothing or has its input beside it, and of bench/programs/: the steps that the
-image takes which each MSC builds (crates/msc/out/msc where none is named), and the instructions that the code of
-`alpha-linux-gnu-gcc` with -O0 and -O1 takes in its own functions, as `qemu-alpha` tells them one by one, where both are
-installed. Each output has to be the one that `gcc` gives. Behind the table stand the geometric means of each column
-over the first one.
+image takes which each MSC builds (crates/msc/out/msc where none is named), by its default allocator and with
+`--alloc plain`, and the instructions that the code of `alpha-linux-gnu-gcc` with -O0 and -O1 takes in its own functions,
+as `qemu-alpha` tells them one by one, where both are installed. Each output has to be the one that `gcc` gives. Behind
+the table stand the geometric means of each column over the first one.
 """
 import glob
 import math
@@ -20,6 +20,8 @@ import tempfile
 
 TOP = os.path.dirname(os.path.dirname(os.path.abspath(__file__)))
 CROSS = "alpha-linux-gnu-gcc"
+# the words by which an image is built, one column for each
+ALLOCATORS = ((), ("--alloc", "plain"))
 
 
 def runs(command, given, **more):
@@ -35,11 +37,11 @@ def expected(text, given, work):
     return ran.stdout, ran.returncode
 
 
-def steps(msc, text, given, due, work):
-    """The least budget within which the image ends."""
+def steps(msc, words, text, given, due, work):
+    """The least budget within which the image ends that is built with these words."""
     image = f"{work}/image"
     with open(image, "wb") as out:
-        subprocess.run([msc, "build", text], stdout=out, check=True)
+        subprocess.run([msc, "build", text, *words], stdout=out, check=True)
 
     def ends(budget):
         ran = runs([msc, "exec", image, "--budget", str(budget)], given)
@@ -96,7 +98,7 @@ def main():
                 continue
             given = beside if os.path.exists(beside) else "/dev/null"
             due = expected(text, given, work)
-            row = [steps(msc, text, given, due, work) for msc in mscs]
+            row = [steps(msc, words, text, given, due, work) for msc in mscs for words in ALLOCATORS]
             row += [instructions(level, text, given, work) for level in levels]
             print(f"{os.path.basename(text)[:-2]:14}" + "".join(f"{count:12}" for count in row), flush=True)
             rows.append(row)

@@ -1,13 +1,9 @@
 //! The allocation of a function.
 
-ghost use Rattle.std.specs.Prelude.{◌≡◌, [], All, IsTrue, IfOk};
+ghost use Rattle.std.specs.Prelude.{◌≡◌, IsTrue, IfOk};
 ghost use Rattle.temp_ir.specs.Fixed.{is_settled};
-ghost use Rattle.alloc_model.specs.Temporaries.{code_of};
 ghost use Rattle.alloc_model.specs.Places.{plan_of};
-ghost use Rattle.alloc_model.specs.Faithful.{Faithful};
-ghost use Rattle.alloc_rules.specs.Lean.{IsLean};
-ghost use Rattle.alloc_rules.specs.Journal.{IsJournal};
-ghost use Rattle.alloc_plain_lists.specs.Plain.{plain_plan};
+ghost use Rattle.alloc_plain.specs.Plain.{IsAllocationInSlotsOf};
 
 use crate::journal::journal_of;
 use alloc_model::allocation::{Allocation, Event};
@@ -50,16 +46,7 @@ fn with_journal(a: Allocation, journal: Seq<Event>) -> Allocation
 /// only where memory is short.
 pub fn plain(alloc: Global, f: &Func<TempInsn>) -> Result<Allocation, AllocError>
     requires { IsTrue (is_settled f.now.params f.now.blocks) }
-    ensures faithful { IfOk result (λ a. Faithful (plan_of a)) }
-    ensures lean { IfOk result (λ a. IsLean (plan_of a)) }
-    ensures plan { IfOk result (λ a. plan_of a ≡ plain_plan (code_of f.now) f.now.params f.now.temps) }
-    ensures name { IfOk result (λ a. a.func.name ≡ f.now.name) }
-    ensures params { IfOk result (λ a. a.func.params ≡ f.now.params) }
-    ensures temps { IfOk result (λ a. a.func.temps ≡ f.now.temps) }
-    ensures objects { IfOk result (λ a. a.func.objects ≡ f.now.objects) }
-    ensures blocks { IfOk result (λ a. a.func.blocks ≡ f.now.blocks) }
-    ensures slots { IfOk result (λ a. All (λ named. named ≡ []) a.top) }
-    ensures journal { IfOk result (λ a. IsJournal (plan_of a) a.journal) }
+    ensures { IfOk result (λ a. IsAllocationInSlotsOf f.now a) }
 {
     let graph = cfg::build(alloc, f)?;
     let lists = spill_everywhere(alloc, f, &graph)?;

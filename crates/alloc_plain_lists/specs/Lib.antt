@@ -1,3 +1,4 @@
 pub mod Plain
 pub mod Spilled
 pub mod Runs
+pub mod model

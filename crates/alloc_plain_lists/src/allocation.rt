@@ -1,13 +1,11 @@
 //! The lists of a function.
 
-ghost use Rattle.std.specs.Prelude.{◌≡◌, [], IsTrue, IfOk};
+ghost use Rattle.std.specs.Prelude.{◌≡◌, IsTrue, IfOk};
 ghost use Rattle.cfg.specs.Edges.{successors_from};
 ghost use Rattle.temp_ir.specs.Insns.{targets_of, flows_on_of};
 ghost use Rattle.temp_ir.specs.Fixed.{is_settled};
-ghost use Rattle.alloc_model.specs.Temporaries.{code_of};
-ghost use Rattle.alloc_model.specs.Places.{plan_of};
-ghost use Rattle.alloc_plain_lists.specs.Plain.{plain_plan};
 ghost use Rattle.alloc_plain_lists.specs.Spilled.{IsSpilledAllocationOf};
+ghost use Rattle.alloc_plain_lists.specs.model.Lists.{HasPlainLists};
 
 use crate::blocks::{all_registers, all_transfers, empty_maps};
 use crate::edges::all_edges;
@@ -22,10 +20,7 @@ use temp_ir::insn::TempInsn;
 /// The lists of a function with this flow graph. It fails only where memory is short.
 fn made_lists(alloc: Global, f: &Func<TempInsn>, graph: &Graph) -> Result<Allocation, AllocError>
     requires { graph.now.succ ≡ successors_from targets_of flows_on_of 0 f.now.blocks }
-    ensures name { IfOk result (λ a. a.func.name ≡ f.now.name) }
-    ensures objects { IfOk result (λ a. a.func.objects ≡ f.now.objects) }
-    ensures plan { IfOk result (λ a. plan_of a ≡ plain_plan (code_of f.now) f.now.params f.now.temps) }
-    ensures journal { IfOk result (λ a. a.journal ≡ []) }
+    ensures { IfOk result (λ a. HasPlainLists f.now a) }
 {
     let blocks = f.blocks.as_slice();
     let edges = all_edges(alloc, blocks, graph.succ.as_slice())?;

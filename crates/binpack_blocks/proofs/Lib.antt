@@ -1,6 +1,10 @@
 pub mod Holders
 pub mod Tables
 mod Loops
+mod Firsts
+mod Uses
+mod Bests
+mod Farthest
 mod Parts
 mod Names
 mod Bringing

@@ -1,13 +1,15 @@
 -- Which of the parts of a lifetime, in order, has a point.
-use Rattle.std.proofs.Common.{◌≡◌, ◌≢◌, ◌⊎◌, ℕ, zero, suc, ◌<◌, ◌≤◌, ◌&&◌, ◌||◌, nat_le, nat_lt, Bool, true, false, List, [], ◌∷◌, Some, refl, sym, ap, ◌∙◌, inl, inr, subst, ⊎_elim, length, get_or, arith}
+use Rattle.std.proofs.Common.{◌≡◌, ◌≢◌, ◌⊎◌, ℕ, zero, suc, ◌<◌, ◌≤◌, ◌&&◌, ◌||◌, nat_le, nat_lt, ◌+◌, find, Bool, true, false, List, [], ◌∷◌, Some, None, refl, sym, ap, ◌∙◌, inl, inr, subst, ⊎_elim, length, get_or, arith}
 use Rattle.std.specs.List.{list_any}
 use Rattle.std.specs.List.Sorted.{IsNonDecreasingBy, IsPartitionPoint, IsPartitionedBy}
-use Rattle.std.proofs.lemmas.List.Sorted.{IsPartitionedBy-ltb}
-use Rattle.std.proofs.lemmas.Option.{slice_get-get_or, get_or_from_slice_get}
-use Rattle.std.proofs.lemmas.Bool.{ltb-true, ltb-false, leb-true, le-leb}
+use Rattle.std.proofs.lemmas.List.Sorted.{IsPartitionedBy-ltb, IsPartitionedBy-leb, IsNonDecreasingBy-from_all_adjacent}
+use Rattle.std.proofs.lemmas.Option.{slice_get-get_or, get_or_from_slice_get, slice_get_read}
+use Rattle.std.proofs.lemmas.Bool.{ltb-true, ltb-false, leb-true, leb-false, le-leb, lt-leb, lt-ltb, le-ltb}
 use Rattle.alloc_rules.specs.declared.scan.LifetimePart.{LifetimePart}
 use Rattle.binpack_blocks.specs.model.Rows.{is_covered_by}
-use Rattle.binpack_blocks.specs.model.Wanted.{PartsRise}
+use Rattle.binpack_blocks.specs.model.Spans.{last_or, first_in, last_from, first_behind}
+use Rattle.binpack_blocks.specs.model.Wanted.{PartsRise, PointsRise}
+use Rattle.binpack_blocks.proofs.Firsts.{parted_at, parted_past}
 use Rattle.binpack_blocks.proofs.Holders.{same_or_not}
 
 any_none : {A : Type 0} (p : A → Bool) (xs : List A) → ((k : ℕ) (d : A) → k < length xs → p (get_or xs k d) ≡ false) → list_any p xs ≡ false
@@ -113,3 +115,71 @@ module _ (parts : List LifetimePart) (rise : PartsRise parts) where
               let lx : point ≤ (get_or parts i d).last = subst (λ (y : LifetimePart). point ≤ y.last) (sym (same d)) late in
               let next = rises k d w in
               not_yet (get_or parts (suc k) d).first (get_or parts (suc k) d).last point (omega (arith, so, lx, next))
+
+  -- ---- the first part that ends at a point or behind it
+
+  ends_late : (point : ℕ) (x : LifetimePart) → nat_lt x.last point ≡ true → nat_le point x.last ≡ false
+  ends_late point x e = lt-leb point x.last (ltb-true x.last point e)
+
+  ends_soon : (point : ℕ) (x : LifetimePart) → nat_lt x.last point ≡ false → nat_le point x.last ≡ true
+  ends_soon point x e = le-leb point x.last (ltb-false x.last point e)
+
+  pub last_past : (point i : ℕ) → IsPartitionPoint (λ (p : LifetimePart). nat_lt p.last point ≡ true) (λ (p : LifetimePart). nat_lt p.last point ≡ false) parts i → length parts ≤ i →
+      point ≡ last_from parts point
+  last_past point i p past = ap (λ o. last_or o point) (sym (parted_past (λ (x : LifetimePart). nat_lt x.last point) (λ (x : LifetimePart). nat_le point x.last) (ends_late point) (ends_soon point) parts i p past))
+
+  pub last_at : (point i : ℕ) (x : LifetimePart) → IsPartitionPoint (λ (p : LifetimePart). nat_lt p.last point ≡ true) (λ (p : LifetimePart). nat_lt p.last point ≡ false) parts i →
+      i < length parts → x ≡ get_or parts i x → x.last ≡ last_from parts point
+  last_at point i x p within is = ap (λ o. last_or o point) (sym (parted_at (λ (y : LifetimePart). nat_lt y.last point) (λ (y : LifetimePart). nat_le point y.last) (ends_late point) (ends_soon point) parts i p x (slice_get_read parts (length parts) i x refl within is)))
+
+  -- ---- the first part that begins behind a point
+
+  firsts_rise : IsNonDecreasingBy (λ (p : LifetimePart). p.first) parts
+  firsts_rise = IsNonDecreasingBy-from_all_adjacent (λ (p : LifetimePart). p.first) parts (λ k d w.
+      let one : suc k ≡ k + 1 = omega arith in
+      let order = is_ordered k d (omega (arith, w)) in
+      let next : (get_or parts k d).last < (get_or parts (k + 1) d).first = subst (λ j. (get_or parts k d).last < (get_or parts j d).first) one (rises k d (omega (arith, w))) in
+      omega (arith, order, next))
+
+  pub parted_firsts : (point : ℕ) → IsPartitionedBy (λ (p : LifetimePart). nat_le p.first point) parts
+  parted_firsts point = IsPartitionedBy-leb (λ (p : LifetimePart). p.first) parts point firsts_rise
+
+  begins_late : (point : ℕ) (x : LifetimePart) → nat_le x.first point ≡ true → nat_lt point x.first ≡ false
+  begins_late point x e = le-ltb point x.first (leb-true x.first point e)
+
+  begins_soon : (point : ℕ) (x : LifetimePart) → nat_le x.first point ≡ false → nat_lt point x.first ≡ true
+  begins_soon point x e = lt-ltb point x.first (leb-false x.first point e)
+
+  pub first_past : (point i : ℕ) → IsPartitionPoint (λ (p : LifetimePart). nat_le p.first point ≡ true) (λ (p : LifetimePart). nat_le p.first point ≡ false) parts i → length parts ≤ i →
+      None ≡ first_behind parts point
+  first_past point i p past = ap first_in (sym (parted_past (λ (x : LifetimePart). nat_le x.first point) (λ (x : LifetimePart). nat_lt point x.first) (begins_late point) (begins_soon point) parts i p past))
+
+  pub first_at : (point i : ℕ) (x : LifetimePart) → IsPartitionPoint (λ (p : LifetimePart). nat_le p.first point ≡ true) (λ (p : LifetimePart). nat_le p.first point ≡ false) parts i →
+      i < length parts → x ≡ get_or parts i x → Some x.first ≡ first_behind parts point
+  first_at point i x p within is = ap first_in (sym (parted_at (λ (y : LifetimePart). nat_le y.first point) (λ (y : LifetimePart). nat_lt point y.first) (begins_late point) (begins_soon point) parts i p x (slice_get_read parts (length parts) i x refl within is)))
+
+-- ---- points in order
+
+module _ (points : List ℕ) (rise : PointsRise points) where
+  points_rise : IsNonDecreasingBy (λ p. p) points
+  points_rise = IsNonDecreasingBy-from_all_adjacent (λ p. p) points (λ k d w.
+      let one : suc k ≡ k + 1 = omega arith in
+      let next : get_or points k d < get_or points (k + 1) d =
+      subst (λ j. get_or points k d < get_or points j d) one (rise.rise k (get_or points k d) (get_or points (suc k) d) (slice_get-get_or points k d (omega (arith, w))) (slice_get-get_or points (suc k) d (omega (arith, w)))) in
+      omega (arith, next))
+
+  pub parted_points : (point : ℕ) → IsPartitionedBy (λ p. nat_le p point) points
+  parted_points point = IsPartitionedBy-leb (λ p. p) points point points_rise
+
+  is_late : (point x : ℕ) → nat_le x point ≡ true → nat_lt point x ≡ false
+  is_late point x e = le-ltb point x (leb-true x point e)
+
+  is_soon : (point x : ℕ) → nat_le x point ≡ false → nat_lt point x ≡ true
+  is_soon point x e = lt-ltb point x (leb-false x point e)
+
+  pub point_past : (point i : ℕ) → IsPartitionPoint (λ p. nat_le p point ≡ true) (λ p. nat_le p point ≡ false) points i → length points ≤ i → None ≡ find (λ p. nat_lt point p) points
+  point_past point i p past = sym (parted_past (λ x. nat_le x point) (λ x. nat_lt point x) (is_late point) (is_soon point) points i p past)
+
+  pub point_found : (point i x : ℕ) → IsPartitionPoint (λ p. nat_le p point ≡ true) (λ p. nat_le p point ≡ false) points i → i < length points → x ≡ get_or points i x →
+      Some x ≡ find (λ p. nat_lt point p) points
+  point_found point i x p within is = sym (parted_at (λ y. nat_le y point) (λ y. nat_lt point y) (is_late point) (is_soon point) points i p x (slice_get_read points (length points) i x refl within is))

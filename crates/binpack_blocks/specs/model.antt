@@ -4,6 +4,11 @@ pub mod Visits
 pub mod Rows
 pub mod Wanted
 pub mod Choices
+pub mod Uses
+pub mod UseRows
+pub mod NextUses
+pub mod Spans
+pub mod Bests
 pub mod Standing
 pub mod Tops
 pub mod Scanning

@@ -7,6 +7,7 @@ ghost use Rattle.binpack_blocks.specs.model.Bins as model;
 ghost use Rattle.binpack_blocks.specs.model.Rows as rows;
 ghost use Rattle.binpack_blocks.specs.model.Wanted.{LifetimesRise};
 
+use crate::fixed_uses::FixedUses;
 use crate::held::{Held, SlotCopy};
 use crate::wanted::is_wanted;
 use alloc_model::allocation::Transfer;
@@ -16,8 +17,8 @@ use bk_bits::BitSet;
 /// The number of registers that temporaries can be given: 0 to 25.
 pub const GIVEN: u8 = 26;
 
-/// The state of a scan within a block: what stands in the registers, the transfers before the instruction at hand, and
-/// the temporaries on whose slots the block has relied.
+/// The state of a scan within a block: what stands in the registers, the transfers before the instruction at hand, the
+/// temporaries on whose slots the block has relied, and the fixed uses that come next.
 #[derive(Drop)]
 pub struct Scan {
     /// The number of temporaries.
@@ -28,6 +29,8 @@ pub struct Scan {
     pub made: Vec<Transfer>,
     /// The temporaries on whose slots the block has relied.
     pub relied: BitSet,
+    /// The fixed uses of the registers, of which those up to the instruction at hand are passed.
+    pub fixed: FixedUses,
     pub ghost many: { length bins.items ≡ 26 },
     pub ghost bound: { length relied ≡ temps },
     pub ghost inside: { AreInside temps bins.items },

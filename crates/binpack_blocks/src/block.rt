@@ -1,6 +1,6 @@
 //! The visits of a block.
 
-ghost use Rattle.std.specs.Prelude.{◌≡◌, ◌+◌, ◌<◌, ◌^◌, ℕ, All, length, IfOk, OnOk};
+ghost use Rattle.std.specs.Prelude.{◌≡◌, ◌+◌, ◌++◌, ◌<◌, ◌^◌, ℕ, Some, All, length, flat_map, slice_get, IfOk, OnOk};
 ghost use Rattle.pass_core.specs.Functions.{UsesRegisters};
 ghost use Rattle.temp_ir.specs.Insns.{reads_of, writes_of};
 ghost use Rattle.binpack_blocks.specs.declared.block.Lists.{Lists};
@@ -28,14 +28,45 @@ pub struct Lists {
     pub registers: Seq<Seq<u8>>,
 }
 
+/// Puts the instructions of a block behind others.
+fn put_insns(insns: &mut Vec<TempInsn>, block: &Block<TempInsn>) -> Result<(), AllocError>
+    ensures { OnOk result (insns.new.items ≡ insns.old.items ++ block.now) }
+{
+    for line in block.insns.iter() {
+        let (_id, insn) = line;
+        insns.push(*insn)?;
+    }
+    Ok(())
+}
+
 /// The instructions of a block.
 fn insns_of(alloc: Global, block: &Block<TempInsn>) -> Result<Vec<TempInsn>, AllocError>
     ensures { IfOk result (λ insns. insns.items ≡ block.now) }
 {
     let mut insns = Vec::new(alloc);
-    for line in block.insns.iter() {
-        let (_id, insn) = line;
-        insns.push(*insn)?;
+    put_insns(&mut insns, block)?;
+    Ok(insns)
+}
+
+/// The block at a place.
+fn block_at(blocks: &[Block<TempInsn>], place: usize) -> &Block<TempInsn>
+    requires { place < length blocks.now }
+    ensures { slice_get blocks.now place ≡ Some result.now }
+{
+    &blocks[place]
+}
+
+/// The instructions of blocks, in linear order.
+#[tactic(auto, using(crate::proofs::Uses::flat_next, crate::proofs::Uses::flat_done))]
+pub(crate) fn all_insns(
+    alloc: Global,
+    blocks: &[Block<TempInsn>],
+) -> Result<Vec<TempInsn>, AllocError>
+    ensures { IfOk result (λ insns. insns.items ≡ flat_map (λ insns. insns) blocks.now) }
+{
+    let mut insns = Vec::new(alloc);
+    for place in 0..blocks.len() {
+        put_insns(&mut insns, block_at(blocks, place))?;
     }
     Ok(insns)
 }

@@ -1,37 +1,23 @@
 //! Which register a temporary gets.
 
-ghost use Rattle.std.specs.Prelude.{◌≡◌, ◌<◌, ◌≤◌, ◌&&◌, ◌||◌, not, true, false, length, IfSome};
+ghost use Rattle.std.specs.Prelude.{◌≡◌, ◌<◌, ◌≤◌, ◌||◌, None, true, length, option_map, IfSome};
+ghost use Rattle.alloc_model.specs.Faithful.{given_registers};
 ghost use Rattle.alloc_rules.specs.Visits.{names_temp};
+ghost use Rattle.binpack_blocks.specs.model.Bests.{best_register};
 ghost use Rattle.binpack_blocks.specs.model.Bins.{held_in};
-ghost use Rattle.binpack_blocks.specs.model.Bins as model;
 ghost use Rattle.binpack_blocks.specs.model.Choices.{AreOpen, CanLeave, Spares};
 ghost use Rattle.binpack_blocks.specs.model.Choices as choices;
-ghost use Rattle.binpack_blocks.specs.model.Rows as rows;
-ghost use Rattle.binpack_blocks.specs.model.Wanted.{LifetimesRise};
+ghost use Rattle.binpack_blocks.specs.model.Rows.{is_wanted};
+ghost use Rattle.binpack_blocks.specs.model.Spans as spans;
+ghost use Rattle.binpack_blocks.specs.model.Wanted.{LifetimesRise, ReferencesRise};
 
 use crate::bins::{GIVEN, Scan};
 use crate::registers::fixes;
+use crate::spans::is_shorter;
+use crate::wanted::{next_reference, part_end};
 use alloc_rules::scan::Lifetimes;
 use pass_core::Insn;
 use temp_ir::insn::TempInsn;
-
-/// The registers in the order in which they are given: 1 to 8, 22 to 25, 0, 16 to 21, 9 to 15.
-fn stated(place: u8) -> u8
-    requires { place < 26 }
-    ensures { result < 26 }
-{
-    if place < 8 {
-        place + 1
-    } else if place < 12 {
-        place + 14
-    } else if place == 12 {
-        0
-    } else if place < 19 {
-        place + 3
-    } else {
-        place - 10
-    }
-}
 
 /// Whether one of what an instruction names is a temporary.
 fn is_it(named: Option<u32>, temp: u32) -> bool
@@ -70,26 +56,22 @@ fn is_open(insn: &TempInsn, r: u8, standing: &[bool]) -> bool
     !fixes(insn, r) && !standing[r as usize]
 }
 
-/// The first point behind another one at which a temporary is read or written.
-fn next_reference(lives: &Lifetimes, temp: u32, point: u32) -> Option<u32> {
-    match lives.refs.as_slice().get(temp as usize) {
-        None => None,
-        Some(refs) => {
-            let points = refs.as_slice();
-            let first_left = points.partition_point(|other| *other <= point);
-            points.get(first_left).copied()
-        }
-    }
+/// Whether the first of two temporaries leaves, with their next references: its own is farther, or as far, and it has
+/// the lower number. A missing one is farther than any.
+fn leaves_first(next: Option<u32>, other_next: Option<u32>, temp: u32, other: u32) -> bool
+    ensures { result ≡ choices.leaves_first next other_next temp other }
+{
+    is_shorter(other_next, next) || (!is_shorter(next, other_next) && temp < other)
 }
 
-/// Whether a point is farther than another one, where a missing one is farthest.
-fn is_later(point: Option<u32>, other: Option<u32>) -> bool {
-    match (point, other) {
-        (None, Some(_)) => true,
-        (None, None) => false,
-        (Some(_), None) => false,
-        (Some(first), Some(second)) => first > second,
-    }
+/// Whether the first of two temporaries leaves, which are in registers at a point.
+fn is_wanted_later(lives: &Lifetimes, temp: u32, other: u32, point: u32) -> bool
+    ensures { ReferencesRise lives.now → result ≡ choices.leaves_first
+        (spans.next_reference lives.now point temp) (spans.next_reference lives.now point other) temp other }
+{
+    let next = next_reference(lives, temp, point);
+    let other_next = next_reference(lives, other, point);
+    leaves_first(next, other_next, temp, other)
 }
 
 impl Scan {
@@ -106,42 +88,16 @@ impl Scan {
         requires standing { length standing.now ≡ 32 }
         requires parts { length lives.now.parts ≡ self.now.temps }
         requires rise { LifetimesRise lives.now }
-        ensures { result ≡ (choices.is_open insn.now standing.now r
-            && not (model.lives (rows.is_wanted lives.now point) (held_in self.now.bins.items r))) }
+        ensures { result ≡ choices.is_free insn.now standing.now (is_wanted lives.now point) self.now.bins.items r }
     {
         is_open(insn, r, standing) && !self.lives_in(r, lives, point)
-    }
-
-    /// A register that is free.
-    fn free_register(
-        &self,
-        insn: &TempInsn,
-        lives: &Lifetimes,
-        point: u32,
-        standing: &[bool],
-    ) -> Option<u8>
-        requires standing { length standing.now ≡ 32 }
-        requires parts { length lives.now.parts ≡ self.now.temps }
-        requires rise { LifetimesRise lives.now }
-        ensures given { IfSome result (λ r. r < 26) }
-        ensures free { IfSome result (λ r. (choices.is_open insn.now standing.now r
-            && not (model.lives (rows.is_wanted lives.now point) (held_in self.now.bins.items r))) ≡ true) }
-    {
-        for place in 0..GIVEN {
-            let r = stated(place);
-            if self.is_free(r, insn, lives, point, standing) {
-                return Some(r);
-            }
-        }
-        None
     }
 
     /// Whether what stands in a register may leave it.
     fn is_leavable(&self, r: u8, insn: &TempInsn, standing: &[bool]) -> bool
         requires given { r < 26 }
         requires standing { length standing.now ≡ 32 }
-        ensures { result ≡ (choices.is_open insn.now standing.now r
-            && choices.is_bystander insn.now (held_in self.now.bins.items r)) }
+        ensures { result ≡ choices.is_leavable insn.now standing.now self.now.bins.items r }
     {
         match self.holder(r) {
             None => false,
@@ -149,22 +105,19 @@ impl Scan {
         }
     }
 
-    /// Whether what stands in a register is wanted again later than what stands in another one.
+    /// Whether what stands in a register leaves before what stands in another one.
     fn is_farther(&self, r: u8, other: u8, lives: &Lifetimes, point: u32) -> bool
         requires first { r < 26 }
         requires second { other < 26 }
+        ensures { ReferencesRise lives.now → result ≡ choices.is_farther (spans.next_reference lives.now point)
+            (held_in self.now.bins.items r) (held_in self.now.bins.items other) }
     {
-        match (self.holder(r), self.holder(other)) {
-            (Some(held), Some(best)) => {
-                let next = next_reference(lives, held.temp, point);
-                let next_best = next_reference(lives, best.temp, point);
-                if is_later(next, next_best) {
-                    true
-                } else {
-                    !is_later(next_best, next) && held.temp < best.temp
-                }
-            }
-            (_, _) => false,
+        match self.holder(r) {
+            None => false,
+            Some(held) => match self.holder(other) {
+                None => false,
+                Some(best) => is_wanted_later(lives, held.temp, best.temp, point),
+            },
         }
     }
 
@@ -172,7 +125,9 @@ impl Scan {
     fn farther(&self, best: Option<u8>, r: u8, lives: &Lifetimes, point: u32) -> u8
         requires given { r < 26 }
         requires found { IfSome best (λ q. q < 26) }
-        ensures { choices.IsEither best r result }
+        ensures either { choices.IsEither best r result }
+        ensures farther { ReferencesRise lives.now
+            → result ≡ choices.farther (spans.next_reference lives.now point) self.now.bins.items best r }
     {
         match best {
             None => r,
@@ -199,7 +154,9 @@ impl Scan {
         requires given { r < 26 }
         requires standing { length standing.now ≡ 32 }
         requires found { IfSome best (λ q. CanLeave insn.now standing.now self.now.bins.items q) }
-        ensures { IfSome result (λ q. CanLeave insn.now standing.now self.now.bins.items q) }
+        ensures leaves { IfSome result (λ q. CanLeave insn.now standing.now self.now.bins.items q) }
+        ensures farther { ReferencesRise lives.now → result ≡ choices.considered (spans.next_reference lives.now point)
+            (choices.is_leavable insn.now standing.now self.now.bins.items) self.now.bins.items best r }
     {
         if self.is_leavable(r, insn, standing) {
             Some(self.farther(best, r, lives, point))
@@ -209,6 +166,7 @@ impl Scan {
     }
 
     /// The register of the temporary that is wanted again last, of those that may leave.
+    #[tactic(auto, using(crate::proofs::Farthest::none_below, crate::proofs::Farthest::one_below, crate::proofs::Farthest::all_below))]
     fn farthest(
         &self,
         insn: &TempInsn,
@@ -217,7 +175,10 @@ impl Scan {
         standing: &[bool],
     ) -> Option<u8>
         requires standing { length standing.now ≡ 32 }
-        ensures { IfSome result (λ q. CanLeave insn.now standing.now self.now.bins.items q) }
+        ensures leaves { IfSome result (λ q. CanLeave insn.now standing.now self.now.bins.items q) }
+        ensures farthest { ReferencesRise lives.now → result ≡ choices.farthest_below
+            (spans.next_reference lives.now point)
+            (choices.is_leavable insn.now standing.now self.now.bins.items) self.now.bins.items 26 }
     {
         let mut best = None;
         for r in 0..GIVEN {
@@ -250,25 +211,37 @@ impl Scan {
         unreachable!()
     }
 
-    /// The register that a temporary gets at a point: a free one; where none is free, that of the temporary which is
-    /// wanted again last.
+    /// The register that a temporary gets at a point: the free one that is best for the part that it has there; where
+    /// none is free, that of the temporary which is wanted again last.
     pub(crate) fn choose(
         &self,
+        temp: u32,
         insn: &TempInsn,
         lives: &Lifetimes,
         point: u32,
         standing: &[bool],
     ) -> u8
+        requires low { temp < self.now.temps }
         requires standing { length standing.now ≡ 32 }
         requires parts { length lives.now.parts ≡ self.now.temps }
         requires rise { LifetimesRise lives.now }
         requires open { AreOpen insn.now standing.now }
         ensures given { result < 26 }
         ensures open { choices.is_open insn.now standing.now result ≡ true }
-        ensures spares { Spares insn.now (rows.is_wanted lives.now point) self.now.bins.items result }
+        ensures spares { Spares insn.now (is_wanted lives.now point) self.now.bins.items result }
+        ensures best { IfSome (best_register (spans.part_end lives.now point temp)
+            (spans.span_end self.now.fixed lives.now point self.now.bins.items)
+            (choices.is_free insn.now standing.now (is_wanted lives.now point) self.now.bins.items) given_registers)
+            (λ r. result ≡ r) }
+        ensures farthest { ReferencesRise lives.now → best_register (spans.part_end lives.now point temp)
+            (spans.span_end self.now.fixed lives.now point self.now.bins.items)
+            (choices.is_free insn.now standing.now (is_wanted lives.now point) self.now.bins.items) given_registers ≡ None
+            → IfSome (choices.farthest_below (spans.next_reference lives.now point)
+            (choices.is_leavable insn.now standing.now self.now.bins.items) self.now.bins.items 26) (λ r. result ≡ r) }
     {
-        match self.free_register(insn, lives, point, standing) {
-            Some(r) => r,
+        let end = part_end(lives, temp, point);
+        match self.best_free(end, insn, lives, point, standing) {
+            Some(free) => free.register,
             None => match self.farthest(insn, lives, point, standing) {
                 Some(r) => r,
                 None => self.idle_register(insn),

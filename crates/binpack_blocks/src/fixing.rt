@@ -1,6 +1,6 @@
 //! What stands in registers that an instruction takes away is moved or stored first.
 
-ghost use Rattle.std.specs.Prelude.{◌≡◌, ◌≢◌, ◌+◌, ◌*◌, ◌++◌, ◌<◌, ◌≤◌, ◌^◌, [], ◌∷◌, ℕ, true, false, Some, None, List, Bool, length, slice_set, IfSome, OnOk};
+ghost use Rattle.std.specs.Prelude.{◌≡◌, ◌≢◌, ◌+◌, ◌*◌, ◌++◌, ◌<◌, ◌≤◌, ◌^◌, [], ◌∷◌, ℕ, true, false, Some, None, List, Bool, length, slice_set, IfSome, IfNone, OnOk};
 ghost use Rattle.alloc_rules.specs.Visits.{fixes};
 ghost use Rattle.alloc_rules.specs.Visits as visits;
 ghost use Rattle.alloc_model.specs.declared.allocation.Transfer.TheVariants as transfer;
@@ -11,12 +11,14 @@ ghost use Rattle.binpack_blocks.specs.model.Rows as rows;
 ghost use Rattle.binpack_blocks.specs.model.Rows.{is_wanted};
 ghost use Rattle.binpack_blocks.specs.model.Steps.{Site, State, Steps, MayGet, taken, taken_below};
 ghost use Rattle.binpack_blocks.specs.model.Scanning.{state_of, local_site};
+ghost use Rattle.binpack_blocks.specs.model.Spans as spans;
 ghost use Rattle.binpack_blocks.specs.model.Wanted.{LifetimesRise};
 
 use crate::bins::{GIVEN, Scan};
 use crate::held::Held;
 use crate::registers::takes_away;
-use crate::wanted::{ends_before, is_wanted};
+use crate::spans::reaches;
+use crate::wanted::{is_wanted, part_end};
 use alloc_model::allocation::Transfer;
 use alloc_rules::scan::Lifetimes;
 use std::alloc::AllocError;
@@ -47,17 +49,9 @@ impl Scan {
         Ok(())
     }
 
-    /// Whether a register that is free stays so up to the end of the part of a temporary that is present at a point.
-    fn is_free_for(&self, r: u8, temp: u32, lives: &Lifetimes, point: u32) -> bool
-        requires { r < 26 }
-    {
-        match self.holder(r) {
-            None => true,
-            Some(held) => ends_before(lives, temp, held.temp, point),
-        }
-    }
-
-    /// A register that is kept over calls and is free up to the end of the part of a temporary.
+    /// A register that is free up to the end of the part of a temporary that is present at a point, if one is: the best
+    /// of the free ones.
+    #[tactic(auto, using(crate::proofs::Bringing::free_open))]
     fn refuge(
         &self,
         temp: u32,
@@ -66,21 +60,31 @@ impl Scan {
         point: u32,
         standing: &[bool],
     ) -> Option<u8>
+        requires low { temp < self.now.temps }
         requires standing { length standing.now ≡ 32 }
         requires parts { length lives.now.parts ≡ self.now.temps }
         requires rise { LifetimesRise lives.now }
         ensures given { IfSome result (λ r. r < 26) }
         ensures open { IfSome result (λ r. choices.is_open insn.now standing.now r ≡ true) }
         ensures free { IfSome result (λ r. model.lives (is_wanted lives.now point) (held_in self.now.bins.items r) ≡ false) }
+        ensures reaches { IfSome result (λ r. visits.reaches (spans.part_end lives.now point temp)
+            (spans.span_end self.now.fixed lives.now point self.now.bins.items r) ≡ true) }
+        ensures none { IfNone result ((r : ℕ) → r < 26
+            → choices.is_free insn.now standing.now (is_wanted lives.now point) self.now.bins.items r ≡ true
+            → visits.reaches (spans.part_end lives.now point temp)
+            (spans.span_end self.now.fixed lives.now point self.now.bins.items r) ≡ false) }
     {
-        for r in 9..16 {
-            if self.is_free(r, insn, lives, point, standing)
-                && self.is_free_for(r, temp, lives, point)
-            {
-                return Some(r);
+        let end = part_end(lives, temp, point);
+        match self.best_free(end, insn, lives, point, standing) {
+            None => None,
+            Some(free) => {
+                if reaches(end, free.end) {
+                    Some(free.register)
+                } else {
+                    None
+                }
             }
         }
-        None
     }
 
     /// Stores what stands in a register that the instruction takes away, where it is wanted behind the instruction.

@@ -82,7 +82,7 @@ impl Scan {
         match self.register_of(temp) {
             Some(r) => Ok(r),
             None => {
-                let r = self.choose(insn, lives, 2 * number, standing);
+                let r = self.choose(temp, insn, lives, 2 * number, standing);
                 let live = self.lives_in(r, lives, 2 * number);
                 self.save(r, live)?;
                 self.load(temp, r, live)?;

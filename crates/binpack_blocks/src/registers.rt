@@ -126,7 +126,7 @@ fn has(registers: &[u8], register: u8) -> bool
 }
 
 /// Whether an instruction writes a register as fixed, or ends it.
-pub(crate) fn takes_away(insn: &TempInsn, register: u8) -> bool
+pub fn takes_away(insn: &TempInsn, register: u8) -> bool
     ensures { result ≡ visits.takes_away insn.now register }
 {
     has(fixed_writes(insn), register) || has(ended_registers(insn), register)

@@ -120,7 +120,7 @@ impl Scan {
                 Ok(r)
             }
             None => {
-                let r = self.choose(insn, lives, 2 * number + 1, standing);
+                let r = self.choose(temp, insn, lives, 2 * number + 1, standing);
                 let live = self.lives_in(r, lives, 2 * number + 1);
                 self.save(r, live)?;
                 self.rely(r, live);
@@ -188,6 +188,7 @@ impl Scan {
         ensures temps { OnOk result (self.new.temps ≡ self.old.temps) }
     {
         self.made.clear();
+        self.fixed.pass(2 * number);
         self.fix_all(insn, lives, number, standing)?;
         let mut registers = self.bring_all(alloc, insn, lives, number, standing)?;
         self.act(&mut registers, insn, lives, number, standing)?;

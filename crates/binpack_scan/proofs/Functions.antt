@@ -44,25 +44,25 @@ module _ {A : Type 0} where
   behind_front (x ∷ xs) ys zero k d e = absurd (omega (arith, e))
   behind_front (x ∷ xs) ys (suc n) k d e = behind_front xs ys n k d (omega (arith, e))
 
-  length_both : (xs ys : List A) → length (xs ++ ys) ≡ length xs + length ys
+  pub length_both : (xs ys : List A) → length (xs ++ ys) ≡ length xs + length ys
   length_both [] ys = omega arith
   length_both (x ∷ xs) ys = let rest = length_both xs ys in omega (arith, rest)
 
   -- what a list has as far as another one goes
-  abbrev Agrees : (whole part : List A) → (d : A) → Type 0
+  abbrev pub Agrees : (whole part : List A) → (d : A) → Type 0
   Agrees whole part d = (k : ℕ) → k < length part → slice_index_or whole k d ≡ slice_index_or part k d
 
-  agrees_less : (whole part more new : List A) (d : A) → new ≡ part ++ more → Agrees whole new d → Agrees whole part d
+  pub agrees_less : (whole part more new : List A) (d : A) → new ≡ part ++ more → Agrees whole new d → Agrees whole part d
   agrees_less whole part more new d e are k low =
       let size = length_both part more in
       are k (subst (λ z. k < length z) (sym e) (omega (arith, size, low))) ∙ ap (λ z. slice_index_or z k d) e ∙ in_front part more k d low
 
-  agrees_last : (whole part new : List A) (x d : A) (n : ℕ) → length part ≡ n → new ≡ part ++ x ∷ [] → Agrees whole new d → slice_index_or whole n d ≡ x
+  pub agrees_last : (whole part new : List A) (x d : A) (n : ℕ) → length part ≡ n → new ≡ part ++ x ∷ [] → Agrees whole new d → slice_index_or whole n d ≡ x
   agrees_last whole part new x d n size e are =
       let both = length_both part (x ∷ []) in
       are n (subst (λ z. n < length z) (sym e) (omega (arith, size, both))) ∙ ap (λ z. slice_index_or z n d) e ∙ behind_front part (x ∷ []) n 0 d (omega (arith, size))
 
-  agrees_behind : (whole part more new : List A) (d : A) (n k : ℕ) → length part ≡ n → k < length more → new ≡ part ++ more → Agrees whole new d → slice_index_or whole (n + k) d ≡ slice_index_or more k d
+  pub agrees_behind : (whole part more new : List A) (d : A) (n k : ℕ) → length part ≡ n → k < length more → new ≡ part ++ more → Agrees whole new d → slice_index_or whole (n + k) d ≡ slice_index_or more k d
   agrees_behind whole part more new d n k size low e are =
       let both = length_both part more in
       are (n + k) (subst (λ z. n + k < length z) (sym e) (omega (arith, size, low, both))) ∙ ap (λ z. slice_index_or z (n + k) d) e ∙ behind_front part more (n + k) k d (omega (arith, size))

@@ -16,3 +16,6 @@ mod EdgeCodes
 mod KeptEdges
 mod EdgeNames
 mod Faithfulness
+mod Housed
+mod Covered
+mod Journaled

@@ -205,7 +205,7 @@ past_empty [] k past = refl
 past_empty (x ∷ xs) zero past = absurd (omega (arith, past))
 past_empty (x ∷ xs) (suc k) past = past_empty xs k (omega (arith, past))
 
-present_low : (blocks : Blocks) (t point : ℕ) → IsPresent blocks t point → point < 2 * count_of blocks
+pub present_low : (blocks : Blocks) (t point : ℕ) → IsPresent blocks t point → point < 2 * count_of blocks
 present_low blocks t point (IsRead b at x is e reads) = let w = block_within blocks b at x is in let m = count_most blocks (suc b) in omega (arith, e, w, m)
 present_low blocks t point (IsLiveBefore b at x is e lv) = let w = block_within blocks b at x is in let m = count_most blocks (suc b) in omega (arith, e, w, m)
 present_low blocks t point (IsWritten b at x is e writes) = let w = block_within blocks b at x is in let m = count_most blocks (suc b) in omega (arith, e, w, m)

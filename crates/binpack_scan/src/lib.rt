@@ -2,8 +2,10 @@
 #![tactic(auto)]
 
 mod allocation;
+mod allocator;
 mod crossing;
 mod edges;
 mod scan;
 
 pub use allocation::binpack;
+pub use allocator::BinpackAllocator;

@@ -16,6 +16,7 @@ use alloc_rules::scan::Lifetimes;
 use binpack_blocks::bins::{GIVEN, Scan};
 use binpack_blocks::block::Lists;
 use binpack_blocks::blocks::Maps;
+use binpack_blocks::fixed_uses::FixedUses;
 use bitvector_flow::Flow;
 use bk_bits::BitSet;
 use bk_containers::Seq;
@@ -31,11 +32,13 @@ pub(crate) struct Placed {
     pub(crate) lists: Lists,
 }
 
-/// A scan of a function with so many temporaries, in which each has its slot.
-fn new_scan(alloc: Global, temps: u32) -> Result<Scan, AllocError>
+/// A scan of a function, in which each temporary has its slot, and no instruction was visited.
+fn new_scan(alloc: Global, f: &Func<TempInsn>) -> Result<Scan, AllocError>
     ensures none { IfOk result (λ s. (r : ℕ) → held_in s.bins.items r ≡ None) }
-    ensures temps { IfOk result (λ s. s.temps ≡ temps) }
+    ensures temps { IfOk result (λ s. s.temps ≡ f.now.temps) }
 {
+    let temps = f.temps;
+    let fixed = FixedUses::of(alloc, f.blocks.as_slice())?;
     let mut bins = Vec::new(alloc);
     bins.resize(GIVEN as usize, None)?;
     let relied = BitSet::new(alloc, temps)?;
@@ -44,6 +47,7 @@ fn new_scan(alloc: Global, temps: u32) -> Result<Scan, AllocError>
         bins,
         made: Vec::new(alloc),
         relied,
+        fixed,
     })
 }
 
@@ -78,7 +82,7 @@ pub(crate) fn scan_blocks(
     ensures { IfOk result (λ p. (bins : Bins)
         × ScansBlocks f.now.temps lives.now f.now.blocks tops.now (length f.now.blocks) p.maps p.lists bins) }
 {
-    let mut scan = new_scan(alloc, f.temps)?;
+    let mut scan = new_scan(alloc, f)?;
     let mut maps = Maps {
         top: Seq::new(alloc),
         bottom: Seq::new(alloc),

@@ -1,4 +1,3 @@
-pub mod Plain
 pub mod Widths
 pub mod Selected
 pub mod Tested

@@ -1,6 +1,7 @@
 //! Checks the tables of the folder `data/`, of whole calls of the compiler: each row says what a call is given and what
 //! is due. Then it runs each example of that folder, a C file on the input with its name, as `msc run` does, by its
-//! image, and as `msc vm` does, by its code over virtual registers, and prints how it ended and what it put.
+//! image as each allocator has it, and as `msc vm` does, by its code over virtual registers, and prints how it ended and
+//! what it put.
 //!
 //! The form of the tables is described in `docs/rows.md`, and that of each kind of row at the head of its file.
 #![tactic(auto)]

@@ -4,7 +4,7 @@ use Rattle.std.specs.List.{list_all}
 use Rattle.std.specs.Option.{option_map_or}
 use Rattle.clap.specs.Words.{Row}
 use Rattle.call_words.specs.declared.compile_options.Allocator.{Allocator}
-use Rattle.call_words.specs.declared.compile_options.Allocator.TheVariants.{Plain}
+use Rattle.call_words.specs.declared.compile_options.Allocator.TheVariants.{Binpack, Plain}
 use Rattle.call_words.specs.declared.compile_options.Generation.{Generation}
 use Rattle.call_words.specs.declared.compile_options.MachineLimits.{MachineLimits}
 use Rattle.call_words.specs.declared.compile_options.Options.{Options}
@@ -24,13 +24,22 @@ gives_none names rows = list_all (λ name. not (is_some (option_in name rows))) 
 abbrev pub unless_given : {A : Type 0} → List OptionName → List Row → Option A → Option A
 unless_given names rows asked = if gives_none names rows then asked else None
 
+-- the allocator of a compile that does not ask for one
+abbrev pub default_allocator : Allocator
+default_allocator = Binpack
+
 -- the allocator, the pass, the stack and the budget of the words
 abbrev pub allocator_at : List ℕ → Option Allocator
-allocator_at word = if bytes_eq word (codes "plain") then Some Plain else None
+allocator_at word =
+    if bytes_eq word (codes "binpack") then Some Binpack
+    else if bytes_eq word (codes "plain") then Some Plain
+    else None
+
+abbrev pub allocator_in : List Row → Option Allocator
+allocator_in rows = option_map_or allocator_at (option_in Alloc rows) (Some default_allocator)
 
 abbrev pub options_in : List Row → Option Options
-options_in rows =
-    option_map (λ a. record { allocator = a }) (option_map_or allocator_at (option_in Alloc rows) (Some Plain))
+options_in rows = option_map (λ a. record { allocator = a }) (allocator_in rows)
 
 abbrev pub pass_at : List ℕ → Option PassName
 pass_at word =

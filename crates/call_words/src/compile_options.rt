@@ -5,6 +5,8 @@
 pub enum Allocator {
     /// Each value has a slot of its own in the frame of its function.
     Plain,
+    /// Values share registers, which one scan of their function with second chances gives them.
+    Binpack,
 }
 
 /// What a compile is asked for.

@@ -40,19 +40,27 @@ fn allocator_at(word: &str) -> Option<Allocator>
     ensures { result ≡ spec.allocator_at word.now }
 {
     match word {
+        "binpack" => Some(Allocator::Binpack),
         "plain" => Some(Allocator::Plain),
         _ => None,
     }
 }
 
-/// The options of a compile: the default allocator is `plain`.
+/// The allocator of a compile: the default one is `binpack`.
+fn allocator_in(matches: &ArgMatches<'_>) -> Option<Allocator>
+    ensures { result ≡ spec.allocator_in (rows_of (found_of matches.now)) }
+{
+    match option_in(OptionName::Alloc, matches) {
+        None => Some(Allocator::Binpack),
+        Some(word) => allocator_at(word),
+    }
+}
+
+/// The options of a compile.
 pub(crate) fn options_in(matches: &ArgMatches<'_>) -> Option<Options>
     ensures { result ≡ spec.options_in (rows_of (found_of matches.now)) }
 {
-    let allocator = match option_in(OptionName::Alloc, matches) {
-        None => Allocator::Plain,
-        Some(word) => allocator_at(word)?,
-    };
+    let allocator = allocator_in(matches)?;
     Some(Options { allocator })
 }
 

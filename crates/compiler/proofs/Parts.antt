@@ -24,7 +24,6 @@ use Rattle.alloc_rules.proofs.Allocations.{are_allocations}
 use Rattle.alloc_plain.specs.Plain.{IsPlainAllocationOf}
 use Rattle.alloc_layouts.specs.Layouts.{IsAssemblyBy}
 use Rattle.call_words.specs.declared.compile_options.Allocator.{Allocator}
-use Rattle.call_words.specs.declared.compile_options.Allocator.TheVariants.{Plain}
 use Rattle.compiler_front_end.specs.Units.{IsUnitWithin}
 use Rattle.compiler_theorem.specs.Correct.{IsCorrectImage}
 use Rattle.compiler.specs.declared.built.AssemblyParts.{AssemblyParts}
@@ -59,9 +58,6 @@ lowered_unit keep u vm light functions globals weights size =
     }
 
 -- ---- the assembly
-
-pub chosen : {E : Type 0} (allocator : Allocator) (temps : TempProgram) (wanted : WantedParts) (r : Result AssemblyParts E) → IfOk r (AreAssemblyPartsOf IsPlainAllocationOf temps wanted) → IfOk r (AreAssemblyPartsOf (gives allocator) temps wanted)
-chosen Plain temps wanted r h = h
 
 -- a vector of allocations
 abbrev vec_of : Global → (allocations : List Allocation) → length allocations < 2 ^ 31 → Vec Allocation

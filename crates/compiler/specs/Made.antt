@@ -16,12 +16,12 @@ use Rattle.temp_ir.specs.Programs.{TempFn}
 use Rattle.selection_laws.specs.Laws.{SelectionKeeps}
 use Rattle.block_passes.specs.Clauses.{IsReached, IsSplit}
 use Rattle.alloc_model.specs.declared.allocation.Allocation.{Allocation}
-use Rattle.alloc_rules.specs.Allocations.{AreAllocationsOf}
+use Rattle.alloc_rules.specs.Allocations.{IsAllocationOf, AreAllocationsOf}
 use Rattle.alloc_plain.specs.Plain.{IsPlainAllocationOf}
 use Rattle.image_assembly.specs.Programs.{IsAllocated}
 use Rattle.image_assembly_laws.specs.ProgramAssembly.{program_assembly}
 use Rattle.call_words.specs.declared.compile_options.Allocator.{Allocator}
-use Rattle.call_words.specs.declared.compile_options.Allocator.TheVariants.{Plain}
+use Rattle.call_words.specs.declared.compile_options.Allocator.TheVariants.{Plain, Binpack}
 use Rattle.compiler_front_end.specs.Units.{IsUnitWithin}
 use Rattle.compiler.specs.declared.built.Built.{Built}
 
@@ -30,9 +30,11 @@ pub record IsCalledAs (f : VmFunction) (g : TempFn) : Type 0 where
   pub name : g.name ≡ f.name
   pub params : g.params ≡ f.params
 
--- what an allocator gives for a function
+-- what an allocator gives for a function: `binpack` an allocation of it, of which no more is said, and `plain` the one
+-- in which every temporary lives in its slot
 abbrev pub gives : Allocator → TempFn → Allocation → Type 0
 gives Plain = IsPlainAllocationOf
+gives Binpack = IsAllocationOf
 
 -- the allocations are those of an allocator
 abbrev pub AllocatesBy : Allocator → List TempFn → List Allocation → Type 0
@@ -60,7 +62,8 @@ pub record Made (text : List ℕ) (allocator : Allocator) (b : Built) : Type 0 w
   -- what the passes over its blocks are for
   pub reached : All IsReached b.temps.functions
   pub split : All IsSplit b.temps.functions
-  -- a faithful allocation of each function, in a frame that fits the room of the typed unit's function
+  -- an allocation of each function, which is faithful and lean and has its journal, as this allocator gives it, in a
+  -- frame that fits the room of the typed unit's function
   pub allocations : AreAllocationsOf b.temps.functions b.allocations.items
   pub by : AllocatesBy allocator b.temps.functions b.allocations.items
   pub allocated : IsAllocated b.temps b.allocations.items (rooms_of b.typed.unit)

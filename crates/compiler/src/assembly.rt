@@ -11,6 +11,7 @@ use alloc_model::allocation::Allocation;
 use alloc_plain::PlainAllocator;
 use alloc_rules::{Allocates, allocate};
 use alpha_items::asm::Asm;
+use binpack_scan::BinpackAllocator;
 use call_words::compile_options::Allocator;
 use image_assembly::{gather, lay_out};
 use image_assembly_laws::allocation_laws::laws::layout_keeps_count;
@@ -30,6 +31,7 @@ pub(crate) fn assemble_by_choice(
 {
     match allocator {
         Allocator::Plain => assemble_by(alloc, &PlainAllocator, temps, wanted),
+        Allocator::Binpack => assemble_by(alloc, &BinpackAllocator, temps, wanted),
     }
 }
 

@@ -5,6 +5,7 @@
 #![tactic(auto)]
 
 mod allocations;
+pub mod callee_saved_rows;
 mod kind;
 mod program;
 mod runs;

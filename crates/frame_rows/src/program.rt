@@ -4,12 +4,12 @@ ghost use Rattle.std.specs.Prelude.{IfOk};
 ghost use Rattle.alloc_model.specs.Places.{plan_of};
 ghost use Rattle.alloc_model.specs.Faithful.{Faithful};
 
+use crate::callee_saved_rows::{KeptRegister, kept_over_call};
 use alloc_model::allocation::Allocation;
 use alloc_plain::plain;
 use alpha_items::final_fn::FinalFn;
 use anyhow::{Context, Result, bail, ensure};
 use bk_containers::{Name, Seq};
-use callee_saved_rows::{KeptRegister, kept_over_call};
 use frame_checks::can_be_laid_out;
 use frame_layout::finalise;
 use mem_objects::{DataObject, MOST_DATA, data_end, next_place};

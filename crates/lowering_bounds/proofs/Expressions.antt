@@ -39,6 +39,7 @@ use Rattle.lowering_code.specs.Items.{block_total}
 use Rattle.lowering_code.specs.Registers.{object_index}
 use Rattle.lowering_code.specs.Functions.{objects_of}
 use Rattle.lowering_code.specs.Expressions as code
+use Rattle.lowering_code.proofs.Pieces.{Carried}
 use Rattle.lowering_layout.specs.Tops.{registers_top}
 use Rattle.c_typing_struct_layout.proofs.CLayoutLaws.Truth.{no_true, front, back}
 use Rattle.lowering_bounds.specs.model.Costs.{items_cost}
@@ -72,11 +73,14 @@ module _ (most : ℕ) (fs : List VmFunction) (c : Context) (structs : All (IsLaw
   abbrev L : ℕ
   L = length c.locals
 
+  abbrev pub K : Carried
+  K = m.carried most fs c.globals os
+
   abbrev pub E : (k : ℕ) → (rest is : List CodeItem) → Type 0
   E j rest is = m.Emits most fs c.globals os j rest is
 
   abbrev pub Has : (d k : ℕ) → Type 0
-  Has d j = m.Has most fs c.globals os L d j
+  Has d j = m.Has most L d j
 
   -- what comes back of the weight pays for the edges of what the value decides
   pub record Spends (w : ℕ) (rest is : List CodeItem) : Type 0 where
@@ -161,9 +165,9 @@ module _ (most : ℕ) (fs : List VmFunction) (c : Context) (structs : All (IsLaw
   local_emits d ty j rest t h = by (code.register_if L c.structs c.locals j (slice_get c.locals j)) refl
     where
       by : (r : Option ℕ) → code.register_if L c.structs c.locals j (slice_get c.locals j) ≡ r → E 264 rest (code.local_code L c.structs c.locals d ty j r rest)
-      by (Some r) is = m.at_most most fs c.globals os 24 264 rest _ (omega arith) (m.move_emits most fs c.globals os ty _ _ rest (m.value_there most fs c.globals os L d ty h) (omega (arith, register_small j r (slice_get c.locals j) refl is, h)))
+      by (Some r) is = m.at_most most fs c.globals os 24 264 rest _ (omega arith) (m.move_emits K ty _ _ rest (m.value_there most L d ty h) (omega (arith, register_small j r (slice_get c.locals j) refl is, h)))
       by None is = m.joins most fs c.globals os 24 240 rest _ _ (m.address_emits most fs c.globals os L d (p.Local (object_index c.locals j)) 0 _ h
-          (memory_there j 0 ty (slice_get c.locals j) refl (place_memory c lawful (e.Local ty j) t refl is) (local_typed ty j t) (omega arith))) (m.value_load_emits most fs c.globals os L d ty 0 rest h)
+          (memory_there j 0 ty (slice_get c.locals j) refl (place_memory c lawful (e.Local ty j) t refl is) (local_typed ty j t) (omega arith))) (m.value_load_emits K L d ty 0 rest h)
 
   global_emits : (d plus : ℕ) (ty : PlainType) (j : ℕ) (rest : List CodeItem) → T (Global ty j) → plus ≤ size_of c.structs ty → Has d 1 → E 24 rest (code.address_code L d (p.Global j) plus rest)
   global_emits d plus ty j rest t small h =
@@ -174,7 +178,7 @@ module _ (most : ℕ) (fs : List VmFunction) (c : Context) (structs : All (IsLaw
   arguments_below : (d : ℕ) (xs : Exprs) → Has d (depths_above xs) → registers_top (code.call_registers L c.structs c.locals d xs) ≤ most
   arguments_below d no_exprs h = omega arith
   arguments_below d (more_exprs x xs) h =
-      omega (arith, arguments_below (suc d) xs (omega (arith, h)), m.value_there most fs c.globals os L d (type_of x) (omega (arith, h, own_depth x)))
+      omega (arith, arguments_below (suc d) xs (omega (arith, h)), m.value_there most L d (type_of x) (omega (arith, h, own_depth x)))
 
   pub arguments_length : (d : ℕ) (xs : Exprs) → length (code.call_registers L c.structs c.locals d xs) ≡ exprs_count xs
   arguments_length d no_exprs = refl
@@ -182,10 +186,10 @@ module _ (most : ℕ) (fs : List VmFunction) (c : Context) (structs : All (IsLaw
 
   destination_below : (d : ℕ) (ty : PlainType) → Has d 1 → registers_top (named_register (code.destination_of L c.structs c.locals d ty)) ≤ most
   destination_below d Void h = omega arith
-  destination_below d (Int bytes signed) h = omega (arith, m.value_there most fs c.globals os L d (Int bytes signed) h)
-  destination_below d (Pointer target) h = omega (arith, m.value_there most fs c.globals os L d (Pointer target) h)
-  destination_below d (Array element length) h = omega (arith, m.value_there most fs c.globals os L d (Array element length) h)
-  destination_below d (Struct number) h = omega (arith, m.value_there most fs c.globals os L d (Struct number) h)
+  destination_below d (Int bytes signed) h = omega (arith, m.value_there most L d (Int bytes signed) h)
+  destination_below d (Pointer target) h = omega (arith, m.value_there most L d (Pointer target) h)
+  destination_below d (Array element length) h = omega (arith, m.value_there most L d (Array element length) h)
+  destination_below d (Struct number) h = omega (arith, m.value_there most L d (Struct number) h)
 
   abbrev Takes : Callee → ℕ → Type 0
   Takes callee j = IsTrue (callee_takes fs j (code.vm_callee callee))
@@ -239,8 +243,8 @@ module _ (most : ℕ) (fs : List VmFunction) (c : Context) (structs : All (IsLaw
       let last : List CodeItem = code.constant_code L d ty other (Jump (block_total rest) ∷ fails) in
       let second : List CodeItem = code.branch_by_value_code L op d ty' (block_total fails) last in
       let first : List CodeItem = code.branch_by_value_code L op d tx (block_total fails) (fy second) in
-      let f : E 680 rest fails = m.joins most fs c.globals os 144 536 rest (Start ∷ rest) fails (m.constant_emits most fs c.globals os L d ty word (Start ∷ rest) h) (m.start most fs c.globals os rest) in
-      let g : E 1384 rest last = m.joins most fs c.globals os 144 1240 rest (Jump (block_total rest) ∷ fails) last (m.constant_emits most fs c.globals os L d ty other (Jump (block_total rest) ∷ fails) h)
+      let f : E 680 rest fails = m.joins most fs c.globals os 144 536 rest (Start ∷ rest) fails (m.constant_emits K L d ty word (Start ∷ rest) h) (m.start most fs c.globals os rest) in
+      let g : E 1384 rest last = m.joins most fs c.globals os 144 1240 rest (Jump (block_total rest) ∷ fails) last (m.constant_emits K L d ty other (Jump (block_total rest) ∷ fails) h)
       (m.joins most fs c.globals os 560 680 rest fails (Jump (block_total rest) ∷ fails) (m.jump most fs c.globals os (block_total rest) fails) f) in
       let b : E 2480 rest second = m.joins most fs c.globals os 1096 1384 rest last second (m.branch_emits most fs c.globals os L op d ty' (block_total fails) last h) g in
       let x : E 1096 (fy second) first = m.branch_emits most fs c.globals os L op d tx (block_total fails) (fy second) h in
@@ -287,8 +291,8 @@ module _ (most : ℕ) (fs : List VmFunction) (c : Context) (structs : All (IsLaw
     where
       by : (r : Option ℕ) → register_of x ≡ r
           → Spends (1 + w) rest (code.change_code L c.structs c.locals r (λ q. code.step_register_code L c.structs op postfix d ty q rest) (placed d x (code.step_memory_code L c.structs op postfix d (plus x) ty rest)))
-      by (Some r) is = only 616 (1 + w) rest _ (omega (arith, some)) (m.step_register_emits most fs c.globals os L c.structs op postfix d ty r rest h (omega (arith, place_register x r is, h)))
-      by None is = behind 976 w rest _ _ (omega arith) (ex is _) (m.step_memory_emits most fs c.globals os L c.structs op postfix d (plus x) ty rest h)
+      by (Some r) is = only 616 (1 + w) rest _ (omega (arith, some)) (m.step_register_emits K L c.structs op postfix d ty r rest h (omega (arith, place_register x r is, h)))
+      by None is = behind 976 w rest _ _ (omega arith) (ex is _) (m.step_memory_emits K L c.structs op postfix d (plus x) ty rest h)
 
   abbrev bytes_of : PlainType → ℕ
   bytes_of ty = m.struct_bytes most fs c.globals os L c.structs ty
@@ -327,20 +331,20 @@ module _ (most : ℕ) (fs : List VmFunction) (c : Context) (structs : All (IsLaw
           → Spends (1 + (paid + (v + w))) rest (code.assign_code L c.structs c.locals d o ty right (plus x) r (λ is. placed d x is) value rest)
       by None (Some r) pay is =
           more (1 + w) (1 + (paid + (v + w))) rest _ (omega arith)
-          (behind 24 w rest _ _ (omega arith) (low _) (m.move_emits most fs c.globals os ty _ _ rest (omega (arith, place_register x r is, h)) (m.value_there most fs c.globals os L d ty (omega (arith, h)))))
+          (behind 24 w rest _ _ (omega arith) (low _) (m.move_emits K ty _ _ rest (omega (arith, place_register x r is, h)) (m.value_there most L d ty (omega (arith, h)))))
       by (Some o) (Some r) pay is =
           more (1 + w) (1 + (paid + (v + w))) rest _ (omega arith)
           (behind 448 w rest _ _ (omega arith) (high _)
-          (m.joins most fs c.globals os 24 424 rest _ _ (m.move_emits most fs c.globals os ty _ _ _ (m.value_there most fs c.globals os L d ty (omega (arith, h))) (omega (arith, place_register x r is, h)))
-          (m.joins most fs c.globals os 400 24 rest _ _ (m.combine_emits most fs c.globals os L c.structs o d (suc d) (suc (suc d)) ty right _ (omega (arith, h)) (omega (arith, h)) (omega (arith, h)))
-          (m.move_emits most fs c.globals os ty _ _ rest (omega (arith, place_register x r is, h)) (m.value_there most fs c.globals os L d ty (omega (arith, h)))))))
+          (m.joins most fs c.globals os 24 424 rest _ _ (m.move_emits K ty _ _ _ (m.value_there most L d ty (omega (arith, h))) (omega (arith, place_register x r is, h)))
+          (m.joins most fs c.globals os 400 24 rest _ _ (m.combine_emits K L c.structs o d (suc d) (suc (suc d)) ty right _ (omega (arith, h)) (omega (arith, h)) (omega (arith, h)))
+          (m.move_emits K ty _ _ rest (omega (arith, place_register x r is, h)) (m.value_there most L d ty (omega (arith, h)))))))
       by None None pay is =
           let set : List CodeItem = code.set_memory_code L c.structs d (plus x) ty rest in
           let valued : List CodeItem = value (suc d) set in
           let moved : List CodeItem = code.place_moved_code L ty d (plus x) valued in
           let s = m.set_memory_emits most fs c.globals os L c.structs whole_structs d (plus x) ty rest (omega (arith, h)) in
           let y : Spends w set valued = high set in
-          let g : E 240 valued moved = m.place_moved_emits most fs c.globals os L c.structs ty d (plus x) valued (omega (arith, h)) in
+          let g : E 240 valued moved = m.place_moved_emits K L c.structs ty d (plus x) valued (omega (arith, h)) in
           let z : Spends v moved (placed d x moved) = ex is moved in
           record {
             fits = λ f. z.fits (g.fits (y.fits (s.fits f)));
@@ -350,18 +354,18 @@ module _ (most : ℕ) (fs : List VmFunction) (c : Context) (structs : All (IsLaw
           }
       by (Some o) None pay is =
           more (1 + (v + w)) (1 + (paid + (v + w))) rest _ (omega arith)
-          (behind_two 808 v w rest _ _ _ (omega arith) (ex is _) (high _) (m.combine_memory_emits most fs c.globals os L c.structs o d (plus x) ty right rest (omega (arith, h))))
+          (behind_two 808 v w rest _ _ _ (omega arith) (ex is _) (high _) (m.combine_memory_emits K L c.structs o d (plus x) ty right rest (omega (arith, h))))
 
   -- ---- conversions
 
   conversion_spends : (d : ℕ) (from to : PlainType) (by_bytes w : ℕ) (place value : List CodeItem → List CodeItem)
       → ((element : PlainType) (length : ℕ) → from ≡ Array element length → (is : List CodeItem) → Spends w is (place is)) → ((is : List CodeItem) → Spends w is (value is))
       → (rest : List CodeItem) → Has d 1 → Spends (1 + w) rest (code.conversion_code L c.structs c.locals d from to by_bytes place value rest)
-  conversion_spends d (Array element length) to j w place value ep ev rest h = behind 240 w rest _ _ (omega arith) (ep element length refl _) (m.moved_emits most fs c.globals os L d j rest h)
-  conversion_spends d Void to j w place value ep ev rest h = behind 24 w rest _ _ (omega arith) (ev _) (m.converted_emits most fs c.globals os L d Void to rest h)
-  conversion_spends d (Int bytes signed) to j w place value ep ev rest h = behind 24 w rest _ _ (omega arith) (ev _) (m.converted_emits most fs c.globals os L d (Int bytes signed) to rest h)
-  conversion_spends d (Pointer target) to j w place value ep ev rest h = behind 24 w rest _ _ (omega arith) (ev _) (m.converted_emits most fs c.globals os L d (Pointer target) to rest h)
-  conversion_spends d (Struct number) to j w place value ep ev rest h = behind 24 w rest _ _ (omega arith) (ev _) (m.converted_emits most fs c.globals os L d (Struct number) to rest h)
+  conversion_spends d (Array element length) to j w place value ep ev rest h = behind 240 w rest _ _ (omega arith) (ep element length refl _) (m.moved_emits K L d j rest h)
+  conversion_spends d Void to j w place value ep ev rest h = behind 24 w rest _ _ (omega arith) (ev _) (m.converted_emits K L d Void to rest h)
+  conversion_spends d (Int bytes signed) to j w place value ep ev rest h = behind 24 w rest _ _ (omega arith) (ev _) (m.converted_emits K L d (Int bytes signed) to rest h)
+  conversion_spends d (Pointer target) to j w place value ep ev rest h = behind 24 w rest _ _ (omega arith) (ev _) (m.converted_emits K L d (Pointer target) to rest h)
+  conversion_spends d (Struct number) to j w place value ep ev rest h = behind 24 w rest _ _ (omega arith) (ev _) (m.converted_emits K L d (Struct number) to rest h)
 
   -- ---- all forms
 
@@ -373,7 +377,7 @@ module _ (most : ℕ) (fs : List VmFunction) (c : Context) (structs : All (IsLaw
 
   infix_spends : (op : BinaryOp) (d : ℕ) (ty : PlainType) (x y : Expr) → ((is : List CodeItem) → Spends (W x) is (xcode d x is)) → ((is : List CodeItem) → Spends (W y) is (xcode (suc d) y is))
       → (rest : List CodeItem) → Has d 3 → Spends (1 + (W x + W y)) rest (xcode d x (xcode (suc d) y (code.binary_code L c.structs op d ty (type_of x) (type_of y) rest)))
-  infix_spends op d ty x y ex ey rest h = behind_two 592 (W x) (W y) rest _ _ _ (omega arith) (ex _) (ey _) (m.binary_emits most fs c.globals os L c.structs op d ty (type_of x) (type_of y) rest h)
+  infix_spends op d ty x y ex ey rest h = behind_two 592 (W x) (W y) rest _ _ _ (omega arith) (ex _) (ey _) (m.binary_emits K L c.structs op d ty (type_of x) (type_of y) rest h)
 
   commas_paid : (j w : ℕ) (rest is : List CodeItem) → 0 < j → SpendsAll j w rest is → Spends (j - 1 + w) rest is
   commas_paid j w rest is some a = record { fits = a.fits; cost = omega (arith, some, a.cost); some = omega (arith, some, a.each); wide = λ n h. a.wide n (omega (arith, h)) }
@@ -412,19 +416,19 @@ module _ (most : ℕ) (fs : List VmFunction) (c : Context) (structs : All (IsLaw
     unfolding expr_weight
 
     pub expr_spends : (d : ℕ) (x : Expr) (rest : List CodeItem) → T x → Has d (depths x) → Spends (W x) rest (xcode d x rest)
-    expr_spends d (Number ty word) rest t h = only 144 1 rest _ (omega arith) (m.constant_emits most fs c.globals os L d ty word rest (omega (arith, h)))
+    expr_spends d (Number ty word) rest t h = only 144 1 rest _ (omega arith) (m.constant_emits K L d ty word rest (omega (arith, h)))
     expr_spends d (e.Local ty j) rest t h = only 264 1 rest _ (omega arith) (local_emits d ty j rest t (omega (arith, h)))
     expr_spends d (Global ty j) rest t h =
         only 264 1 rest _ (omega arith)
-        (m.joins most fs c.globals os 24 240 rest _ _ (global_emits d 0 ty j _ t (omega arith) (omega (arith, h))) (m.value_load_emits most fs c.globals os L d ty 0 rest (omega (arith, h))))
+        (m.joins most fs c.globals os 24 240 rest _ _ (global_emits d 0 ty j _ t (omega arith) (omega (arith, h))) (m.value_load_emits K L d ty 0 rest (omega (arith, h))))
     expr_spends d (Call ty callee xs) rest t h =
         let o = one (is_fit c.structs ty) (has_rule c (Call ty callee xs)) (are_typed c xs) t in
         call_spends (exprs_count xs) (exprs_weight c.structs xs) rest _ _ (exprs_spend d xs _ o.1 (omega (arith, h))) (call_emits d ty callee xs rest o.0 (omega (arith, h)) (omega (arith, h)))
     expr_spends d (Unary ty u.Address x) rest t h =
         let o = unary_parts ty u.Address x t in
-        behind 240 (W x) rest _ _ (omega arith) (place_spends d x 0 _ o.1 (back (is_same_type ty (Pointer (type_of x))) (is_in_memory c.locals x) o.0) (omega arith) (omega (arith, h))) (m.moved_emits most fs c.globals os L d (plus x) rest (omega (arith, h)))
+        behind 240 (W x) rest _ _ (omega arith) (place_spends d x 0 _ o.1 (back (is_same_type ty (Pointer (type_of x))) (is_in_memory c.locals x) o.0) (omega arith) (omega (arith, h))) (m.moved_emits K L d (plus x) rest (omega (arith, h)))
     expr_spends d (Unary ty u.Dereference x) rest t h =
-        behind 240 (W x) rest _ _ (omega arith) (expr_spends d x _ ((unary_parts ty u.Dereference x t).1) (omega (arith, h))) (m.value_load_emits most fs c.globals os L d ty 0 rest (omega (arith, h)))
+        behind 240 (W x) rest _ _ (omega arith) (expr_spends d x _ ((unary_parts ty u.Dereference x t).1) (omega (arith, h))) (m.value_load_emits K L d ty 0 rest (omega (arith, h)))
     expr_spends d (Unary ty u.Increment x) rest t h =
         let o = unary_parts ty u.Increment x t in
         changed_spends s.Increment false d ty x (W x) (positive c x o.1) (λ none is. place_spends d x 0 is o.1 (place_memory c lawful x o.1 (step_place ty x o.0) none) (omega arith) (omega (arith, h))) rest (omega (arith, h))
@@ -432,12 +436,12 @@ module _ (most : ℕ) (fs : List VmFunction) (c : Context) (structs : All (IsLaw
         let o = unary_parts ty u.Decrement x t in
         changed_spends s.Decrement false d ty x (W x) (positive c x o.1) (λ none is. place_spends d x 0 is o.1 (place_memory c lawful x o.1 (step_place ty x o.0) none) (omega arith) (omega (arith, h))) rest (omega (arith, h))
     expr_spends d (Unary ty u.Not x) rest t h =
-        behind 240 (W x) rest _ _ (omega arith) (expr_spends d x _ ((unary_parts ty u.Not x t).1) (omega (arith, h))) (m.not_emits most fs c.globals os L d ty (type_of x) rest (omega (arith, h)))
+        behind 240 (W x) rest _ _ (omega arith) (expr_spends d x _ ((unary_parts ty u.Not x t).1) (omega (arith, h))) (m.not_emits K L d ty (type_of x) rest (omega (arith, h)))
     expr_spends d (Unary ty u.Plus x) rest t h = more (W x) (1 + W x) rest _ (omega arith) (expr_spends d x rest ((unary_parts ty u.Plus x t).1) (omega (arith, h)))
     expr_spends d (Unary ty u.Minus x) rest t h =
-        behind 24 (W x) rest _ _ (omega arith) (expr_spends d x _ ((unary_parts ty u.Minus x t).1) (omega (arith, h))) (m.unary_emits most fs c.globals os L Negate d ty rest (omega (arith, h)))
+        behind 24 (W x) rest _ _ (omega arith) (expr_spends d x _ ((unary_parts ty u.Minus x t).1) (omega (arith, h))) (m.unary_emits K L Negate d ty rest (omega (arith, h)))
     expr_spends d (Unary ty u.Invert x) rest t h =
-        behind 24 (W x) rest _ _ (omega arith) (expr_spends d x _ ((unary_parts ty u.Invert x t).1) (omega (arith, h))) (m.unary_emits most fs c.globals os L Complement d ty rest (omega (arith, h)))
+        behind 24 (W x) rest _ _ (omega arith) (expr_spends d x _ ((unary_parts ty u.Invert x t).1) (omega (arith, h))) (m.unary_emits K L Complement d ty rest (omega (arith, h)))
     expr_spends d (Binary ty b.LogicalAnd x y) rest t h =
         let o = binary_parts ty b.LogicalAnd x y t in
         decides_spends IfFalse d ty (type_of x) (type_of y) 0 1 (W x) (W y) (λ is. xcode d x is) (λ is. xcode d y is) (λ is. expr_spends d x is o.1 (omega (arith, h))) (λ is. expr_spends d y is o.2 (omega (arith, h))) rest (omega (arith, h))
@@ -480,15 +484,15 @@ module _ (most : ℕ) (fs : List VmFunction) (c : Context) (structs : All (IsLaw
     expr_spends d (Index ty x y) rest t h =
         let o = index_parts ty x y t in
         behind_two 624 (W x) (W y) rest _ _ _ (omega arith) (expr_spends d x _ o.1 (omega (arith, h))) (expr_spends (suc d) y _ o.2 (omega (arith, h)))
-        (m.joins most fs c.globals os 384 240 rest _ _ (m.element_emits most fs c.globals os L c.structs d (type_of x) (type_of y) _ (omega (arith, h))) (m.value_load_emits most fs c.globals os L d ty 0 rest (omega (arith, h))))
+        (m.joins most fs c.globals os 384 240 rest _ _ (m.element_emits K L c.structs d (type_of x) (type_of y) _ (omega (arith, h))) (m.value_load_emits K L d ty 0 rest (omega (arith, h))))
     expr_spends d (Field ty x j) rest t h =
         let o = field_parts ty x j t in
         behind 240 (W x) rest _ _ (omega arith)
         (place_spends d x (code.member_plus c.structs (type_of x) j 0) _ o.1 (is_struct_place ty x j o.1 o.0)
         (member_fits c structs ty (type_of x) j 0 (back (is_place x) (is_member c.structs ty (type_of x) j) o.0) (omega arith)) (omega (arith, h)))
-        (m.value_load_emits most fs c.globals os L d ty (code.plus_of L c.structs c.locals x (code.member_plus c.structs (type_of x) j 0)) rest (omega (arith, h)))
+        (m.value_load_emits K L d ty (code.plus_of L c.structs c.locals x (code.member_plus c.structs (type_of x) j 0)) rest (omega (arith, h)))
     expr_spends d (Arrow ty x j) rest t h =
-        behind 240 (W x) rest _ _ (omega arith) (expr_spends d x _ ((arrow_parts ty x j t).1) (omega (arith, h))) (m.value_load_emits most fs c.globals os L d ty _ rest (omega (arith, h)))
+        behind 240 (W x) rest _ _ (omega arith) (expr_spends d x _ ((arrow_parts ty x j t).1) (omega (arith, h))) (m.value_load_emits K L d ty _ rest (omega (arith, h)))
     expr_spends d (Postfix ty op x) rest t h =
         let o = one (is_fit c.structs ty) (has_step_type c.structs ty (type_of x) && is_place x) (is_typed c x) t in
         changed_spends op true d ty x (W x) (positive c x o.1) (λ none is. place_spends d x 0 is o.1 (place_memory c lawful x o.1 (step_place ty x o.0) none) (omega arith) (omega (arith, h))) rest (omega (arith, h))
@@ -504,7 +508,7 @@ module _ (most : ℕ) (fs : List VmFunction) (c : Context) (structs : All (IsLaw
     place_spends d (Unary ty u.Dereference x) q rest t memory small h = more (W x) (1 + W x) rest _ (omega arith) (expr_spends d x rest ((unary_parts ty u.Dereference x t).1) (omega (arith, h)))
     place_spends d (Index ty x y) q rest t memory small h =
         let o = index_parts ty x y t in
-        behind_two 384 (W x) (W y) rest _ _ _ (omega arith) (expr_spends d x _ o.1 (omega (arith, h))) (expr_spends (suc d) y _ o.2 (omega (arith, h))) (m.element_emits most fs c.globals os L c.structs d (type_of x) (type_of y) rest (omega (arith, h)))
+        behind_two 384 (W x) (W y) rest _ _ _ (omega arith) (expr_spends d x _ o.1 (omega (arith, h))) (expr_spends (suc d) y _ o.2 (omega (arith, h))) (m.element_emits K L c.structs d (type_of x) (type_of y) rest (omega (arith, h)))
     place_spends d (Field ty x j) q rest t memory small h =
         let o = field_parts ty x j t in
         more (W x) (1 + W x) rest _ (omega arith)

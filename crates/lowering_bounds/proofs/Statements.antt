@@ -33,6 +33,7 @@ use Rattle.lowering_code.specs.Expressions as x
 use Rattle.lowering_code.specs.Statements as code
 use Rattle.lowering_code.specs.Statements.{Target}
 use Rattle.lowering_code.specs.Functions as f
+use Rattle.lowering_code.proofs.Pieces.{Carried}
 use Rattle.c_typing_struct_layout.proofs.CLayoutLaws.Truth.{no_true, front, back}
 use Rattle.lowering_bounds.specs.Laws.{TakesArguments}
 use Rattle.lowering_bounds.specs.model.Depths.{depths, optional_depths, declared_depths, locals_depths, first_depths, stmt_depths, stmts_depths, sections_depths}
@@ -93,6 +94,9 @@ module _ (most : ℕ) (fs : List VmFunction) (c : Context) (structs : All (IsLaw
   abbrev os : List MemoryLocal
   os = f.objects_of c.structs c.locals
 
+  abbrev K : Carried
+  K = m.carried most fs c.globals os
+
   next : (j k i : ℕ) (rest mid is : List CodeItem) → j + k ≤ i → E j mid is → E k rest mid → E i rest is
   next j k i rest mid is le a b = m.at_most most fs c.globals os (j + k) i rest is le (m.joins most fs c.globals os j k rest mid is a b)
 
@@ -128,7 +132,7 @@ module _ (most : ℕ) (fs : List VmFunction) (c : Context) (structs : All (IsLaw
       → E 216 rest (x.address_code L 1 (p.Local (object_index c.locals j)) 0 (x.store_code ty (address_register L 1) 0 (value_register L 0 ty) rest))
   put_scalar ty j rest there h =
       m.joins most fs c.globals os 24 192 rest _ _ (m.address_emits most fs c.globals os L 1 (p.Local (object_index c.locals j)) 0 _ (omega (arith, h)) there)
-      (m.store_emits most fs c.globals os ty _ 0 _ rest (m.address_there most fs c.globals os L 1 (omega (arith, h))) (m.value_there most fs c.globals os L 0 ty (omega (arith, h))))
+      (m.store_emits K ty _ 0 _ rest (m.address_there most L 1 (omega (arith, h))) (m.value_there most L 0 ty (omega (arith, h))))
 
   put_emits : (ty : PlainType) (j : ℕ) (rest : List CodeItem) → There j → Has 0 2 → E (216 + 96 * bytes_of ty) rest (code.put_code L c.structs c.locals ty j rest)
   put_emits Void j rest there h = put_scalar Void j rest there h
@@ -138,7 +142,7 @@ module _ (most : ℕ) (fs : List VmFunction) (c : Context) (structs : All (IsLaw
   put_emits (Struct number) j rest there h =
       next 24 (24 + 96 * bytes_of (Struct number)) (216 + 96 * bytes_of (Struct number)) rest _ _ (omega arith)
       (m.address_emits most fs c.globals os L 1 (p.Local (object_index c.locals j)) 0 _ (omega (arith, h)) there)
-      (m.copy_emits most fs c.globals os c.structs _ _ (Struct number) rest (m.address_there most fs c.globals os L 1 (omega (arith, h))) (m.address_there most fs c.globals os L 0 (omega (arith, h))) (struct_whole c.structs structs number))
+      (m.copy_emits most fs c.globals os c.structs _ _ (Struct number) rest (m.address_there most L 1 (omega (arith, h))) (m.address_there most L 0 (omega (arith, h))) (struct_whole c.structs structs number))
 
   put_local_emits : (j : ℕ) (ty : PlainType) (o : Option Local) → slice_get c.locals j ≡ o → IsTrue (has_initialised_type o ty) → (rest : List CodeItem) → Has 0 2
       → E (216 + 96 * bytes_of ty) rest (code.put_local_code L c.structs c.locals j o rest)
@@ -153,7 +157,7 @@ module _ (most : ℕ) (fs : List VmFunction) (c : Context) (structs : All (IsLaw
           (put_emits (type_view l.ty) j rest (local_there c.structs c.locals j 0 l is e (omega arith) c.globals) h)
       by false e type =
           m.at_most most fs c.globals os 24 (216 + 96 * bytes_of ty) rest _ (omega arith)
-          (m.move_emits most fs c.globals os (type_view l.ty) j _ rest (omega (arith, slice_get_within c.locals j l is, h)) (m.value_there most fs c.globals os L 0 (type_view l.ty) (omega (arith, h))))
+          (m.move_emits K (type_view l.ty) j _ rest (omega (arith, slice_get_within c.locals j l is, h)) (m.value_there most L 0 (type_view l.ty) (omega (arith, h))))
 
   initialise_emits : (j : ℕ) (init : Option Expr) (rest : List CodeItem) → IsTrue (is_initialiser c (slice_get c.locals j) init) → Has 0 (optional_depths init)
       → E (2048 * init_weight c.structs init) rest (code.initialise_code L c.structs c.locals j init rest)
@@ -188,7 +192,7 @@ module _ (most : ℕ) (fs : List VmFunction) (c : Context) (structs : All (IsLaw
   again_emits y rest t h =
       let over : List CodeItem = Again (register_type (type_of y)) (value_register L 0 (type_of y)) ∷ rest in
       let s = value_spends y over (back (is_scalar (type_of y)) (is_typed c y) t) h in
-      record { fits = λ g. s.fits (m.value_there most fs c.globals os L 0 (type_of y) (omega (arith, h, own_depth y)), g); cost = omega (arith, s.cost); wide = λ z le r. s.wide z (omega (arith, le)) r }
+      record { fits = λ g. s.fits (m.value_there most L 0 (type_of y) (omega (arith, h, own_depth y)), g); cost = omega (arith, s.cost); wide = λ z le r. s.wide z (omega (arith, le)) r }
 
   test_emits : (condition : Option Expr) (rest : List CodeItem) → IsTrue (is_optional_condition c condition) → Has 0 (optional_depths condition) → E (560 + 2048 * optional_weight c.structs condition) rest (code.test_code L c.structs c.locals condition rest)
   test_emits None rest t h = record { fits = λ g. g; cost = omega arith; wide = λ z le r. r }
@@ -204,7 +208,7 @@ module _ (most : ℕ) (fs : List VmFunction) (c : Context) (structs : All (IsLaw
   return_emits result (Some y) rest t h =
       let o = triple (is_same_type (type_of y) result) (not (is_void result)) (is_typed c y) t in
       valued (W y) 48 _ rest _ _ (omega arith) (value_spends y _ o.2 (omega (arith, h)))
-      (m.give most fs c.globals os _ rest (omega (arith, m.value_there most fs c.globals os L 0 (type_of y) (omega (arith, h)))))
+      (m.give most fs c.globals os _ rest (omega (arith, m.value_there most L 0 (type_of y) (omega (arith, h)))))
 
   -- ---- loops, by what their parts emit
 
@@ -222,10 +226,10 @@ module _ (most : ℕ) (fs : List VmFunction) (c : Context) (structs : All (IsLaw
   label_emits : (ty : PlainType) (label : TLabel) (name : ℕ) (rest : List CodeItem) → Has 0 2 → E (1336 * label_weight label) rest (code.label_code L c.structs c.locals ty label name rest)
   label_emits ty Default name rest h = m.none most fs c.globals os rest
   label_emits ty (Case word) name rest h =
-      m.joins most fs c.globals os 144 1192 rest _ _ (m.constant_emits most fs c.globals os L 1 ty word _ (omega (arith, h)))
+      m.joins most fs c.globals os 144 1192 rest _ _ (m.constant_emits K L 1 ty word _ (omega (arith, h)))
       (m.joins most fs c.globals os 96 1096 rest _ _
       (m.plain most fs c.globals os 96 (n.Compare Equal (register_type ty) (temporary L 1 S32) (value_register L 0 ty) (value_register L 1 ty)) _ (omega arith) refl
-      (omega (arith, m.there most fs c.globals os L 1 S32 (omega (arith, h)), m.value_there most fs c.globals os L 0 ty (omega (arith, h)), m.value_there most fs c.globals os L 1 ty (omega (arith, h)))) refl)
+      (omega (arith, m.there most L 1 S32 (omega (arith, h)), m.value_there most L 0 ty (omega (arith, h)), m.value_there most L 1 ty (omega (arith, h)))) refl)
       (m.branch_emits most fs c.globals os L IfTrue 1 (Int 4 true) name rest (omega (arith, h))))
 
   abbrev labels_most : Sections → ℕ
@@ -359,7 +363,7 @@ module _ (most : ℕ) (fs : List VmFunction) (c : Context) (structs : All (IsLaw
           else f.parameters_code L c.structs c.locals (suc j) more rest)
       by true e =
           m.joins most fs c.globals os 24 192 _ _ _ (m.address_emits most fs c.globals os L 0 (p.Local (object_index c.locals j)) 0 _ h (local_there c.structs c.locals j 0 l here e (omega arith) c.globals))
-          (m.store_emits most fs c.globals os (type_view l.ty) _ 0 j _ (m.address_there most fs c.globals os L 0 h) (omega (arith, slice_get_within c.locals j l here, h)))
+          (m.store_emits K (type_view l.ty) _ 0 j _ (m.address_there most L 0 h) (omega (arith, slice_get_within c.locals j l here, h)))
       by false e = none 216 _
 
   pub body_emits : (result : PlainType) (params : ℕ) (s : Stmt) (more : List Local) → ((i : ℕ) (l : Local) → slice_get more i ≡ Some l → slice_get c.locals i ≡ Some l) → length more ≤ params

@@ -53,7 +53,7 @@ module _ (most locals : ℕ) (ds : List StructDef) (ls : List Local) (same : len
       → E 2 rest (x.address_code locals 1 (p.Local (object_index ls k)) 0 (x.store_code ty (address_register locals 1) 0 (value_register locals 0 ty) rest))
   put_scalar ty k rest h =
       m.joins most 1 1 rest _ _ (m.address_emits most locals 1 (p.Local (object_index ls k)) 0 _ (omega (arith, h)))
-      (m.store_emits most ty _ 0 _ rest (m.address_there most locals 1 (omega (arith, h))) (m.value_there most locals 0 ty (omega (arith, h))))
+      (m.store_emits (m.carried most) ty _ 0 _ rest (m.address_there most locals 1 (omega (arith, h))) (m.value_there most locals 0 ty (omega (arith, h))))
 
   put_emits : (ty : PlainType) (k : ℕ) (rest : List CodeItem) → Has most locals 0 5 → E 2 rest (code.put_code locals ds ls ty k rest)
   put_emits Void k rest h = put_scalar Void k rest h
@@ -70,7 +70,7 @@ module _ (most locals : ℕ) (ds : List StructDef) (ls : List Local) (same : len
     where
       by : (memory : Bool) → E 2 rest (if memory then code.put_code locals ds ls (type_view l.ty) k rest else x.move_code (type_view l.ty) k (value_register locals 0 (type_view l.ty)) rest)
       by true = put_emits (type_view l.ty) k rest h
-      by false = m.at_most most 1 2 rest _ (omega arith) (m.move_emits most (type_view l.ty) k _ rest (omega (arith, slice_get_within ls k l is, same, h)) (m.value_there most locals 0 (type_view l.ty) (omega (arith, h))))
+      by false = m.at_most most 1 2 rest _ (omega arith) (m.move_emits (m.carried most) (type_view l.ty) k _ rest (omega (arith, slice_get_within ls k l is, same, h)) (m.value_there most locals 0 (type_view l.ty) (omega (arith, h))))
 
   initialise_emits : (k : ℕ) (init : Option Expr) (rest : List CodeItem) → Has most locals 0 (max 5 (optional_levels init)) → E (2 + 16 * optional_nodes init) rest (code.initialise_code locals ds ls k init rest)
   initialise_emits k None rest h = same_code _ rest
@@ -165,7 +165,7 @@ module _ (most locals : ℕ) (ds : List StructDef) (ls : List Local) (same : len
   label_emits : (ty : PlainType) (label : TLabel) (name : ℕ) (rest : List CodeItem) → name ≤ block_total rest → Has most locals 0 5 → E 3 rest (code.label_code locals ds ls ty label name rest)
   label_emits ty Default name rest le h = same_code 3 rest
   label_emits ty (Case word) name rest le h =
-      m.joins most 1 2 rest _ _ (m.constant_emits most locals 1 ty word _ (omega (arith, h)))
+      m.joins most 1 2 rest _ _ (m.constant_emits (m.carried most) locals 1 ty word _ (omega (arith, h)))
       (m.joins most 1 1 rest _ _
       (m.plain most (n.Compare Equal (register_type ty) (temporary locals 1 S32) (value_register locals 0 ty) (value_register locals 1 ty)) _ (refl, refl)
       (omega (arith, m.there most locals 1 S32 (omega (arith, h)), m.value_there most locals 0 ty (omega (arith, h)), m.value_there most locals 1 ty (omega (arith, h)))))
@@ -286,7 +286,7 @@ module _ (most locals : ℕ) (ds : List StructDef) (ls : List Local) (same : len
       by : (memory : Bool) → E 2 rest (if memory then x.address_code locals 0 (p.Local (object_index ls k)) 0 (x.store_code (type_view l.ty) (address_register locals 0) 0 k rest) else rest)
       by true =
           m.joins most 1 1 rest _ _ (m.address_emits most locals 0 (p.Local (object_index ls k)) 0 _ (omega (arith, h)))
-          (m.store_emits most (type_view l.ty) _ 0 k rest (m.address_there most locals 0 (omega (arith, h))) (omega (arith, small, h)))
+          (m.store_emits (m.carried most) (type_view l.ty) _ 0 k rest (m.address_there most locals 0 (omega (arith, h))) (omega (arith, small, h)))
       by false = same_code 2 rest
 
   pub parameters_emits : (k : ℕ) (more : List Local) (rest : List CodeItem) → k + length more ≤ locals → Has most locals 0 5 → E (2 * length more) rest (f.parameters_code locals ds ls k more rest)

@@ -64,8 +64,8 @@ module _ (most locals : ℕ) (ds : List StructDef) (ls : List Local) (same : len
   local_emits d ty k rest h = by (code.register_if locals ds ls k (slice_get ls k)) refl
     where
       by : (r : Option ℕ) → code.register_if locals ds ls k (slice_get ls k) ≡ r → Emits most 3 rest (code.local_code locals ds ls d ty k r rest)
-      by (Some j) is = m.at_most most 1 3 rest _ (omega arith) (m.move_emits most ty _ _ rest (m.value_there most locals d ty h) (omega (arith, register_small k j (slice_get ls k) refl is, h)))
-      by None is = m.joins most 1 2 rest _ _ (m.address_emits most locals d (p.Local (object_index ls k)) 0 _ h) (m.value_load_emits most locals d ty 0 rest h)
+      by (Some j) is = m.at_most most 1 3 rest _ (omega arith) (m.move_emits (m.carried most) ty _ _ rest (m.value_there most locals d ty h) (omega (arith, register_small k j (slice_get ls k) refl is, h)))
+      by None is = m.joins most 1 2 rest _ _ (m.address_emits most locals d (p.Local (object_index ls k)) 0 _ h) (m.value_load_emits (m.carried most) locals d ty 0 rest h)
 
   -- registers of arguments
   arguments_below : (d : ℕ) (xs : Exprs) → Has most locals d (levels_above xs) → registers_top (code.call_registers locals ds ls d xs) ≤ most
@@ -94,8 +94,8 @@ module _ (most locals : ℕ) (ds : List StructDef) (ls : List Local) (same : len
       let fails : List CodeItem = code.constant_code locals d ty word (Start ∷ rest) in
       let last : List CodeItem = code.constant_code locals d ty other (Jump (block_total rest) ∷ fails) in
       let second : List CodeItem = code.branch_by_value_code locals op d ty' (block_total fails) last in
-      let f : Emits most 2 rest fails = m.joins most 1 1 rest (Start ∷ rest) fails (m.constant_emits most locals d ty word (Start ∷ rest) h) (m.start most rest) in
-      let g : Emits most 4 rest last = m.joins most 1 3 rest (Jump (block_total rest) ∷ fails) last (m.constant_emits most locals d ty other (Jump (block_total rest) ∷ fails) h) (m.joins most 1 2 rest fails (Jump (block_total rest) ∷ fails) (m.jump most (block_total rest) fails (f.grows)) f) in
+      let f : Emits most 2 rest fails = m.joins most 1 1 rest (Start ∷ rest) fails (m.constant_emits (m.carried most) locals d ty word (Start ∷ rest) h) (m.start most rest) in
+      let g : Emits most 4 rest last = m.joins most 1 3 rest (Jump (block_total rest) ∷ fails) last (m.constant_emits (m.carried most) locals d ty other (Jump (block_total rest) ∷ fails) h) (m.joins most 1 2 rest fails (Jump (block_total rest) ∷ fails) (m.jump most (block_total rest) fails (f.grows)) f) in
       let b : Emits most 5 rest second = m.joins most 1 4 rest last second (m.branch_emits most locals op d ty' (block_total fails) last h (omega arith)) g in
       let c : Emits most (k + 5) rest (fy second) = m.joins most k 5 rest second (fy second) (ey second) b in
       let first : List CodeItem = code.branch_by_value_code locals op d tx (block_total fails) (fy second) in
@@ -125,8 +125,8 @@ module _ (most locals : ℕ) (ds : List StructDef) (ls : List Local) (same : len
     where
       by : (r : Option ℕ) → code.register_of locals ds ls x ≡ r
           → Emits most (j + 10) rest (code.change_code locals ds ls r (λ k. code.step_register_code locals ds op postfix d ty k rest) (code.place_code locals ds ls d x 0 (code.step_memory_code locals ds op postfix d (code.plus_of locals ds ls x 0) ty rest)))
-      by (Some k) is = m.at_most most 9 (j + 10) rest _ (omega arith) (m.step_register_emits most locals ds op postfix d ty k rest h (omega (arith, place_register x k is, h)))
-      by None is = m.joins most j 10 rest _ _ (ex _) (m.step_memory_emits most locals ds op postfix d (code.plus_of locals ds ls x 0) ty rest h)
+      by (Some k) is = m.at_most most 9 (j + 10) rest _ (omega arith) (m.step_register_emits (m.carried most) locals ds op postfix d ty k rest h (omega (arith, place_register x k is, h)))
+      by None is = m.joins most j 10 rest _ _ (ex _) (m.step_memory_emits (m.carried most) locals ds op postfix d (code.plus_of locals ds ls x 0) ty rest h)
 
   assign_emits : (d : ℕ) (op : Option BinaryOp) (ty right : PlainType) (plus : ℕ) (x : Expr) (j k : ℕ) (value : ℕ → List CodeItem → List CodeItem)
       → ((is : List CodeItem) → Emits most j is (code.place_code locals ds ls d x 0 is)) → ((is : List CodeItem) → Emits most k is (value d is)) → ((is : List CodeItem) → Emits most k is (value (suc d) is))
@@ -137,19 +137,19 @@ module _ (most locals : ℕ) (ds : List StructDef) (ls : List Local) (same : len
       by : (o : Option BinaryOp) (r : Option ℕ) → code.register_of locals ds ls x ≡ r
           → Emits most (j + (k + 10)) rest (code.assign_code locals ds ls d o ty right plus r (λ is. code.place_code locals ds ls d x 0 is) value rest)
       by None (Some i) is =
-          next k 1 (j + (k + 10)) rest _ _ (omega arith) (low _) (m.move_emits most ty _ _ rest (omega (arith, place_register x i is, h)) (m.value_there most locals d ty (omega (arith, h))))
+          next k 1 (j + (k + 10)) rest _ _ (omega arith) (low _) (m.move_emits (m.carried most) ty _ _ rest (omega (arith, place_register x i is, h)) (m.value_there most locals d ty (omega (arith, h))))
       by (Some o) (Some i) is =
           next k 7 (j + (k + 10)) rest _ _ (omega arith) (high _)
-          (m.joins most 1 6 rest _ _ (m.move_emits most ty _ _ _ (m.value_there most locals d ty (omega (arith, h))) (omega (arith, place_register x i is, h)))
-          (m.joins most 5 1 rest _ _ (m.combine_emits most locals ds o d (suc d) (suc (suc d)) ty right _ (omega (arith, h)) (omega (arith, h)) (omega (arith, h)))
-          (m.move_emits most ty _ _ rest (omega (arith, place_register x i is, h)) (m.value_there most locals d ty (omega (arith, h))))))
+          (m.joins most 1 6 rest _ _ (m.move_emits (m.carried most) ty _ _ _ (m.value_there most locals d ty (omega (arith, h))) (omega (arith, place_register x i is, h)))
+          (m.joins most 5 1 rest _ _ (m.combine_emits (m.carried most) locals ds o d (suc d) (suc (suc d)) ty right _ (omega (arith, h)) (omega (arith, h)) (omega (arith, h)))
+          (m.move_emits (m.carried most) ty _ _ rest (omega (arith, place_register x i is, h)) (m.value_there most locals d ty (omega (arith, h))))))
       by None None is =
           next j (2 + (k + 2)) (j + (k + 10)) rest _ _ (omega arith) (ex _)
-          (m.joins most 2 (k + 2) rest _ _ (m.place_moved_emits most locals ds ty d plus _ (omega (arith, h)))
+          (m.joins most 2 (k + 2) rest _ _ (m.place_moved_emits (m.carried most) locals ds ty d plus _ (omega (arith, h)))
           (m.joins most k 2 rest _ _ (high _) (m.set_memory_emits most locals ds d plus ty rest (omega (arith, h)))))
       by (Some o) None is =
           next j (k + 8) (j + (k + 10)) rest _ _ (omega arith) (ex _)
-          (m.joins most k 8 rest _ _ (high _) (m.combine_memory_emits most locals ds o d plus ty right rest (omega (arith, h))))
+          (m.joins most k 8 rest _ _ (high _) (m.combine_memory_emits (m.carried most) locals ds o d plus ty right rest (omega (arith, h))))
 
   abbrev E : (k : ℕ) → List CodeItem → List CodeItem → Type 0
   E k rest is = Emits most k rest is
@@ -158,41 +158,41 @@ module _ (most locals : ℕ) (ds : List StructDef) (ls : List Local) (same : len
       → (rest : List CodeItem) → Has most locals d 3 → E (16 * (1 + expr_nodes x + expr_nodes y)) rest (xcode d x (xcode (suc d) y (code.binary_code locals ds op d ty (type_of x) (type_of y) rest)))
   infix_emits op d ty x y ex ey rest h =
       next (16 * expr_nodes x) (16 * expr_nodes y + 5) _ rest _ _ (omega arith) (ex _)
-      (m.joins most (16 * expr_nodes y) 5 rest _ _ (ey _) (m.binary_emits most locals ds op d ty (type_of x) (type_of y) rest h))
+      (m.joins most (16 * expr_nodes y) 5 rest _ _ (ey _) (m.binary_emits (m.carried most) locals ds op d ty (type_of x) (type_of y) rest h))
 
   conversion_emits : (d : ℕ) (from to : PlainType) (plus j : ℕ) (place value : List CodeItem → List CodeItem) → ((is : List CodeItem) → E j is (place is)) → ((is : List CodeItem) → E j is (value is))
       → (rest : List CodeItem) → Has most locals d 1 → E (j + 2) rest (code.conversion_code locals ds ls d from to plus place value rest)
-  conversion_emits d (Array element length) to plus j place value ep ev rest h = m.joins most j 2 rest _ _ (ep _) (m.moved_emits most locals d plus rest h)
-  conversion_emits d Void to plus j place value ep ev rest h = next j 1 (j + 2) rest _ _ (omega arith) (ev _) (m.converted_emits most locals d Void to rest h)
-  conversion_emits d (Int bytes signed) to plus j place value ep ev rest h = next j 1 (j + 2) rest _ _ (omega arith) (ev _) (m.converted_emits most locals d (Int bytes signed) to rest h)
-  conversion_emits d (Pointer target) to plus j place value ep ev rest h = next j 1 (j + 2) rest _ _ (omega arith) (ev _) (m.converted_emits most locals d (Pointer target) to rest h)
-  conversion_emits d (Struct number) to plus j place value ep ev rest h = next j 1 (j + 2) rest _ _ (omega arith) (ev _) (m.converted_emits most locals d (Struct number) to rest h)
+  conversion_emits d (Array element length) to plus j place value ep ev rest h = m.joins most j 2 rest _ _ (ep _) (m.moved_emits (m.carried most) locals d plus rest h)
+  conversion_emits d Void to plus j place value ep ev rest h = next j 1 (j + 2) rest _ _ (omega arith) (ev _) (m.converted_emits (m.carried most) locals d Void to rest h)
+  conversion_emits d (Int bytes signed) to plus j place value ep ev rest h = next j 1 (j + 2) rest _ _ (omega arith) (ev _) (m.converted_emits (m.carried most) locals d (Int bytes signed) to rest h)
+  conversion_emits d (Pointer target) to plus j place value ep ev rest h = next j 1 (j + 2) rest _ _ (omega arith) (ev _) (m.converted_emits (m.carried most) locals d (Pointer target) to rest h)
+  conversion_emits d (Struct number) to plus j place value ep ev rest h = next j 1 (j + 2) rest _ _ (omega arith) (ev _) (m.converted_emits (m.carried most) locals d (Struct number) to rest h)
 
   mutual
     pub expr_emits : (d : ℕ) (x : Expr) (rest : List CodeItem) → Has most locals d (register_levels x) → E (16 * expr_nodes x) rest (xcode d x rest)
-    expr_emits d (Number ty word) rest h = m.at_most most 1 16 rest _ (omega arith) (m.constant_emits most locals d ty word rest (omega (arith, h)))
+    expr_emits d (Number ty word) rest h = m.at_most most 1 16 rest _ (omega arith) (m.constant_emits (m.carried most) locals d ty word rest (omega (arith, h)))
     expr_emits d (e.Local ty k) rest h = m.at_most most 3 16 rest _ (omega arith) (local_emits d ty k rest (omega (arith, h)))
     expr_emits d (Global ty k) rest h =
-        next 1 2 16 rest _ _ (omega arith) (m.address_emits most locals d (p.Global k) 0 _ (omega (arith, h))) (m.value_load_emits most locals d ty 0 rest (omega (arith, h)))
+        next 1 2 16 rest _ _ (omega arith) (m.address_emits most locals d (p.Global k) 0 _ (omega (arith, h))) (m.value_load_emits (m.carried most) locals d ty 0 rest (omega (arith, h)))
     expr_emits d (Call ty callee xs) rest h =
         next (16 * exprs_nodes xs) 1 _ rest _ _ (omega arith) (exprs_emits d xs _ (omega (arith, h)))
         (m.plain most (n.Call (code.destination_of locals ds ls d ty) (code.vm_callee callee) (code.call_registers locals ds ls d xs)) rest (refl, refl)
         (omega (arith, arguments_below d xs (omega (arith, h)), destination_below d ty (omega (arith, h)))))
     expr_emits d (Unary ty u.Address x) rest h =
-        next (16 * expr_nodes x) 2 _ rest _ _ (omega arith) (place_emits d x 0 _ (omega (arith, h))) (m.moved_emits most locals d (code.plus_of locals ds ls x 0) rest (omega (arith, h)))
+        next (16 * expr_nodes x) 2 _ rest _ _ (omega arith) (place_emits d x 0 _ (omega (arith, h))) (m.moved_emits (m.carried most) locals d (code.plus_of locals ds ls x 0) rest (omega (arith, h)))
     expr_emits d (Unary ty u.Dereference x) rest h =
-        next (16 * expr_nodes x) 2 _ rest _ _ (omega arith) (expr_emits d x _ (omega (arith, h))) (m.value_load_emits most locals d ty 0 rest (omega (arith, h)))
+        next (16 * expr_nodes x) 2 _ rest _ _ (omega arith) (expr_emits d x _ (omega (arith, h))) (m.value_load_emits (m.carried most) locals d ty 0 rest (omega (arith, h)))
     expr_emits d (Unary ty u.Increment x) rest h =
         m.at_most most (16 * expr_nodes x + 10) _ rest _ (omega arith) (changed_emits s.Increment false d ty x (16 * expr_nodes x) (λ is. place_emits d x 0 is (omega (arith, h))) rest (omega (arith, h)))
     expr_emits d (Unary ty u.Decrement x) rest h =
         m.at_most most (16 * expr_nodes x + 10) _ rest _ (omega arith) (changed_emits s.Decrement false d ty x (16 * expr_nodes x) (λ is. place_emits d x 0 is (omega (arith, h))) rest (omega (arith, h)))
     expr_emits d (Unary ty u.Not x) rest h =
-        next (16 * expr_nodes x) 2 _ rest _ _ (omega arith) (expr_emits d x _ (omega (arith, h))) (m.not_emits most locals d ty (type_of x) rest (omega (arith, h)))
+        next (16 * expr_nodes x) 2 _ rest _ _ (omega arith) (expr_emits d x _ (omega (arith, h))) (m.not_emits (m.carried most) locals d ty (type_of x) rest (omega (arith, h)))
     expr_emits d (Unary ty u.Plus x) rest h = m.at_most most (16 * expr_nodes x) _ rest _ (omega arith) (expr_emits d x rest (omega (arith, h)))
     expr_emits d (Unary ty u.Minus x) rest h =
-        next (16 * expr_nodes x) 1 _ rest _ _ (omega arith) (expr_emits d x _ (omega (arith, h))) (m.unary_emits most locals Negate d ty rest (omega (arith, h)))
+        next (16 * expr_nodes x) 1 _ rest _ _ (omega arith) (expr_emits d x _ (omega (arith, h))) (m.unary_emits (m.carried most) locals Negate d ty rest (omega (arith, h)))
     expr_emits d (Unary ty u.Invert x) rest h =
-        next (16 * expr_nodes x) 1 _ rest _ _ (omega arith) (expr_emits d x _ (omega (arith, h))) (m.unary_emits most locals Complement d ty rest (omega (arith, h)))
+        next (16 * expr_nodes x) 1 _ rest _ _ (omega arith) (expr_emits d x _ (omega (arith, h))) (m.unary_emits (m.carried most) locals Complement d ty rest (omega (arith, h)))
     expr_emits d (Binary ty b.LogicalAnd x y) rest h =
         m.at_most most (16 * expr_nodes x + (16 * expr_nodes y + 6)) _ rest _ (omega arith)
         (decides_emits IfFalse d ty (type_of x) (type_of y) 0 1 (16 * expr_nodes x) (16 * expr_nodes y) (λ is. xcode d x is) (λ is. xcode d y is) (λ is. expr_emits d x is (omega (arith, h))) (λ is. expr_emits d y is (omega (arith, h))) rest (omega (arith, h)))
@@ -234,12 +234,12 @@ module _ (most locals : ℕ) (ds : List StructDef) (ls : List Local) (same : len
     expr_emits d (Index ty x y) rest h =
         next (16 * expr_nodes x) (16 * expr_nodes y + 7) _ rest _ _ (omega arith) (expr_emits d x _ (omega (arith, h)))
         (m.joins most (16 * expr_nodes y) 7 rest _ _ (expr_emits (suc d) y _ (omega (arith, h)))
-        (m.joins most 5 2 rest _ _ (m.element_emits most locals ds d (type_of x) (type_of y) _ (omega (arith, h))) (m.value_load_emits most locals d ty 0 rest (omega (arith, h)))))
+        (m.joins most 5 2 rest _ _ (m.element_emits (m.carried most) locals ds d (type_of x) (type_of y) _ (omega (arith, h))) (m.value_load_emits (m.carried most) locals d ty 0 rest (omega (arith, h)))))
     expr_emits d (Field ty x k) rest h =
         next (16 * expr_nodes x) 2 _ rest _ _ (omega arith) (place_emits d x (code.member_plus ds (type_of x) k 0) _ (omega (arith, h)))
-        (m.value_load_emits most locals d ty (code.plus_of locals ds ls x (code.member_plus ds (type_of x) k 0)) rest (omega (arith, h)))
+        (m.value_load_emits (m.carried most) locals d ty (code.plus_of locals ds ls x (code.member_plus ds (type_of x) k 0)) rest (omega (arith, h)))
     expr_emits d (Arrow ty x k) rest h =
-        next (16 * expr_nodes x) 2 _ rest _ _ (omega arith) (expr_emits d x _ (omega (arith, h))) (m.value_load_emits most locals d ty _ rest (omega (arith, h)))
+        next (16 * expr_nodes x) 2 _ rest _ _ (omega arith) (expr_emits d x _ (omega (arith, h))) (m.value_load_emits (m.carried most) locals d ty _ rest (omega (arith, h)))
     expr_emits d (Postfix ty op x) rest h =
         m.at_most most (16 * expr_nodes x + 10) _ rest _ (omega arith) (changed_emits op true d ty x (16 * expr_nodes x) (λ is. place_emits d x 0 is (omega (arith, h))) rest (omega (arith, h)))
     expr_emits d (Comma ty xs) rest h = m.at_most most (16 * exprs_nodes xs) _ rest _ (omega arith) (commas_emits d xs rest (omega (arith, h)))
@@ -257,7 +257,7 @@ module _ (most locals : ℕ) (ds : List StructDef) (ls : List Local) (same : len
     place_emits d (Unary ty u.Invert x) plus rest h = m.at_most most 0 _ rest rest (omega arith) (m.none most rest)
     place_emits d (Index ty x y) plus rest h =
         next (16 * expr_nodes x) (16 * expr_nodes y + 5) _ rest _ _ (omega arith) (expr_emits d x _ (omega (arith, h)))
-        (m.joins most (16 * expr_nodes y) 5 rest _ _ (expr_emits (suc d) y _ (omega (arith, h))) (m.element_emits most locals ds d (type_of x) (type_of y) rest (omega (arith, h))))
+        (m.joins most (16 * expr_nodes y) 5 rest _ _ (expr_emits (suc d) y _ (omega (arith, h))) (m.element_emits (m.carried most) locals ds d (type_of x) (type_of y) rest (omega (arith, h))))
     place_emits d (Field ty x k) plus rest h = m.at_most most (16 * expr_nodes x) _ rest _ (omega arith) (place_emits d x (code.member_plus ds (type_of x) k plus) rest (omega (arith, h)))
     place_emits d (Arrow ty x k) plus rest h = m.at_most most (16 * expr_nodes x) _ rest _ (omega arith) (expr_emits d x rest (omega (arith, h)))
     place_emits d (Number ty word) plus rest h = m.at_most most 0 _ rest rest (omega arith) (m.none most rest)

@@ -6,9 +6,8 @@ use Rattle.bk_io.specs.Outside.{Traffic}
 use Rattle.call_outcomes.specs.declared.outcome.Outcome.{Outcome}
 use Rattle.call_outcomes.specs.declared.outcome.Outcome.TheVariants.{Usage, FileFault, NoMemory}
 use Rattle.call_outcomes.specs.FromFile.{file_bytes}
-use Rattle.call_words.specs.declared.compile_options.Allocator.{Allocator}
-use Rattle.call_words.specs.declared.compile_options.Allocator.TheVariants.{Plain}
 use Rattle.call_words.specs.declared.request.Command.TheVariants.{Build, Run, Vm, Exec, Migrate, Assemble, Print}
+use Rattle.call_words.specs.Options.{default_allocator}
 use Rattle.call_words.specs.Request.{Call, OnFile, Generate}
 use Rattle.compile_calls.specs.Build.{Builds, BuildsMade}
 use Rattle.compile_calls.specs.Run.{Runs, EndsWithEnoughSteps, RunsMade}
@@ -41,10 +40,6 @@ AnswersWordsByMeaning call answer told before after =
     ((answer ≡ NoMemory) × (after ≡ before) × MemoryIsShort) ⊎ AnswersByMeaning call told answer before after
 
 -- ---- what is made of it
-
--- the allocator of a compile by a command that does not ask for one
-abbrev pub default_allocator : Allocator
-default_allocator = Plain
 
 -- What is answered by what is asked for, with the bytes of the file where they are told, and what that did to the input
 -- and the output: of a text that is compiled by what is made of it, pass by pass. Where nothing is asked for, that is

@@ -24,7 +24,7 @@ use std::alloc::Global;
 
 /// How a text is compiled by a command that does not ask for it.
 const DEFAULT_OPTIONS: Options = Options {
-    allocator: Allocator::Plain,
+    allocator: Allocator::Binpack,
 };
 
 /// Does what the words ask for, and writes the outcome's line to `err`. `words[0]` is the program's name. The file

@@ -72,6 +72,19 @@ pub fn words_of(alloc: Global, line: &str) -> Result<Vec<String>, AllocError> {
     Ok(words)
 }
 
+/// The outcome of a call with the words of a line over these files, without input.
+pub fn outcome_of<C: Compiler>(
+    alloc: Global,
+    compiler: &C,
+    line: &str,
+    files: Vec<(String, Vec<u8>)>,
+) -> Result<String> {
+    let words = words_of(alloc, line)?;
+    let mut outside = Outside::without_failures(alloc, files, Vec::new(alloc))?;
+    let Ending { outcome, .. } = compiler.call(alloc, words.as_slice(), &mut outside)?;
+    Ok(outcome)
+}
+
 /// What a call with the words of a line writes over these files. It fails where the call does not write what it was
 /// asked for.
 pub fn output_of<C: Compiler>(

@@ -47,15 +47,16 @@ fn run_by<C: Compiler>(
     )
 }
 
-/// Runs an example, the file with this name and `.c` on the input with its name and `.in`, by its image and by its code
-/// over virtual registers, and prints how it ended and what it put, or both endings where they differ.
+/// Runs an example, the file with this name and `.c` on the input with its name and `.in`, by its image as each allocator
+/// has it and by its code over virtual registers, and prints how it ended and what it put, or all endings where two differ.
 pub fn put_ending<C: Compiler>(rt: &HostRuntime, compiler: &C, name: &str) -> Result<()> {
     let image = run_by(rt, compiler, "run", name)?;
+    let in_slots = run_by(rt, compiler, "run --alloc plain", name)?;
     let code = run_by(rt, compiler, "vm", name)?;
-    if image.as_str() == code.as_str() {
+    if image.as_str() == in_slots.as_str() && image.as_str() == code.as_str() {
         print!(rt; "{name}: {image}")?;
     } else {
-        print!(rt; "{name} by run: {image}{name} by vm: {code}")?;
+        print!(rt; "{name} by run: {image}{name} in slots: {in_slots}{name} by vm: {code}")?;
     }
     Ok(())
 }

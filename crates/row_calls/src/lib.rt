@@ -7,5 +7,6 @@ pub mod call;
 pub mod compiler;
 pub mod endings;
 pub mod part;
+pub mod twice;
 
-pub use compiler::{Compiler, Ending, Outside, output_of, words_of};
+pub use compiler::{Compiler, Ending, Outside, outcome_of, output_of, words_of};

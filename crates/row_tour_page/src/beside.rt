@@ -1,5 +1,6 @@
 //! The forms of a block, side by side.
 
+use crate::lines::is_instruction;
 use crate::words::Line;
 use anyhow::{Context, Result, bail};
 use std::alloc::{AllocError, Global};
@@ -21,11 +22,6 @@ pub fn part_lines(alloc: Global, text: &str, name: &str) -> Result<Vec<String>, 
         }
     }
     Ok(found)
-}
-
-/// Whether a line is an instruction, which has its number in front.
-fn is_instruction(line: &str) -> bool {
-    matches!(line.as_bytes().first(), Some(b'0'..=b'9'))
 }
 
 /// Writes a row: the instruction over temporaries, the line over slots, and the word.

@@ -1,12 +1,9 @@
-//! What the page shows and says of each pass.
+//! What the page `docs/tour.md` shows and says of each pass.
 
-/// A section of the page: what it shows is what a call of the compiler puts, or a part of that.
-#[derive(Clone, Copy)]
-pub struct Section {
-    pub title: &'static str,
-    pub call: &'static str,
-    pub said: &'static str,
-}
+use crate::section::Section;
+
+/// The file of the program.
+pub const FILE: &str = "tour.c";
 
 /// What stands before the program.
 pub const OPENING: &str = "# A tour of the passes\n\n\
@@ -59,8 +56,9 @@ pub const SELECT: Section = Section {
 /// Temporaries in their slots.
 pub const ALLOC: Section = Section {
     title: "Temporaries in slots",
-    call: "msc print tour.c --pass alloc",
-    said: "Each temporary lives in a slot of the frame. Before an instruction, what it reads is loaded into \
+    call: "msc print tour.c --pass alloc --alloc plain",
+    said: "With `--alloc plain` each temporary lives in a slot of the frame, which is followed most easily; \
+        without it, values live in registers as far as these go. Before an instruction, what it reads is loaded into \
         registers, from `$1` on. What it writes gets the next register, and is stored before the next instruction, \
         or behind the last one of the block on the edge to the next block. These are the lines of block `B1` and of \
         the edge to `B2`.",
@@ -69,18 +67,18 @@ pub const ALLOC: Section = Section {
 /// The assembly.
 pub const ASM: Section = Section {
     title: "The assembly, and its words in the image",
-    call: "msc print tour.c --pass asm",
+    call: "msc print tour.c --pass asm --alloc plain",
     said: "Slots are now offsets from `$30`, where the frame begins: `t4` is at 96, `t5` at 104 and `t10` at \
         144. Every block has a label. In front stands the code that begins a run, and behind the functions stand the \
         division routines, which are left out here. Beside each instruction stand its address and its word, both \
-        hexadecimal. The words are those of the image, which `msc build tour.c` writes; `mrk` is none, since the \
-        machine counts no turns.",
+        hexadecimal. The words are those of the image, which `msc build tour.c --alloc plain` writes; `mrk` is \
+        none, since the machine counts no turns.",
 };
 
 /// One statement in each form.
 pub const BESIDE: Section = Section {
     title: "The statement, side by side",
-    call: "msc build tour.c",
+    call: "msc build tour.c --alloc plain",
     said: "The block `B1` behind selection, from the left to the right: over temporaries, over slots, in \
         assembly, and as words. Between the instructions stand the loads and stores of \
         slots, and the last one is on the edge to `B2`.",

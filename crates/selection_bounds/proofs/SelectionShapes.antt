@@ -1,4 +1,5 @@
 pub mod Plain
+pub mod Walk
 pub mod Shaped
 pub mod Registers
 pub mod Settled

@@ -1,6 +1,6 @@
 //! The kinds of rows, each with its file.
 
-use crate::{coalescings, journals, lives, needs, placements, runs};
+use crate::{coalescings, journals, lives, needs, placements, runs, scanned};
 use anyhow::Result;
 use row_sheets::Table;
 use std::alloc::Global;
@@ -11,6 +11,7 @@ pub enum Kind {
     Runs,
     Placements,
     Journals,
+    Scans,
     Needs,
     Coalescings,
     CoalescedRuns,
@@ -18,10 +19,11 @@ pub enum Kind {
 }
 
 /// The kinds in the order in which they are checked.
-pub const KINDS: [Kind; 7] = [
+pub const KINDS: [Kind; 8] = [
     Kind::Runs,
     Kind::Placements,
     Kind::Journals,
+    Kind::Scans,
     Kind::Needs,
     Kind::Coalescings,
     Kind::CoalescedRuns,
@@ -34,6 +36,7 @@ impl Table for Kind {
             Kind::Runs => "temp_runs.rows",
             Kind::Placements => "plain.rows",
             Kind::Journals => "journals.rows",
+            Kind::Scans => "scanned.rows",
             Kind::Needs => "needs.rows",
             Kind::Coalescings => "coalescings.rows",
             Kind::CoalescedRuns => "coalesced_runs.rows",
@@ -46,6 +49,7 @@ impl Table for Kind {
             Kind::Runs => runs::answer(alloc, given),
             Kind::Placements => placements::answer(alloc, given),
             Kind::Journals => journals::answer(alloc, given),
+            Kind::Scans => scanned::answer(alloc, given),
             Kind::Needs => needs::answer(alloc, given),
             Kind::Coalescings => coalescings::answer(alloc, given, true),
             Kind::CoalescedRuns => coalescings::answer(alloc, given, false),

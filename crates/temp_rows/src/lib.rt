@@ -1,4 +1,4 @@
-//! The tables of programs over temporaries: how they run, where `plain` puts them, what it does at each
+//! The tables of programs over temporaries: how they run, where `plain` and a scan put them, what these do at each
 //! instruction, which copies and dead instructions go, what is live, and the lifetimes.
 //!
 //! The files stand in `back_rows/data`. Their form is described in `docs/rows.md`, and that of each kind of row at the
@@ -12,6 +12,7 @@ mod lives;
 mod needs;
 mod placements;
 mod runs;
+mod scanned;
 
 use crate::kind::KINDS;
 use anyhow::Result;

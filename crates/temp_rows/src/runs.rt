@@ -1,6 +1,7 @@
-//! Runs of programs over temporaries, in the slots of `plain`, and where the row puts them.
+//! Runs of programs over temporaries, in the slots of `plain`, where a scan puts them, and where the row does.
 
 use crate::placements::plain_of;
+use crate::scanned::scanned;
 use alloc_model::allocation::Allocation;
 use anyhow::{Result, ensure};
 use row_sheets::escape::unescape;
@@ -61,7 +62,8 @@ pub fn put_run(
     Ok(())
 }
 
-/// How a program runs over temporaries, over the slots of `plain`, and, where the row has a placement, over that.
+/// How a program runs over temporaries, over the slots of `plain`, where a scan puts them, and, where the row has a
+/// placement, over that.
 pub fn answer(alloc: Global, given: &str) -> Result<Vec<u8>> {
     let TempReader {
         functions,
@@ -69,8 +71,10 @@ pub fn answer(alloc: Global, given: &str) -> Result<Vec<u8>> {
         ..
     } = TempReader::of(alloc, given)?;
     let mut plain = Vec::new(alloc);
+    let mut scans = Vec::new(alloc);
     for function in &functions {
         plain.push(plain_of(alloc, function)?)?;
+        scans.push(scanned(alloc, function)?)?;
     }
     let mut shown = Vec::new(alloc);
     put_run(
@@ -82,6 +86,14 @@ pub fn answer(alloc: Global, given: &str) -> Result<Vec<u8>> {
         given,
     )?;
     put_run(&mut shown, alloc, "slots", plain.as_slice(), true, given)?;
+    put_run(
+        &mut shown,
+        alloc,
+        "registers",
+        scans.as_slice(),
+        true,
+        given,
+    )?;
     let is_given = placements
         .iter()
         .any(|placement: &Placement| placement.is_given);

@@ -1,16 +1,19 @@
-//! Runs of the programs that are selected, over temporaries and in the slots of the plainest allocations.
+//! Runs of the programs that are selected, over temporaries, in the slots of the plainest allocations and in the
+//! registers of those of a scan.
 
 use alloc_model::allocation::Allocation;
 use alloc_plain::PlainAllocator;
 use alloc_rules::allocate;
 use alpha_select::select;
 use anyhow::{Result, ensure};
+use binpack_scan::BinpackAllocator;
 use mem_objects::DataObject;
 use row_temp_machine::machine::{TempEnding, TempMachine};
 use std::alloc::Global;
 use suifvm_checks::size::is_small;
 use suifvm_ir::program::VmProgram;
 use suifvm_run::VmEnding;
+use temp_ir::program::TempProgram;
 
 /// What a run over virtual registers took and came to.
 #[derive(Drop)]
@@ -19,6 +22,23 @@ pub struct Run<'a> {
     pub turns: u64,
     pub ending: VmEnding,
     pub output: &'a [u8],
+}
+
+/// Where the values of a run stand.
+#[derive(Clone, Copy, Debug)]
+enum Standing {
+    Temporaries,
+    Slots,
+    Registers,
+}
+
+/// Whether they stand where an allocation puts them.
+fn is_placed(standing: Standing) -> bool {
+    match standing {
+        Standing::Temporaries => false,
+        Standing::Slots => true,
+        Standing::Registers => true,
+    }
 }
 
 /// Whether a run over temporaries ends as that over virtual registers.
@@ -38,49 +58,64 @@ fn put_difference(
     alloc: Global,
     allocations: &[Allocation],
     globals: &[DataObject],
-    is_placed: bool,
+    standing: Standing,
     run: &Run<'_>,
 ) -> Result<()> {
     let input = Vec::from_slice(alloc, run.input)?;
-    let mut machine = TempMachine::new(alloc, allocations, globals, is_placed, input, run.turns)?;
+    let mut machine = TempMachine::new(
+        alloc,
+        allocations,
+        globals,
+        is_placed(standing),
+        input,
+        run.turns,
+    )?;
     let ending = machine.run()?;
     if is_same(ending, &run.ending) && machine.output.as_slice() == run.output {
         return Ok(());
     }
-    let place = if is_placed { "slots" } else { "temporaries" };
-    let line = format!(in alloc; "{place} {ending:?} out ")?;
+    let line = format!(in alloc; "{standing:?} {ending:?} out ")?;
     shown.extend_from_slice(line.as_bytes())?;
     shown.extend_from_slice(machine.output.as_slice())?;
     shown.push(b'\n')?;
     Ok(())
 }
 
-/// The plainest allocations of the functions that are selected.
-fn allocations_of(alloc: Global, program: &VmProgram) -> Result<Vec<Allocation>> {
+/// The functions that are selected.
+fn selected_of(alloc: Global, program: &VmProgram) -> Result<TempProgram> {
     ensure!(is_small(program), "the program is too large");
-    let selected = select(alloc, program)?;
-    Ok(allocate(alloc, &PlainAllocator, &selected)?)
+    Ok(select(alloc, program)?)
 }
 
 /// What differs where the program that is selected is run: nothing, where it ends as it should.
 pub fn differences(alloc: Global, program: &VmProgram, run: &Run<'_>) -> Result<Vec<u8>> {
-    let allocations = allocations_of(alloc, program)?;
+    let selected = selected_of(alloc, program)?;
+    let plain = allocate(alloc, &PlainAllocator, &selected)?;
+    let scans = allocate(alloc, &BinpackAllocator, &selected)?;
     let globals = program.globals.as_slice();
     let mut shown = Vec::new(alloc);
     put_difference(
         &mut shown,
         alloc,
-        allocations.as_slice(),
+        plain.as_slice(),
         globals,
-        false,
+        Standing::Temporaries,
         run,
     )?;
     put_difference(
         &mut shown,
         alloc,
-        allocations.as_slice(),
+        plain.as_slice(),
         globals,
-        true,
+        Standing::Slots,
+        run,
+    )?;
+    put_difference(
+        &mut shown,
+        alloc,
+        scans.as_slice(),
+        globals,
+        Standing::Registers,
         run,
     )?;
     Ok(shown)

@@ -1,5 +1,5 @@
 -- Where branches test values, each call has its arguments still.
-use Rattle.std.proofs.Common.{◌≡◌, ℕ, ◌≤◌, List, map, [], ◌∷◌, refl, arith}
+use Rattle.std.proofs.Common.{◌≡◌, ℕ, List, map, [], ◌∷◌, refl, arith}
 use Rattle.std.specs.Prelude.{All}
 use Rattle.std.proofs.lemmas.List.Elements.{All-nil, All-cons, All-head, All-tail}
 use Rattle.suifvm_ir.specs.declared.insn.VmInsn.{VmInsn}
@@ -10,7 +10,7 @@ use Rattle.suifvm_zero_branches.specs.declared.known.RegisterFact.{RegisterFact}
 use Rattle.suifvm_zero_branches.specs.declared.known.RegisterFact.TheVariants.{Nothing}
 use Rattle.suifvm_zero_branches.specs.Tests.{facts_after, tested_insn, tested_from, tested_block}
 use Rattle.block_preparation_laws.specs.selected_widths.Widths.{SelectedCallsAreNarrow}
-use Rattle.block_preparation_laws.proofs.SelectedWidths.Selected.{calls_narrow}
+use Rattle.block_preparation_laws.proofs.SelectedWidths.Selected.{IsFew, calls_narrow}
 
 seen_arguments : (k : RegisterFact) (y : VmInsn) → arguments_of (tested_insn k y) ≡ arguments_of y
 seen_arguments k (x.LoadConstant ty d word) = refl
@@ -29,9 +29,6 @@ seen_arguments k (x.Call d c arguments) = refl
 seen_arguments k (x.Return value) = refl
 seen_arguments k x.Mark = refl
 seen_arguments k x.Nop = refl
-
-abbrev IsFew : ℕ → VmInsn → Type 0
-IsFew most y = arguments_of y ≤ most
 
 tested_few : (most : ℕ) (k : RegisterFact) (insns : List VmInsn) → All (IsFew most) insns → All (IsFew most) (tested_from k insns)
 tested_few most k [] h = All-nil (IsFew most)

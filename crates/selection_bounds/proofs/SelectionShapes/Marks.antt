@@ -4,23 +4,20 @@ use Rattle.std.specs.Prelude.{◌||◌, nat_lt, IsTrue, slice_get, option_map}
 use Rattle.std.specs.List.{list_all}
 use Rattle.std.proofs.lemmas.Bool.{and_from, and_parts}
 use Rattle.std.proofs.lemmas.Option.{none-some, same_Some, slice_get-map, slice_get_within, get_or_from_slice_get}
-use Rattle.std.proofs.lemmas.List.Elements.{All-nil, All-cons, All-head, All-tail, All-append}
+use Rattle.std.proofs.lemmas.List.Elements.{All-nil, All-cons, All-append}
 use Rattle.suifvm_ir.specs.declared.insn.VmInsn.{VmInsn}
 use Rattle.suifvm_ir.specs.declared.insn.VmInsn.TheVariants as x
 use Rattle.suifvm_ir.specs.Programs as vm
 use Rattle.suifvm_ir.specs.Insns as insns
 use Rattle.pass_core.specs.Functions.{GoesToBlocks}
 use Rattle.temp_ir.specs.declared.insn.TempInsn.{TempInsn}
-use Rattle.temp_ir.specs.declared.insn.TempInsn.TheVariants as i
-use Rattle.temp_ir.specs.declared.insn.FixedRegister.TheVariants as fixed
 use Rattle.temp_ir.specs.Insns.{targets_of}
 use Rattle.temp_ir.specs.Programs.{begins_with_mark, first_is_mark, goes_back_to_marks}
-use Rattle.selection_forms.specs.alpha_forms.Operations.{temp_branch}
-use Rattle.selection_code.specs.Instructions.{temp_of, selected_insn}
 use Rattle.selection_code.specs.Functions.{selected_insns, parameter_items, selected_blocks}
 use Rattle.selection_bounds.specs.selection_shapes.Shapes.{SelectionKeepsMarks}
-use Rattle.selection_bounds.proofs.SelectionShapes.Plain.{is_plain, are_plain, takes_plain}
-use Rattle.selection_bounds.proofs.SelectionShapes.Shaped.{straight_plain, plain_is}
+use Rattle.selection_bounds.proofs.SelectionShapes.Plain.{is_plain, are_plain, bare_parts, takes_plain}
+use Rattle.selection_bounds.proofs.SelectionShapes.Walk.{IsKept, insns_kept}
+use Rattle.selection_bounds.proofs.SelectionShapes.Shaped.{plain_is}
 
 -- ---- marks
 
@@ -77,40 +74,29 @@ module _ (params : ℕ) (blocks : List (List VmInsn)) (b : ℕ) where
       let p = and_parts (is_plain z) (are_plain xs) e in
       All-cons Back z xs (no_targets (targets_of z) (plain_is z p.0).0) (plain_back xs p.1)
 
-  one_back : (z : TempInsn) → goes_back_to_marks (selected_blocks params blocks) b z ≡ true → All Back (z ∷ [])
-  one_back z e = All-cons Back z [] e (All-nil Back)
-
   target_back : (target : ℕ) → All (λ t. (0 < t) × (t < length blocks)) (target ∷ []) → list_all (λ t. nat_lt b t || vm.begins_with_mark (slice_get blocks t)) (target ∷ []) ≡ true →
       list_all (λ t. nat_lt b t || begins_with_mark (slice_get (selected_blocks params blocks) t)) (target ∷ []) ≡ true
   target_back target h e =
       and_from (nat_lt b target || begins_with_mark (slice_get (selected_blocks params blocks) target)) true
       (mark_target params blocks b target (h 0 0 (omega arith)).0 (and_parts (nat_lt b target || vm.begins_with_mark (slice_get blocks target)) true e).0) refl
 
-  insn_back : (y : VmInsn) → GoesToBlocks insns.targets_of (length blocks) y → vm.goes_back_to_marks blocks b y ≡ true → All Back (selected_insn y)
-  insn_back (x.LoadConstant ty d word) h e = plain_back (selected_insn (x.LoadConstant ty d word)) (straight_plain (x.LoadConstant ty d word) (refl, refl))
-  insn_back (x.LoadAddress d place plus) h e = plain_back (selected_insn (x.LoadAddress d place plus)) refl
-  insn_back (x.Load ty d p plus) h e = plain_back (selected_insn (x.Load ty d p plus)) (straight_plain (x.Load ty d p plus) (refl, refl))
-  insn_back (x.Store ty p plus a) h e = plain_back (selected_insn (x.Store ty p plus a)) (straight_plain (x.Store ty p plus a) (refl, refl))
-  insn_back (x.Copy to from size align) h e = plain_back (selected_insn (x.Copy to from size align)) (straight_plain (x.Copy to from size align) (refl, refl))
-  insn_back (x.Unary op ty d a) h e = plain_back (selected_insn (x.Unary op ty d a)) refl
-  insn_back (x.Binary op ty d a c) h e = plain_back (selected_insn (x.Binary op ty d a c)) (straight_plain (x.Binary op ty d a c) (refl, refl))
-  insn_back (x.Shift op ty d a c) h e = plain_back (selected_insn (x.Shift op ty d a c)) (straight_plain (x.Shift op ty d a c) (refl, refl))
-  insn_back (x.Convert from to d a) h e = plain_back (selected_insn (x.Convert from to d a)) (straight_plain (x.Convert from to d a) (refl, refl))
-  insn_back (x.Compare op ty d a c) h e = plain_back (selected_insn (x.Compare op ty d a c)) (straight_plain (x.Compare op ty d a c) (refl, refl))
-  insn_back (x.Branch op ty a target) h e = one_back (i.Branch (temp_branch op) (temp_of a) target) (target_back target h e)
-  insn_back (x.Jump target) h e = one_back (i.Jump target) (target_back target h e)
-  insn_back (x.Call d c arguments) h e = plain_back (selected_insn (x.Call d c arguments)) (straight_plain (x.Call d c arguments) (refl, refl))
-  insn_back (x.Return None) h e = one_back (i.Return false) refl
-  insn_back (x.Return (Some value)) h e = All-cons Back (i.ToFixed fixed.Value (temp_of value.register)) (i.Return true ∷ []) refl (one_back (i.Return true) refl)
-  insn_back x.Mark h e = plain_back (selected_insn x.Mark) refl
-  insn_back x.Nop h e = All-nil Back
+  -- where targets are blocks, and a jump back goes to a mark
+  abbrev Before : VmInsn → Type 0
+  Before y = GoesToBlocks insns.targets_of (length blocks) y × IsTrue (vm.goes_back_to_marks blocks b y)
+
+  back_kept : IsKept Before Back
+  back_kept = record {
+    bare = λ z e. no_targets (targets_of z) (plain_is z (bare_parts z e).2).0;
+    address = λ d place plus q. refl;
+    branch = λ op ty a target q. target_back target q.0 q.1;
+    jump = λ target q. target_back target q.0 q.1;
+    argument = λ d k arguments q number t lt. refl;
+    call = λ d k arguments q. refl;
+    returns = λ value with_value q. refl;
+  }
 
   insns_back : (block : List VmInsn) → All (GoesToBlocks insns.targets_of (length blocks)) block → All (λ y. IsTrue (vm.goes_back_to_marks blocks b y)) block → All Back (selected_insns block)
-  insns_back [] h e = All-nil Back
-  insns_back (y ∷ block) h e =
-      All-append Back (selected_insn y) (selected_insns block)
-      (insn_back y (All-head (GoesToBlocks insns.targets_of (length blocks)) y block h) (All-head (λ y. IsTrue (vm.goes_back_to_marks blocks b y)) y block e))
-      (insns_back block (All-tail (GoesToBlocks insns.targets_of (length blocks)) y block h) (All-tail (λ y. IsTrue (vm.goes_back_to_marks blocks b y)) y block e))
+  insns_back block h e = insns_kept Before Back back_kept block (λ k d lt. (h k d lt, e k d lt))
 
 -- ---- all blocks
 

@@ -87,12 +87,17 @@ simple_bare (z ∷ xs) e =
     let p = and_parts (is_simple z) (are_simple xs) e in
     and_from (is_bare z) (are_bare xs) (and_parts (length (fixed_reads_of z) == 0) (is_bare z) p.0).1 (simple_bare xs p.1)
 
+pub bare_parts : (z : TempInsn) → is_bare z ≡ true → (is_placeless z ≡ true) × (is_nameless z ≡ true) × (is_plain z ≡ true)
+bare_parts z e =
+    let p = and_parts (is_placeless z) (is_nameless z && is_plain z) e in
+    let q = and_parts (is_nameless z) (is_plain z) p.1 in
+    (p.0, q.0, q.1)
+
 pub bare_plain : (xs : List TempInsn) → are_bare xs ≡ true → are_plain xs ≡ true
 bare_plain [] e = refl
 bare_plain (z ∷ xs) e =
     let p = and_parts (is_bare z) (are_bare xs) e in
-    let q = and_parts (is_placeless z) (is_nameless z && is_plain z) p.0 in
-    and_from (is_plain z) (are_plain xs) (and_parts (is_nameless z) (is_plain z) q.1).1 (bare_plain xs p.1)
+    and_from (is_plain z) (are_plain xs) (bare_parts z p.0).2 (bare_plain xs p.1)
 
 pub simple_plain : (xs : List TempInsn) → are_simple xs ≡ true → are_plain xs ≡ true
 simple_plain xs e = bare_plain xs (simple_bare xs e)

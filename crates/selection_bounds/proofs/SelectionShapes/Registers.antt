@@ -1,5 +1,5 @@
 -- The temporaries that the code of a function names.
-use Rattle.std.proofs.Common.{◌≡◌, ℕ, zero, suc, ◌+◌, ◌-◌, ◌<◌, ◌≤◌, List, [], ◌∷◌, ◌++◌, length, map, Bool, true, false, ℤ, pos, Option, Some, None, All, refl, sym, subst, arith}
+use Rattle.std.proofs.Common.{◌≡◌, ℕ, zero, suc, ◌+◌, ◌-◌, ◌<◌, ◌≤◌, List, [], ◌∷◌, ◌++◌, length, Bool, true, false, ℤ, pos, Option, Some, None, All, refl, sym, subst, arith}
 use Rattle.std.specs.Prelude.{◌==◌, nat_lt, if◌then◌else◌}
 use Rattle.std.specs.Int.{w16}
 use Rattle.std.proofs.lemmas.List.Elements.{All-nil, All-cons, All-head, All-tail, All-append}
@@ -41,6 +41,7 @@ use Rattle.selection_forms.specs.alpha_copies.Copies.{part_items, moved_items, c
 use Rattle.selection_code.specs.Instructions.{temp_of, pass_item, pass_items, take_item, take_items, result_items, byte_items, put_char_items, exit_call_items, call_items, return_items, selected_insn, argument_register}
 use Rattle.selection_code.specs.Functions.{selected_insns, parameter_items, selected_blocks}
 use Rattle.selection_bounds.specs.selection_shapes.Shapes.{RegistersAreUsed}
+use Rattle.selection_bounds.proofs.SelectionShapes.Walk.{all_insns, all_blocks}
 
 -- an instruction names temporaries below a number
 abbrev pub Uses : (n : ℕ) → TempInsn → Type 0
@@ -315,25 +316,14 @@ module _ (count : ℕ) where
   insn_use x.Nop h = use_nil (count + 4) some
 
   pub insns_use : (insns : List VmInsn) → All (UsesRegisters vm.reads_of vm.writes_of count) insns → AllUse (count + 4) (selected_insns insns)
-  insns_use [] h = use_nil (count + 4) some
-  insns_use (y ∷ insns) h =
-      use_both (count + 4) some (selected_insn y) (selected_insns insns) (insn_use y (All-head (UsesRegisters vm.reads_of vm.writes_of count) y insns h))
-      (insns_use insns (All-tail (UsesRegisters vm.reads_of vm.writes_of count) y insns h))
+  insns_use insns h = all_insns (UsesRegisters vm.reads_of vm.writes_of count) (AllUse (count + 4)) (use_nil (count + 4) some) (use_both (count + 4) some) insn_use insns h
 
 -- ---- a function
 
-others_use : (count : ℕ) (blocks : List (List VmInsn)) → AllInsns (UsesRegisters vm.reads_of vm.writes_of count) blocks → All (AllUse (count + 4)) (map selected_insns blocks)
-others_use count [] h = All-nil (AllUse (count + 4))
-others_use count (block ∷ blocks) h =
-    All-cons (AllUse (count + 4)) (selected_insns block) (map selected_insns blocks) (insns_use count block (All-head (All (UsesRegisters vm.reads_of vm.writes_of count)) block blocks h))
-    (others_use count blocks (All-tail (All (UsesRegisters vm.reads_of vm.writes_of count)) block blocks h))
-
 blocks_use : (count params : ℕ) (blocks : List (List VmInsn)) → params ≤ count → AllInsns (UsesRegisters vm.reads_of vm.writes_of count) blocks → All (AllUse (count + 4)) (selected_blocks params blocks)
-blocks_use count params [] le h = All-nil (AllUse (count + 4))
-blocks_use count params (block ∷ blocks) le h =
-    All-cons (AllUse (count + 4)) (parameter_items params ++ selected_insns block) (map selected_insns blocks)
-    (use_both (count + 4) (some count) (parameter_items params) (selected_insns block) (takes_use count 0 params (omega (arith, le))) (insns_use count block (All-head (All (UsesRegisters vm.reads_of vm.writes_of count)) block blocks h)))
-    (others_use count blocks (All-tail (All (UsesRegisters vm.reads_of vm.writes_of count)) block blocks h))
+blocks_use count params blocks le h =
+    all_blocks (All (UsesRegisters vm.reads_of vm.writes_of count)) (AllUse (count + 4)) (insns_use count) params
+    (λ insns g. use_both (count + 4) (some count) (parameter_items params) (selected_insns insns) (takes_use count 0 params (omega (arith, le))) (insns_use count insns g)) blocks h
 
 pub registers_used : RegistersAreUsed
 unfolding AllUse

@@ -4,7 +4,9 @@ use Rattle.std.specs.Prelude.{◌&&◌, ◌==◌, slice_get, slice_index_or, if�
 use Rattle.std.proofs.lemmas.Bool.{and_from, eqb-true, and_parts}
 use Rattle.std.proofs.lemmas.Option.{none-some, same_Some}
 use Rattle.std.proofs.lemmas.List.{append_assoc, length-map}
-use Rattle.std.proofs.lemmas.List.Elements.{All-nil, All-cons, All-head, All-tail, All-append}
+use Rattle.std.proofs.lemmas.List.Elements.{All-nil, All-cons, All-head, All-tail}
+use Rattle.suifvm_ir.specs.declared.insn.VmCallee.TheVariants as callee
+use Rattle.suifvm_ir.specs.declared.insn.TypedRegister.{TypedRegister}
 use Rattle.suifvm_ir.specs.declared.insn.VmInsn.{VmInsn}
 use Rattle.suifvm_ir.specs.declared.insn.VmInsn.TheVariants as x
 use Rattle.suifvm_ir.specs.Insns as vm
@@ -12,10 +14,11 @@ use Rattle.pass_core.specs.Functions.{last_of, front_of, AllInsns, GoesToBlocks,
 use Rattle.temp_ir.specs.declared.insn.TempInsn.{TempInsn}
 use Rattle.temp_ir.specs.declared.insn.TempInsn.TheVariants as i
 use Rattle.temp_ir.specs.Insns.{targets_of, flows_on_of}
-use Rattle.selection_code.specs.Instructions.{temp_of, selected_insn}
+use Rattle.selection_code.specs.Instructions.{call_items, return_items, selected_insn}
 use Rattle.selection_code.specs.Functions.{selected_insns, parameter_items, selected_blocks}
 use Rattle.selection_bounds.specs.selection_shapes.Shapes.{BlocksAreShaped}
-use Rattle.selection_bounds.proofs.SelectionShapes.Plain.{is_plain, are_plain, bare_plain, simple_plain, constant_simple, load_simple, store_simple, parts_simple, binary_bare, shift_simple, compare_simple, convert_simple, call_plain, takes_plain}
+use Rattle.selection_bounds.proofs.SelectionShapes.Plain.{is_plain, are_plain, bare_parts, bare_plain, call_plain, takes_plain}
+use Rattle.selection_bounds.proofs.SelectionShapes.Walk.{CodeForm, HasBareCode, LoadsAddress, Branches, Jumps, Calls, Returns, code_form, IsKept, all_blocks, blocks_kept}
 
 -- ---- lists
 
@@ -36,23 +39,16 @@ last_push (x ∷ y ∷ xs) z = last_more x y (xs ++ z ∷ []) ∙ last_push (y �
 
 -- ---- one instruction
 
+form_plain : (y : VmInsn) → CodeForm y → IsStraight vm.targets_of vm.flows_on_of y → are_plain (selected_insn y) ≡ true
+form_plain y (HasBareCode z bare) s = bare_plain (selected_insn y) bare
+form_plain y (LoadsAddress d place plus) s = refl
+form_plain y (Branches op ty a block) s = absurd (omega (arith, s.0))
+form_plain y (Jumps block) s = absurd (omega (arith, s.0))
+form_plain y (Calls d k arguments) s = call_plain d (callee.Function k) arguments
+form_plain y (Returns value) s = let clash : false ≡ true = s.1 in let never : ⊥ = cc in absurd never
+
 pub straight_plain : (y : VmInsn) → IsStraight vm.targets_of vm.flows_on_of y → are_plain (selected_insn y) ≡ true
-straight_plain (x.LoadConstant ty d word) s = simple_plain (selected_insn (x.LoadConstant ty d word)) (constant_simple (temp_of d) word)
-straight_plain (x.LoadAddress d place plus) s = refl
-straight_plain (x.Load ty d p plus) s = simple_plain (selected_insn (x.Load ty d p plus)) (load_simple ty (temp_of d) (temp_of p) plus)
-straight_plain (x.Store ty p plus a) s = simple_plain (selected_insn (x.Store ty p plus a)) (store_simple ty (temp_of p) plus (temp_of a))
-straight_plain (x.Copy to from size align) s = simple_plain (selected_insn (x.Copy to from size align)) (parts_simple align _ (temp_of to) (temp_of from) 0)
-straight_plain (x.Unary op ty d a) s = refl
-straight_plain (x.Binary op ty d a b) s = bare_plain (selected_insn (x.Binary op ty d a b)) (binary_bare op ty (temp_of d) (temp_of a) (temp_of b))
-straight_plain (x.Shift op ty d a b) s = simple_plain (selected_insn (x.Shift op ty d a b)) (shift_simple op ty (temp_of d) (temp_of a) (temp_of b))
-straight_plain (x.Convert from to d a) s = simple_plain (selected_insn (x.Convert from to d a)) (convert_simple from to (temp_of d) (temp_of a))
-straight_plain (x.Compare op ty d a b) s = simple_plain (selected_insn (x.Compare op ty d a b)) (compare_simple op ty (temp_of d) (temp_of a) (temp_of b))
-straight_plain (x.Branch op ty a block) s = absurd (omega (arith, s.0))
-straight_plain (x.Jump block) s = absurd (omega (arith, s.0))
-straight_plain (x.Call d c arguments) s = call_plain d c arguments
-straight_plain (x.Return value) s = let clash : false ≡ true = s.1 in let never : ⊥ = cc in absurd never
-straight_plain x.Mark s = refl
-straight_plain x.Nop s = refl
+straight_plain y s = form_plain y (code_form y) s
 
 pub plain_is : (z : TempInsn) → is_plain z ≡ true → IsStraight targets_of flows_on_of z
 plain_is z e = let h = and_parts (length (targets_of z) == 0) (flows_on_of z) e in (eqb-true (length (targets_of z)) 0 h.0, h.1)
@@ -86,28 +82,22 @@ ends_late (z ∷ y ∷ zs) e =
     subst (All (IsStraight targets_of flows_on_of)) (sym (front_more z y zs))
     (All-cons (IsStraight targets_of flows_on_of) z (front_of (y ∷ zs)) (plain_is z p.0) (ends_late (y ∷ zs) p.1))
 
-by_straight : (y : VmInsn) → IsStraight vm.targets_of vm.flows_on_of y → late (selected_insn y) ≡ true
-by_straight y s = plain_late (selected_insn y) (straight_plain y s)
+return_late : (value : Option TypedRegister) → late (return_items value) ≡ true
+unfolding late
+return_late None = refl
+return_late (Some value) = refl
+
+form_late : (y : VmInsn) → CodeForm y → late (selected_insn y) ≡ true
+unfolding late
+form_late y (HasBareCode z bare) = plain_late (selected_insn y) (bare_plain (selected_insn y) bare)
+form_late y (LoadsAddress d place plus) = refl
+form_late y (Branches op ty a block) = refl
+form_late y (Jumps block) = refl
+form_late y (Calls d k arguments) = plain_late (call_items d (callee.Function k) arguments) (call_plain d (callee.Function k) arguments)
+form_late y (Returns value) = return_late value
 
 insn_late : (y : VmInsn) → late (selected_insn y) ≡ true
-unfolding late
-insn_late (x.LoadConstant ty d word) = by_straight (x.LoadConstant ty d word) (refl, refl)
-insn_late (x.LoadAddress d place plus) = refl
-insn_late (x.Load ty d p plus) = by_straight (x.Load ty d p plus) (refl, refl)
-insn_late (x.Store ty p plus a) = by_straight (x.Store ty p plus a) (refl, refl)
-insn_late (x.Copy to from size align) = by_straight (x.Copy to from size align) (refl, refl)
-insn_late (x.Unary op ty d a) = refl
-insn_late (x.Binary op ty d a b) = by_straight (x.Binary op ty d a b) (refl, refl)
-insn_late (x.Shift op ty d a b) = by_straight (x.Shift op ty d a b) (refl, refl)
-insn_late (x.Convert from to d a) = by_straight (x.Convert from to d a) (refl, refl)
-insn_late (x.Compare op ty d a b) = by_straight (x.Compare op ty d a b) (refl, refl)
-insn_late (x.Branch op ty a block) = refl
-insn_late (x.Jump block) = refl
-insn_late (x.Call d c arguments) = by_straight (x.Call d c arguments) (refl, refl)
-insn_late (x.Return None) = refl
-insn_late (x.Return (Some value)) = refl
-insn_late x.Mark = refl
-insn_late x.Nop = refl
+insn_late y = form_late y (code_form y)
 
 block_late : (insns : List VmInsn) → EndsLate vm.targets_of vm.flows_on_of insns → late (selected_insns insns) ≡ true
 unfolding late
@@ -125,56 +115,19 @@ module _ (n : ℕ) where
   no_targets [] e = All-nil (λ target. (0 < target) × (target < n))
   no_targets (t ∷ ts) e = absurd (omega (arith, e))
 
-  plain_goes : (xs : List TempInsn) → are_plain xs ≡ true → All (GoesToBlocks targets_of n) xs
-  plain_goes [] e = All-nil (GoesToBlocks targets_of n)
-  plain_goes (z ∷ xs) e =
-      let p = and_parts (is_plain z) (are_plain xs) e in
-      All-cons (GoesToBlocks targets_of n) z xs (no_targets (targets_of z) (plain_is z p.0).0) (plain_goes xs p.1)
+  goes_kept : IsKept (GoesToBlocks vm.targets_of n) (GoesToBlocks targets_of n)
+  goes_kept = record {
+    bare = λ z e. no_targets (targets_of z) (plain_is z (bare_parts z e).2).0;
+    address = λ d place plus q. no_targets [] refl;
+    branch = λ op ty a block q. q;
+    jump = λ block q. q;
+    argument = λ d k arguments q number t lt. no_targets [] refl;
+    call = λ d k arguments q. no_targets [] refl;
+    returns = λ value with_value q. no_targets [] refl;
+  }
 
-  one_goes : (z : TempInsn) → GoesToBlocks targets_of n z → All (GoesToBlocks targets_of n) (z ∷ [])
-  one_goes z h = All-cons (GoesToBlocks targets_of n) z [] h (All-nil (GoesToBlocks targets_of n))
-
-  straight_goes : (y : VmInsn) → IsStraight vm.targets_of vm.flows_on_of y → All (GoesToBlocks targets_of n) (selected_insn y)
-  straight_goes y s = plain_goes (selected_insn y) (straight_plain y s)
-
-  insn_goes : (y : VmInsn) → GoesToBlocks vm.targets_of n y → All (GoesToBlocks targets_of n) (selected_insn y)
-  insn_goes (x.LoadConstant ty d word) h = straight_goes (x.LoadConstant ty d word) (refl, refl)
-  insn_goes (x.LoadAddress d place plus) h = straight_goes (x.LoadAddress d place plus) (refl, refl)
-  insn_goes (x.Load ty d p plus) h = straight_goes (x.Load ty d p plus) (refl, refl)
-  insn_goes (x.Store ty p plus a) h = straight_goes (x.Store ty p plus a) (refl, refl)
-  insn_goes (x.Copy to from size align) h = straight_goes (x.Copy to from size align) (refl, refl)
-  insn_goes (x.Unary op ty d a) h = straight_goes (x.Unary op ty d a) (refl, refl)
-  insn_goes (x.Binary op ty d a b) h = straight_goes (x.Binary op ty d a b) (refl, refl)
-  insn_goes (x.Shift op ty d a b) h = straight_goes (x.Shift op ty d a b) (refl, refl)
-  insn_goes (x.Convert from to d a) h = straight_goes (x.Convert from to d a) (refl, refl)
-  insn_goes (x.Compare op ty d a b) h = straight_goes (x.Compare op ty d a b) (refl, refl)
-  insn_goes (x.Branch op ty a block) h = one_goes _ h
-  insn_goes (x.Jump block) h = one_goes _ h
-  insn_goes (x.Call d c arguments) h = straight_goes (x.Call d c arguments) (refl, refl)
-  insn_goes (x.Return None) h = one_goes (i.Return false) (no_targets [] refl)
-  insn_goes (x.Return (Some value)) h = All-cons (GoesToBlocks targets_of n) _ (i.Return true ∷ []) (no_targets [] refl) (one_goes (i.Return true) (no_targets [] refl))
-  insn_goes x.Mark h = straight_goes x.Mark (refl, refl)
-  insn_goes x.Nop h = straight_goes x.Nop (refl, refl)
-
-  insns_go : (insns : List VmInsn) → All (GoesToBlocks vm.targets_of n) insns → All (GoesToBlocks targets_of n) (selected_insns insns)
-  insns_go [] h = All-nil (GoesToBlocks targets_of n)
-  insns_go (y ∷ insns) h =
-      All-append (GoesToBlocks targets_of n) (selected_insn y) (selected_insns insns) (insn_goes y (All-head (GoesToBlocks vm.targets_of n) y insns h))
-      (insns_go insns (All-tail (GoesToBlocks vm.targets_of n) y insns h))
-
--- ---- all blocks
-
--- what the code of each block has, and keeps behind plain code, the blocks of the function have
-all_blocks : (P : List TempInsn → Type 0) (Q : List VmInsn → Type 0) → ((insns : List VmInsn) → Q insns → P (selected_insns insns)) → ((xs ys : List TempInsn) → are_plain xs ≡ true → P ys → P (xs ++ ys)) →
-    (params : ℕ) (blocks : List (List VmInsn)) → All Q blocks → All P (selected_blocks params blocks)
-all_blocks P Q code behind params [] h = All-nil P
-all_blocks P Q code behind params (block ∷ blocks) h =
-    All-cons P (parameter_items params ++ selected_insns block) (map selected_insns blocks) (behind (parameter_items params) (selected_insns block) (takes_plain 0 params) (code block (All-head Q block blocks h)))
-    (others blocks (All-tail Q block blocks h))
-  where
-    others : (bs : List (List VmInsn)) → All Q bs → All P (map selected_insns bs)
-    others [] g = All-nil P
-    others (b ∷ bs) g = All-cons P (selected_insns b) (map selected_insns bs) (code b (All-head Q b bs g)) (others bs (All-tail Q b bs g))
+  function_goes : (params : ℕ) (blocks : List (List VmInsn)) → AllInsns (GoesToBlocks vm.targets_of n) blocks → AllInsns (GoesToBlocks targets_of n) (selected_blocks params blocks)
+  function_goes params blocks h = blocks_kept (GoesToBlocks vm.targets_of n) (GoesToBlocks targets_of n) goes_kept params (λ number t lt. no_targets [] refl) blocks h
 
 -- ---- the end
 
@@ -242,9 +195,9 @@ pub blocks_shaped : BlocksAreShaped
 blocks_shaped f =
     let n = length f.blocks in
     record {
-      targets = subst (λ k. AllInsns (GoesToBlocks targets_of k) (selected_blocks f.params f.blocks)) (sym (length-function f.params f.blocks))
-          (all_blocks (All (GoesToBlocks targets_of n)) (All (GoesToBlocks vm.targets_of n)) (insns_go n) (λ xs ys p h. All-append (GoesToBlocks targets_of n) xs ys (plain_goes n xs p) h) f.params f.blocks f.targets);
+      targets = subst (λ k. AllInsns (GoesToBlocks targets_of k) (selected_blocks f.params f.blocks)) (sym (length-function f.params f.blocks)) (function_goes n f.params f.blocks f.targets);
       straight = λ k d lt. ends_late (slice_index_or (selected_blocks f.params f.blocks) k d)
-          (all_blocks (λ zs. late zs ≡ true) (EndsLate vm.targets_of vm.flows_on_of) block_late late_behind f.params f.blocks f.straight k d lt);
+          (all_blocks (EndsLate vm.targets_of vm.flows_on_of) (λ zs. late zs ≡ true) block_late f.params
+          (λ insns h. late_behind (parameter_items f.params) (selected_insns insns) (takes_plain 0 f.params) (block_late insns h)) f.blocks f.straight k d lt);
       stops = function_ends f.params f.blocks f.stops;
     }

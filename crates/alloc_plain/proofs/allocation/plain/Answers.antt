@@ -1,4 +1,7 @@
-use Rattle.std.proofs.Common.{sym, ◌∙◌, subst}
+use Rattle.std.proofs.Common.{◌≡◌, List, [], sym, ap, ◌∙◌, subst}
+use Rattle.std.specs.Prelude.{All}
+use Rattle.temp_ir.specs.Programs.{TempFn}
+use Rattle.alloc_model.specs.declared.allocation.TempPlace.{TempPlace}
 use Rattle.alloc_model.specs.Temporaries.{code_of}
 use Rattle.alloc_model.specs.Faithful.{Faithful}
 use Rattle.alloc_rules.specs.Lean.{IsLean}
@@ -6,13 +9,26 @@ use Rattle.alloc_rules.specs.Journal.{IsJournal}
 use Rattle.alloc_plain_lists.specs.Plain.{plain_plan}
 use Rattle.alloc_plain.proofs.allocation.plain.Goals as goal
 
-pub returns-clause-faithful : goal.returns-clause-faithful
-returns-clause-faithful c = subst Faithful (sym c.with_journal.ensures.plan) c.in_ok-lists.ensures.faithful
-
-pub returns-clause-lean : goal.returns-clause-lean
-returns-clause-lean c = subst IsLean (sym c.with_journal.ensures.plan) c.in_ok-lists.ensures.lean
-
-pub returns-clause-journal : goal.returns-clause-journal
-returns-clause-journal c =
-    subst (λ p. IsJournal p c.with_journal.result.journal) (sym (c.with_journal.ensures.plan ∙ c.in_ok-lists.ensures.plan))
-    (subst (IsJournal (plain_plan (code_of c.args.f.now) c.args.f.now.params c.args.f.now.temps)) (sym c.with_journal.ensures.journal) c.in_ok-journal.ensures)
+pub returns : goal.returns
+returns c =
+    let f = c.args.f.now in
+    let lists = c.in_ok-lists.ensures in
+    let kept = c.with_journal.ensures in
+    let plan = kept.plan ∙ lists.plan in
+    record {
+      plain = record {
+        allocation = record {
+          name = ap (λ (g : TempFn). g.name) kept.func ∙ lists.name;
+          params = ap (λ (g : TempFn). g.params) kept.func ∙ lists.params;
+          temps = ap (λ (g : TempFn). g.temps) kept.func ∙ lists.temps;
+          objects = ap (λ (g : TempFn). g.objects) kept.func ∙ lists.objects;
+          blocks = ap (λ (g : TempFn). g.blocks) kept.func ∙ lists.blocks;
+          faithful = subst Faithful (sym kept.plan) lists.faithful;
+          lean = subst IsLean (sym kept.plan) lists.lean;
+          journal = subst (λ p. IsJournal p c.with_journal.result.journal) (sym plan)
+              (subst (IsJournal (plain_plan (code_of f) f.params f.temps)) (sym kept.journal) c.in_ok-journal.ensures);
+        };
+        plan = plan;
+      };
+      slots = subst (All (λ (named : List TempPlace). named ≡ [])) (sym kept.top) lists.slots;
+    }

@@ -1,5 +1,6 @@
 use Rattle.std.proofs.Common.{refl}
 use Rattle.binpack_scan.proofs.Faithfulness.{scan_maps, same_maps, same_codes, faithful_of, lean_of}
+use Rattle.binpack_scan.proofs.Journaled.{rows_given, registers_given, journal_for}
 use Rattle.binpack_scan.proofs.allocation.binpack.Goals as goal
 
 pub all_edges-requires-clause-bottoms : goal.all_edges-requires-clause-bottoms
@@ -30,3 +31,17 @@ returns-clause-lean c =
     c.in_ok-maps.ensures.1 _ (record { blocks = c.in_ok-func.ensures.blocks; params = c.in_ok-func.ensures.params; temps = c.in_ok-func.ensures.temps; top = refl; bottom = refl; at = refl; regs = refl }) c.in_ok-edges.ensures.ends
     (same_codes c.as_slice.result.now c.in_ok-maps.field-0.maps.bottom c.as_slice-2.result.now c.in_ok-maps.field-0.maps.top c.as_slice-3.result.now c.in_ok-live.live.top c.as_slice-4.result.now c.in_ok-live.live.top _
     c.as_slice.ensures c.as_slice-2.ensures c.as_slice-3.ensures c.as_slice-4.ensures c.in_ok-edges.ensures.codes)
+
+pub journal_of-requires-clause-transfers : goal.journal_of-requires-clause-transfers
+journal_of-requires-clause-transfers c =
+    rows_given c.args.f.now c.in_ok-lives.lives c.in_ok-live.live.top c.in_ok-maps.field-0.maps c.in_ok-maps.field-0.lists c.in_ok-maps.ensures.0 c.as_slice-5.result.now c.as_slice-5.ensures c.in_ok-maps.ensures.1
+
+pub journal_of-requires-clause-registers : goal.journal_of-requires-clause-registers
+journal_of-requires-clause-registers c =
+    registers_given c.args.f.now c.in_ok-lives.lives c.in_ok-live.live.top c.in_ok-maps.field-0.maps c.in_ok-maps.field-0.lists c.in_ok-maps.ensures.0 c.as_slice-6.result.now c.as_slice-6.ensures c.in_ok-maps.ensures.1
+
+pub returns-clause-journal : goal.returns-clause-journal
+returns-clause-journal c =
+    journal_for c.args.f.now c.in_ok-lives.lives c.in_ok-live.live.top c.in_ok-live.live.bottom c.in_ok-maps.field-0.maps c.in_ok-maps.field-0.lists c.in_ok-maps.ensures.0 c.in_ok-lives.ensures c.in_ok-live.ensures
+    c.in_ok-maps.ensures.1 _ (record { blocks = c.in_ok-func.ensures.blocks; params = c.in_ok-func.ensures.params; temps = c.in_ok-func.ensures.temps; top = refl; bottom = refl; at = refl; regs = refl })
+    c.in_ok-journal.journal c.as_slice-5.result.now c.as_slice-6.result.now c.as_slice-5.ensures c.as_slice-6.ensures c.in_ok-journal.ensures

@@ -14,7 +14,7 @@ invariant_of-result c =
     let none : (r : ℕ) → held_in c.resize.new.self.items r ≡ None = λ r. ap (λ z. held_in z r) items ∙ held_none 26 r in
     record {
       many = ap (λ z. length z) items ∙ replicate_length {A = Option Held} 26 None;
-      bound = ap (λ z. length z) c.in_ok-relied.ensures ∙ replicate_length c.args.temps false;
-      inside = nothing_inside c.args.temps c.resize.new.self.items none;
+      bound = ap (λ z. length z) c.in_ok-relied.ensures ∙ replicate_length c.args.f.now.temps false;
+      inside = nothing_inside c.args.f.now.temps c.resize.new.self.items none;
       once = nothing_once c.resize.new.self.items none;
     }

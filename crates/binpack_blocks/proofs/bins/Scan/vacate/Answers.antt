@@ -3,9 +3,12 @@ use Rattle.std.specs.Prelude.{slice_set, Some, None}
 use Rattle.binpack_blocks.specs.model.Bins.{held_in, lives, must_store}
 use Rattle.binpack_blocks.specs.model.Rows.{is_wanted}
 use Rattle.binpack_blocks.specs.model.Scanning.{local_site}
-use Rattle.binpack_blocks.proofs.Holders.{set_same, set_other}
+use Rattle.binpack_blocks.proofs.Holders.{inside_held, set_same, set_other}
 use Rattle.binpack_blocks.proofs.Bringing.{open_may, open_unfixed, takes_fixes}
 use Rattle.binpack_blocks.proofs.bins.Scan.vacate.Goals as goal
+
+pub refuge-requires-clause-low : goal.refuge-requires-clause-low
+refuge-requires-clause-low c = inside_held c.args.self.now.temps c.args.self.now.bins.items c.args.r c.args.held c.args.self.now.inside (sym c.requires.there)
 
 pub shift-requires-clause-apart : goal.shift-requires-clause-apart
 shift-requires-clause-apart c e = open_unfixed c.args.insn.now c.args.standing.now c.in-Some.to c.args.r c.in-Some.ensures.open (takes_fixes c.args.insn.now c.args.r c.requires.takes) (sym e)

@@ -1,0 +1,4 @@
+pub mod Holders
+pub mod Tables
+pub mod Leaving
+pub mod Visits

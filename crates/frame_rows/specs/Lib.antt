@@ -1,0 +1,1 @@
+pub mod callee_saved_rows
